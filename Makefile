@@ -7,7 +7,7 @@ MESH_PROGRAM = crates/mesh_main/out/mesh_main
 PYTHON = $(shell sh dev/python)
 MACHINE = $(shell uname -s | tr A-Z a-z)-$(shell uname -m)
 
-.PHONY: run recon recon-mesh python test attack fuzz try reference bench bench-short bench-others install dist clean
+.PHONY: run recon recon-mesh python test attack fuzz try reference docs bench bench-short bench-others install dist clean
 REFERENCE = dev/reference/target/release/recon-reference
 # (looked up when it is used, after it has been built)
 BESIDE ?= $(wildcard $(REFERENCE))
@@ -66,8 +66,14 @@ try:
 	@$(MAKE) --no-print-directory reference
 	$(PYTHON) dev/try.py $(REFERENCE)
 
+# Builds the documents as a site in site/, where there is mkdocs (a few seconds).
+docs:
+	@command -v mkdocs >/dev/null || { echo "make docs needs mkdocs (Debian: apt-get install mkdocs)"; exit 1; }
+	mkdocs build --quiet
+	@echo "site/index.html"
+
 # Times calls of linked cells and walks along sights at 100,000 points, then build and check on scans of 10,000 to 1,000,000 points, run by run
-# with the unverified reference program where there is cargo, or with BESIDE=PROGRAM, and prints a table like those of docs/performance.md (some
+# with the unverified reference program where there is cargo, or with BESIDE=PROGRAM, and prints a table like those of docs/explain/performance.md (some
 # tens of minutes; the scans are made the first time). Then what users would use instead.
 bench: recon reference
 	@echo "times of calls of linked cells and of walks along sights, 100,000 points"
@@ -81,18 +87,18 @@ bench: recon reference
 bench-others: recon
 	$(PYTHON) dev/others.py ./recon bench_scans
 
-# Times build alone on the three worst shapes and on a cube, a room and a torus of a million points, a run each (some minutes; BESIDE as
-# above), and prints the table of docs/performance.md that has these.
+# Times build alone on the three worst shapes and on a cube, a room and a torus of a million points, three runs each (ten minutes; BESIDE as
+# above), and prints the table of docs/explain/performance.md that has these.
 bench-short: recon reference
-	$(PYTHON) dev/bench.py ./recon bench_scans scans=short check=no runs=1 $(if $(BESIDE),beside=$(BESIDE))
+	$(PYTHON) dev/bench.py ./recon bench_scans scans=short check=no $(if $(BESIDE),beside=$(BESIDE))
 
 # Installs the two programs, their manual pages and the programs of tools/ under PREFIX (a second, where they are built; else they
 # are built first). recon-scan and the others run the package in share/recon by any Python 3.8 or later that has numpy and scipy.
 install: recon recon-mesh
 	install -D -m 755 recon $(DESTDIR)$(PREFIX)/bin/recon
 	install -D -m 755 recon-mesh $(DESTDIR)$(PREFIX)/bin/recon-mesh
-	install -D -m 644 docs/recon.1 $(DESTDIR)$(PREFIX)/share/man/man1/recon.1
-	install -D -m 644 docs/recon-mesh.1 $(DESTDIR)$(PREFIX)/share/man/man1/recon-mesh.1
+	install -D -m 644 docs/reference/recon.1 $(DESTDIR)$(PREFIX)/share/man/man1/recon.1
+	install -D -m 644 docs/reference/recon-mesh.1 $(DESTDIR)$(PREFIX)/share/man/man1/recon-mesh.1
 	install -D -m 755 dev/python $(DESTDIR)$(PREFIX)/share/recon/python
 	sh dev/install_package $(DESTDIR)$(PREFIX)
 
@@ -101,12 +107,12 @@ install: recon recon-mesh
 dist: recon recon-mesh
 	rm -rf recon-$(MACHINE)
 	$(MAKE) install DESTDIR=$(CURDIR)/ PREFIX=recon-$(MACHINE)
-	cp README.md docs/using.md recon-$(MACHINE)
+	cp -r README.md docs examples recon-$(MACHINE)
 	tar -czf recon-$(MACHINE).tar.gz --owner=0 --group=0 --sort=name recon-$(MACHINE)
 	rm -rf recon-$(MACHINE)
 	@echo "recon-$(MACHINE).tar.gz"
 
 # Removes what was built and what the proofs kept (a second; the next run proves from nothing). The scans of bench stay.
 clean:
-	rm -rf crates/*/out recon recon-mesh recon-*.tar.gz tetrahedron_mesh.ply tetrahedron_finished.ply tetrahedron.cert run.log run_mesh.log \
-	  try_scan.ply try_mesh.ply try.cert test.log attack.log dev/reference/target
+	rm -rf crates/*/out recon recon-mesh recon-*.tar.gz site tetrahedron_mesh.ply tetrahedron_finished.ply tetrahedron.cert run.log run_mesh.log \
+	  try_mesh.ply try.cert test.log attack.log dev/reference/target

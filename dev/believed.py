@@ -1,20 +1,20 @@
 #!/usr/bin/env python3
-"""Prints the definitions that a contract or a definition rests on, and how many lines they have.
+"""Prints the definitions on which a contract or a definition depends, and the number of their lines.
 
 usage: dev/believed.py [CRATE FILE CALL]        (a call, as recon_cmd src/whole_run.rt run)
        dev/believed.py [CRATE MODULE NAME..]    (definitions of a file, as recon_cmd CheckLaws CheckEnds)
-       dev/believed.py write                    (puts what it prints by default into docs/promises.md)
+       dev/believed.py write                    (puts its default output into docs/verification/guarantees.md)
        dev/believed.py audit                    (compares docs/verification/audit.md with its source, as the gate does)
        dev/believed.py audit write              (writes that page)
 
-By default: what a yes of `recon check` on the text of a scan says of the mesh, what it says on any file, what each answer says of
-all three files, and then all of the contract of the top call. A contract rests on the definitions of specs/ that its clauses name,
+By default: what a yes of `recon check` for the text of a scan says about the mesh, what it says for any file, what each answer says about
+all three files, and then the whole contract of the top call. A contract depends on the definitions of specs/ that its clauses name,
 these on those that they name, and so on. Comments, imports and blank lines are not counted. Definitions of the toolchain are left
 out, and so are types that the code declares.
 
 The page for auditors prints the first of these sets. Its source, docs/verification/audit.in.md, has a table row for each definition and
 for each type or constant of the code that one of them uses: crate, file, name, and a sentence. The page has the definition with its comment
-under the sentence. The source fails where a row is missing or superfluous, where a definition comes before one that it uses, and where a
+under the sentence. The source is invalid if a row is missing or superfluous, if a definition comes before one that it uses, or if a
 definition uses a name of the toolchain that the text does not explain in backticks.
 """
 from __future__ import annotations
@@ -29,7 +29,7 @@ from definitions import rows_of
 from report import begun, reported
 
 CRATES = pathlib.Path(__file__).resolve().parent.parent / 'crates'
-PROMISES = CRATES.parent / 'docs' / 'promises.md'
+PROMISES = CRATES.parent / 'docs' / 'verification' / 'guarantees.md'
 AUDIT = CRATES.parent / 'docs' / 'verification' / 'audit.md'
 PRINTED = '<!-- Printed by dev/believed.py from audit.in.md and specs/: change those, and run dev/believed.py audit write. -->'
 BY_DEFAULT = [
@@ -238,7 +238,7 @@ def told(crate: str, place: str, *names: str) -> str:
 
 
 def put(line: Any) -> None:
-    """Puts a line into docs/promises.md, in the place of the one that begins with the same name."""
+    """Puts a line into docs/verification/guarantees.md, in the place of the one that begins with the same name."""
     name = line.split(':')[0]
     text = PROMISES.read_text()
     PROMISES.write_text(re.sub(rf'(?m)^( *){re.escape(name)}: .*$', lambda old: old[1] + line, text))

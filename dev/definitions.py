@@ -1,15 +1,16 @@
 #!/usr/bin/env python3
-"""Fails where docs/definitions.md is not what its source and the heads of specs/ come to, or where its source names what is not there.
+"""Fails if docs/verification/definitions.md differs from what its source and the heads of specs/ give, or if its source names something that
+does not exist.
 
 usage: dev/definitions.py           (compares, as the gate does)
        dev/definitions.py write     (writes the page)
 
-The source is docs/definitions.in.md: text, and tables of words by theme. Each word of a table has to be defined in a crate that the
-heading over it names, or that its own cell names. The files are printed into each row. Where a second cell is empty, it becomes what the
-heads of these files say of the words, or the line over a definition that a head does not name, and words that stand there alone get the
-arguments that they have in the heads. {shared} becomes the words that more than one crate defines, and {others} what is said of the
-words that no table has, by crate. What stands in marks above {shared} has to be such a word, a crate or a file; each such word has to stand
-there, and there may be no more of them than the text there says. Of each definition a head or a line over it has to say something.
+The source is docs/verification/definitions.in.md: text, and tables of names by theme. Each name of a table has to be defined in a crate that the
+heading over it names, or that its own cell names. The files are printed into each row. If a second cell is empty, it becomes the descriptions
+of the names in the heads of these files, or the line over a definition that a head does not name, and names without arguments get the
+arguments that they have in the heads. {shared} becomes the names that more than one crate defines, and {others} the meaning of the
+names that no table has, by crate. A name in backticks above {shared} has to be such a name, a crate or a file; each such name has to occur
+there, and their number may not exceed the number that the text there states. Each definition needs a description in a head or in a line over it.
 """
 from __future__ import annotations
 
@@ -81,7 +82,7 @@ def rows_of(head: list[str], defined: dict[str, str]) -> list[Row]:
 
 
 def file_of(crate: str, name: str, text: str) -> File:
-    """Returns what a file of specs/ defines and says: the rows of its head, and then the other words, each with the comment over it."""
+    """Returns what a file of specs/ defines and says: the rows of its head, and then the other names, each with the comment over it."""
     lines = text.splitlines()
     size = next((at for at, line in enumerate(lines) if not line.startswith('--')), len(lines))
     over = over_definitions(lines[size:])
@@ -119,7 +120,7 @@ class Words:
                      for crate in self.crates for path in sorted((top / 'crates' / crate / 'src').rglob('*.rt'))]
 
     def shared(self) -> dict[str, list[str]]:
-        """Returns the words that more than one crate defines, each with its crates."""
+        """Returns the names that more than one crate defines, each with its crates."""
         by_name: dict[str, dict[str, None]] = {}
         for file in self.files:
             for name in file.names:
@@ -127,7 +128,7 @@ class Words:
         return {name: list(crates) for name, crates in sorted(by_name.items()) if len(crates) > 1}
 
     def bare(self) -> list[str]:
-        """Returns the words that neither a head nor a line over them says anything of, each behind its crate and its file."""
+        """Returns the names that neither a head nor a line over them describes, each after its crate and its file."""
         return [f'{file.crate} {file.name} {name}' for file in self.files for row in file.rows if not row.said for name in row.names()]
 
     def files_in(self, text: str) -> list[File]:
@@ -199,7 +200,7 @@ class Page:
         return [line]
 
     def others(self, crate: str) -> list[str]:
-        """Returns a table of the words of a crate that no other table has, with what is said of them."""
+        """Returns a table of the names of a crate that no other table has, with their meaning."""
         rows = [row_with([', '.join(f'`{word}`' for word in row.words), row.said, f'`{file.name}`'])
                 for file in self.words.files if file.crate == crate
                 for row in file.rows if row.said and any((crate, file.name, name) not in self.tabled for name in row.names())]
@@ -212,12 +213,12 @@ class Page:
 
 def main(words: list[str]) -> int:
     known = Words(TOP)
-    page = Page(known, (TOP / 'docs/definitions.in.md').read_text())
-    path = TOP / 'docs/definitions.md'
+    page = Page(known, (TOP / 'docs/verification/definitions.in.md').read_text())
+    path = TOP / 'docs/verification/definitions.md'
     if words == ['write']:
         path.write_text(page.text())
     there, printed = path.read_text().splitlines(), page.text().splitlines()
-    differ = difflib.unified_diff(there, printed, 'docs/definitions.md', 'what `dev/definitions.py write` prints', lineterm='', n=0)
+    differ = difflib.unified_diff(there, printed, 'docs/verification/definitions.md', 'what `dev/definitions.py write` prints', lineterm='', n=0)
     faults = page.faults + [f'nothing is said of {word}' for word in known.bare()] + [line for line in differ if not line.startswith('@@')]
     count = sum(len(file.names) for file in known.files)
     return reported('definitions', faults, f'{count} in {len(known.files)} files, {len(page.tabled)} in tables by theme, '

@@ -1,11 +1,11 @@
 #!/usr/bin/env python3
-"""Fails where a chain of crates is longer than docs/layers.md allows, or where that page has other levels, or other crates below one.
+"""Fails if a chain of crates is longer than docs/dev/architecture.md allows, or if that page has other levels, or other crates below one.
 
 usage: dev/levels.py            (compares, as the gate does)
        dev/levels.py write      (writes the second column of the page's table)
 
-The level of a crate is that of crates.txt. It stands on those crates that its files name outside of comments and tests, and named are those
-of them on which no other of them stands. A crate of tests alone stands on all that it uses.
+The level of a crate is that of crates.txt. It depends on those crates that its files name outside of comments and tests; the table names those
+of them on which no other of them depends. A crate that has only tests depends on all that it uses.
 """
 from __future__ import annotations
 
@@ -48,7 +48,7 @@ def named_in(folder: pathlib.Path) -> set[str]:
 
 
 def below_each(uses: dict[str, list[str]]) -> dict[str, list[str]]:
-    """Returns for each crate those that it uses and that no other crate which it uses stands on, whether by itself or through others."""
+    """Returns for each crate those that it uses and on which no other crate that it uses depends, directly or through others."""
     below: dict[str, set[str]] = {}
 
     def all_below(name: str) -> set[str]:
@@ -60,14 +60,14 @@ def below_each(uses: dict[str, list[str]]) -> dict[str, list[str]]:
 
 
 def cells_of(uses: dict[str, list[str]], crates: pathlib.Path) -> dict[str, str]:
-    """Returns the level of each crate and what it stands on, as the page's table has them."""
+    """Returns the level of each crate and what it depends on, as in the page's table."""
     named = {name: [it for it in used if it in names] or used for name, used in uses.items() for names in [named_in(crates / name)]}
     below = below_each(named)
     return {name: ': '.join(filter(None, [str(level), ', '.join(below[name])])) for name, level in levels_of(uses).items()}
 
 
 def main(words: list[str]) -> int:
-    path = TOP / 'docs/layers.md'
+    path = TOP / 'docs/dev/architecture.md'
     uses = uses_of((TOP / 'crates.txt').read_text())
     levels, cells = levels_of(uses), cells_of(uses, TOP / 'crates')
     if words == ['write']:
@@ -76,9 +76,9 @@ def main(words: list[str]) -> int:
     most = int(re.findall(r'at most (\d+) levels', page)[0])
     told = dict(re.findall(r'(?m)^\| `(\w+)` \| ([^|]*) \|', page))
     faults = [f'{name} is at level {at}, above {most}' for name, at in levels.items() if at > most]
-    faults += [f'docs/layers.md has {told.get(name)} for {name}, and `dev/levels.py write` prints {cell}'
+    faults += [f'docs/dev/architecture.md has {told.get(name)} for {name}, and `dev/levels.py write` prints {cell}'
                for name, cell in cells.items() if told.get(name) != cell]
-    faults += [f'docs/layers.md names {name}, which crates.txt does not' for name in told if name not in levels]
+    faults += [f'docs/dev/architecture.md names {name}, which crates.txt does not' for name in told if name not in levels]
     return reported('levels', faults, f'{len(levels)} crates, {max(levels.values())} levels, at most {most}')
 
 

@@ -5,7 +5,7 @@
 
   RECON              the built program
   FOLDER             where the pictures are written
-  PICTURE            inside, sight, torus, statue, room, smooth, unit, scanner, slice, finish, kitten; all of them where none
+  PICTURE            inside, sight, room, smooth, unit, scanner, slice, finish, kitten, figurine; all of them where none
                      is named
 
 Scans are made by recon-make-scan, and drawn by render.py: points on white, surfaces with their outer side warm and their
@@ -54,7 +54,7 @@ SCANNERS = np.array([[-2.6, 1.5], [2.5, 1.75], [2.3, -1.6], [-2.3, -1.7]])
 
 
 def sketch(points: np.ndarray) -> tuple[Triangulation, np.ndarray]:
-    """The plane cut into triangles between the points and four corners, and which of them are within the curve."""
+    """Returns the plane cut into triangles between the points and four corners, and which of them are within the curve."""
     corners = np.array([[-3.4, -2.3], [3.4, -2.3], [3.4, 2.3], [-3.4, 2.3]])
     places = np.concatenate([points, corners])
     cut = Triangulation(places[:, 0], places[:, 1])
@@ -70,7 +70,7 @@ def empty_axes(width: float, height: float) -> tuple[plt.Figure, plt.Axes]:
 
 
 def nearest_scanner(points: np.ndarray) -> np.ndarray:
-    """The scanner that each point is seen from: the one that it faces."""
+    """Returns the scanner that each point is seen from: the one that it faces."""
     return np.argmin(((points[:, None] - SCANNERS) ** 2).sum(axis=2), axis=1)
 
 
@@ -148,13 +148,13 @@ def save(image: np.ndarray, folder: str, name: str) -> None:
 
 
 def half(image: np.ndarray) -> np.ndarray:
-    """The image at half its size, so that edges are soft."""
+    """Returns the image at half its size, so that edges are soft."""
     rows, columns, _ = image.shape
     return image.reshape(rows // 2, 2, columns // 2, 2, 3).mean(axis=(1, 3))
 
 
 def title(image: np.ndarray, text: str) -> np.ndarray:
-    """The image with a line of text over it."""
+    """Returns the image with a line of text over it."""
     figure = plt.figure(figsize=(image.shape[1] / 100, 0.26), dpi=100)
     figure.text(0.5, 0.5, text, ha='center', va='center', fontsize=10)
     figure.canvas.draw()
@@ -164,7 +164,7 @@ def title(image: np.ndarray, text: str) -> np.ndarray:
 
 
 def trimmed(image: np.ndarray) -> np.ndarray:
-    """The image without the white rows above and below."""
+    """Returns the image without the white rows above and below."""
     rows = np.flatnonzero((image < 0.999).any(axis=(1, 2)))
     return image[max(rows[0] - 8, 0):rows[-1] + 9] if len(rows) else image
 
@@ -195,24 +195,8 @@ def surface(recon: str, path: str, *options: str) -> tuple[np.ndarray, np.ndarra
     return render.read_mesh(mesh)
 
 
-def beside(view: render.View, path: str, mesh: tuple[np.ndarray, np.ndarray], folder: str, name: str) -> None:
-    """Points and surface, side by side."""
-    images = [half(render.points_image(view, render.read_points(path)[0])), half(render.mesh_image(view, *mesh))]
-    side_by_side(images, ['100,000 points', 'surface'], folder, name)
-
-
-def torus(folder: str, recon: str, work: str) -> None:
-    path = scan(work, 'torus', 'stray=0')
-    beside(render.View(TORUS, (0, 0, 0), 520000, 720), path, surface(recon, path), folder, 'torus')
-
-
-def statue(folder: str, recon: str, work: str) -> None:
-    path = scan(work, 'statue', 'stray=0')
-    beside(render.View(STATUE, (30000, 0, -75000), 600000, 800), path, surface(recon, path), folder, 'statue')
-
-
 def is_near(middles: np.ndarray) -> np.ndarray:
-    """What is left of a room without its ceiling and the wall that one looks from."""
+    """Returns what is left of a room without its ceiling and the wall that one looks from."""
     return (middles[:, 2] < 235000) & (middles[:, 1] > -385000)
 
 
@@ -228,7 +212,7 @@ def room(folder: str, recon: str, work: str) -> None:
 
 
 def smooth(folder: str, recon: str, work: str) -> None:
-    """One scan with stray points at several weights, by one sweep."""
+    """One scan with outliers at several weights, by one sweep."""
     path, count = scan(work, 'statue', 'stray=0.02'), 5
     meshes = [f'{path}.{weight}' for weight in range(count)]
     done = subprocess.run([recon, 'sweep', path, '0', '1', str(count), *meshes], check=True, capture_output=True, text=True)
@@ -284,7 +268,7 @@ def sliced(folder: str, recon: str, work: str) -> None:
 
 
 def debian(work: str, name: str) -> str:
-    """A file of the data of CGAL, as Debian packs them."""
+    """Returns a file of the data of CGAL, as Debian packs them."""
     with tarfile.open(CGAL) as archive:
         path = os.path.join(work, os.path.basename(name))
         with open(path, 'wb') as file:
@@ -314,7 +298,7 @@ def finish(folder: str, recon: str, work: str) -> None:
 
 
 def upright(view: render.View) -> render.View:
-    """The view with y up."""
+    """Returns the view with y up."""
     view.right = np.cross(view.toward, [0.0, 1.0, 0.0])
     view.right /= np.linalg.norm(view.right)
     view.up = np.cross(view.right, view.toward)
@@ -337,8 +321,19 @@ def kitten(folder: str, recon: str, work: str) -> None:
     side_by_side(images, ['5,210 points with normals', 'as built', 'after flips'], folder, 'kitten')
 
 
-PICTURES = {'inside': inside, 'sight': sight, 'torus': torus, 'statue': statue, 'room': room, 'smooth': smooth, 'unit': unit,
-            'scanner': scanner, 'slice': sliced, 'finish': finish, 'kitten': kitten}
+def figurine(folder: str, recon: str, work: str) -> None:
+    """The scan in examples/, its surface as built, and the same after flips and smoothing."""
+    path, mesh, out = os.path.join(DEV, '..', 'examples', 'figurine.ply'), os.path.join(work, 'mesh.ply'), os.path.join(work, 'out.ply')
+    subprocess.run([recon, 'build', path, mesh, mesh + '.cert', 'unit=10000', 'smooth=3'], check=True)
+    meshes = [finished(mesh, out, 'unit=10000', 'pieces=1', *words) for words in (['flips=no'], ['smooth=3', 'within=0.0006'])]
+    view = render.View((0.5, 0.85, -0.25), (0.025, 0, 0.14), 0.165, 760)
+    images = [half(render.points_image(view, render.read_points(path)[0], (0.1, 0.15, 0.25)))]
+    images += [half(render.mesh_image(view, *each, is_flat=True)) for each in meshes]
+    side_by_side(images, ['8,000 points of 8 scanners', 'as built', 'after recon-finish'], folder, 'figurine')
+
+
+PICTURES = {'inside': inside, 'sight': sight, 'room': room, 'smooth': smooth, 'unit': unit,
+            'scanner': scanner, 'slice': sliced, 'finish': finish, 'kitten': kitten, 'figurine': figurine}
 
 
 def main() -> None:

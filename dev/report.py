@@ -7,7 +7,7 @@ import sys
 
 
 def reported(name: str, faults: list[str], summary: str) -> int:
-    """Prints each fault and then the summary, behind the name of the test. Returns the exit status: 1 where there is a fault."""
+    """Prints each fault and then the summary, after the name of the test. Returns the exit status: 1 if there is a fault."""
     for line in faults + [summary]:
         print(f'{name}: {line}')
     return 1 if faults else 0

@@ -1,5 +1,5 @@
 #!/usr/bin/env python3
-"""Measures what cutting a scan into tiles costs its surface, and prints a table for docs/large.md.
+"""Measures what cutting a scan into tiles costs its surface, and prints a table for docs/explain/tiles.md.
 
   seams.py RECON FOLDER [shapes=NAME,..] [count=N] [points=N] [spacings=K,..] [through=N] [whole=no]
            [jobs=N]
@@ -10,7 +10,7 @@
   count=N            points of a scan; without it 100000
   points=N           the most points of a tile; without it 45000
   spacings=K,..      overlaps in mean spacings; without it 5,10,20,50
-  through=N          points from outside that are handed in to a tile; without it as many as recon-tiles takes
+  through=N          points from outside that are passed to a tile; without it as many as recon-tiles takes
   whole=no           the scan is too large for one run, so there is no mesh of the whole to compare with
   jobs=N             runs side by side; without it 1
 
@@ -82,7 +82,7 @@ class Faces:
 
 
 def near_seams(tiles: list[Tile], faces: Faces, far: float) -> numpy.ndarray:
-    """Which faces have their middle within so many thirds of a core that it is not in."""
+    """Returns which faces have their middle within a number of thirds of a core that it is not in."""
     found = numpy.zeros(len(faces.middles), dtype=numpy.int64)
     for tile in tiles:
         low, high = numpy.array(tile.low), numpy.array(tile.high)

@@ -1,11 +1,11 @@
 #!/usr/bin/env python3
-"""Compares the public interface in docs/surface.md with the sources, and fails where an item is missing or has another signature.
+"""Compares the public interface in docs/reference/api.md with the sources, and fails if an item is missing or has another signature.
 
 usage: dev/surface.py                     (compares, as the gate does)
-       dev/surface.py show CRATE [NAME]   (prints the rows of a crate's public items, or of one item, as the sources have them)
+       dev/surface.py show CRATE [NAME]   (prints the rows of a crate's public items, or of one item, from the sources)
 
-The page's tables have a row for each item: its name, below its type where it is a method, and its signature. Contracts, comments,
-attributes and private fields are left out of both. An item that another crate declares counts where a crate exports it by `pub use`.
+The page's tables have a row for each item: its name, a method below its type, and its signature. Contracts, comments, attributes and private
+fields are left out of both. An item that another crate declares counts if a crate exports it by `pub use`.
 """
 from __future__ import annotations
 
@@ -17,7 +17,7 @@ from collections.abc import Iterator
 from report import begun, reported
 
 TOP = pathlib.Path(__file__).resolve().parent.parent
-PAGE = TOP / 'docs/surface.md'
+PAGE = TOP / 'docs/reference/api.md'
 ITEM = re.compile(r'(pub )?(const |unsafe )?(fn|struct|enum|trait|type|const) (\w+)')
 CONTEXT = re.compile(r'(?:pub )?(?:impl(?:<[^{]*?>)? (?:[^{]*? for )?(\w+)|trait (\w+))[^{;]*\{')
 
@@ -130,9 +130,9 @@ def faults_of(rows: list[tuple[int, str, str, str]]) -> list[str]:
             known[crate] = items_of(crate) if (TOP / 'crates' / crate).is_dir() else {}
         here = known[crate].get(name)
         if here is None:
-            faults.append(f'docs/surface.md line {at}: {crate} has no public {name}')
+            faults.append(f'docs/reference/api.md line {at}: {crate} has no public {name}')
         elif here != row:
-            faults.append(f'docs/surface.md line {at}: {crate} has `{here}`')
+            faults.append(f'docs/reference/api.md line {at}: {crate} has `{here}`')
     return faults
 
 
@@ -143,7 +143,7 @@ def main(words: list[str]) -> int:
                 print(f'| `{name}` | `{row}` |')
         return 0
     rows = rows_of(PAGE.read_text())
-    return reported('surface', faults_of(rows), f'{len(rows)} public items of {len({row[1] for row in rows})} crates are as docs/surface.md has them')
+    return reported('surface', faults_of(rows), f'{len(rows)} public items of {len({row[1] for row in rows})} crates are as docs/reference/api.md has them')
 
 
 if __name__ == '__main__':

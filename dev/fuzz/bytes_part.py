@@ -9,7 +9,7 @@ from .runs import Files, Folder
 from .small_files import POINTS, SCANS
 from .tally import Context, Tally
 
-MOST_COMMANDS = 2           # so many of the commands that read a file are tried on each change of it
+MOST_COMMANDS = 2           # the number of commands that read a file that are tried on each change of it
 
 
 class Target(NamedTuple):

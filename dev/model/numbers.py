@@ -22,7 +22,7 @@ class BadNumber(Exception):
 
 
 def scaled(token: bytes, unit: int) -> int:
-    """A decimal times the unit, rounded to the nearest whole number, halves away from zero."""
+    """Returns a decimal times the scale, rounded to the nearest whole number, halves away from zero."""
     found = DECIMAL.fullmatch(token)
     if found is None:
         raise BadNumber(NOT_A_NUMBER)
@@ -40,7 +40,7 @@ def scaled(token: bytes, unit: int) -> int:
 
 
 def whole(token: bytes) -> int:
-    """A whole number of at most 18 digits after leading zeros."""
+    """Returns a whole number of at most 18 digits after leading zeros."""
     found = WHOLE.fullmatch(token)
     if found is None:
         raise BadNumber(NOT_A_NUMBER)

@@ -43,7 +43,7 @@ class Model:
 
 
 def mesh_of(network: Network, inside: AbstractSet[int]) -> Mesh:
-    """The facets of outside cells with an inside cell across, their vertices numbered anew."""
+    """Returns the facets of outside cells whose adjacent cell is inside, with new vertex numbers."""
     cells = network.cells
     faces = [f for f, own in cells.owner.items() if own not in inside and cells.across(f) in inside]
     used = sorted({v for f in faces for v in f})
@@ -62,7 +62,7 @@ def certificate_of(scan: Scan, vote: int, smooth: int, solution: Solution, stamp
                        [(rows[k], amount) for k, amount in enumerate(solution.flow.on_sink) if amount])
 
 
-# Whether a mesh and a certificate are those of a scan: the first reason why not is raised, in the order of docs/formats.md.
+# Whether a mesh and a certificate are those of a scan: the first reason why not is raised, in the order of docs/reference/formats.md.
 
 def check_stamp(stated: Stamp, here: Stamp) -> None:
     if stated.digest != here.digest:
@@ -75,7 +75,7 @@ def check_stamp(stated: Stamp, here: Stamp) -> None:
 
 
 def stated_in(cert: Certificate, network: Network) -> tuple[set[int], Flow]:
-    """The labels and the flow of a certificate by the numbers of cells and arcs."""
+    """Returns the labels and the flow of a certificate by the numbers of cells and arcs."""
     cells = network.cells
     arcs = {arc.facet: j for j, arc in enumerate(network.arcs)}
     for i, cell in enumerate(cert.inside):
@@ -184,13 +184,13 @@ class Plane:
         return 2 * self.mesh.points[v][2] > self.twice
 
     def step(self, face: int) -> Step:
-        """The point where the up edge of a face meets the plane."""
+        """Returns the point where the up edge of a face meets the plane."""
         u, v = (self.mesh.points[i] for i in self.up[face])
         d, t = 2 * (v[2] - u[2]), self.twice - 2 * u[2]
         return Step(face, u[0] * d + (v[0] - u[0]) * t, u[1] * d + (v[1] - u[1]) * t, d)
 
     def following(self) -> dict[int, int]:
-        """The face after each cut face: the k-th face with a down edge is followed by the k-th with the same edge up."""
+        """Returns the face after each cut face: the k-th face with a down edge is followed by the k-th with the same edge up."""
         with_up: dict[Edge, list[int]] = {}
         for k, edge in self.up.items():
             with_up.setdefault(edge, []).append(k)
@@ -203,7 +203,7 @@ class Plane:
 
 
 def slice_of(mesh: Mesh, height: int) -> list[list[Step]]:
-    """The loops in which the plane at `height` + 1/2 cuts a mesh, in ascending order of their smallest faces."""
+    """Returns the loops in which the plane at `height` + 1/2 cuts a mesh, in ascending order of their smallest faces."""
     check_closed(mesh)
     plane = Plane(mesh, height)
     following = plane.following()

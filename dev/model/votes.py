@@ -1,4 +1,4 @@
-"""The network of a scan: what its lines of sight and the smoothing weight say about each cell and each facet, and what labels cost.
+"""The network of a scan: the weights of its lines of sight and the area weight at each cell and each facet, and the cost of labels.
 
 A label says of each cell whether it is inside. A line of sight says that the cells it passes are outside, and that the cell behind its point
 is inside. Labels pay `vote` for each time that a line of sight enters an inside cell through a facet from an outside one, `vote` for each line
@@ -21,7 +21,7 @@ class Sight(NamedTuple):
 
 
 class Arc(NamedTuple):
-    """A directed facet with the cell that it belongs to and the free cell across. Labels pay `capacity` if the first is outside and the
+    """A directed facet with its cell and the free adjacent cell. Labels pay `capacity` if the first is outside and the
     second inside."""
     facet: Facet
     own: int
@@ -49,6 +49,6 @@ class Network:
         self.arcs = [Arc(f, own, to, vote * crossings[f] + smooth) for f, own, to in ways if to is not None and not self.fixed[to]]
 
     def cost(self, inside: AbstractSet[int]) -> int:
-        """What it costs that exactly these cells are inside."""
+        """Returns what it costs that exactly these cells are inside."""
         return sum(arc.capacity for arc in self.arcs if arc.own not in inside and arc.across in inside) \
             + sum(sink for k, sink in enumerate(self.sink) if k not in inside)

@@ -2,7 +2,7 @@
 
     import recon
     surface = recon.build(points, scanners=[[0, 0, 2]], seen_by=0)    # (n, 3) floats, in any unit of length
-    surface.vertices, surface.faces                                   # (v, 3) floats in the same unit, (f, 3) rows of vertices
+    surface.vertices, surface.faces                                   # (v, 3) floats in the same units, (f, 3) rows of vertices
     colors[surface.source]                                            # columns of the points for the vertices
     surface.check()                                                   # verifies mesh and certificate by `recon check`
     surface.contains([[0.1, 0.2, 0.3]])                               # which points are inside

@@ -12,18 +12,19 @@ from typing import Any, Dict, List
 
 @dataclass
 class Choice:
-    """A value, in the words of the option that overrides it, and the reason."""
+    """A value, in the form of the option that overrides it, and the reason."""
     value: str
     why: str
 
 
 @dataclass
 class Choices:
-    """The choices of a run by name, its warnings, and the seconds of each of its steps."""
+    """The choices of a run by name, its warnings, the seconds of each of its steps, and of what ran beside them."""
     is_quiet: bool = False
     chosen: Dict[str, Choice] = field(default_factory=dict)
     warnings: List[str] = field(default_factory=list)
     seconds: Dict[str, float] = field(default_factory=dict)
+    beside: Dict[str, float] = field(default_factory=dict)
     begun: float = field(default_factory=time.monotonic)
     step_begun: float = field(default_factory=time.monotonic)
 

@@ -4,12 +4,12 @@ spreadsheets and other programs.
   recon-contours SLICE OUT [unit=U] [origin=X,Y,Z]
 
   OUT                its name ends in .svg or .csv
-  unit=U             the unit that the mesh was built with. Without it 1
+  unit=U             the scale with which the mesh was built (default: 1)
   origin=X,Y,Z       the place that was taken off the scan. Without it 0,0,0
 
 One unit of the drawing is one of the scan. x goes to the right and y up, and what is inside is filled: a place is inside where
 the loops go round it an odd number of times. A row of the table has the number of its loop, from 0, the number of the face, and
-the point's x and y. Each loop is closed: behind its last point comes its first. Coordinates are decimals of up to 30 digits, the
+the point's x and y. Each loop is closed: its first point follows its last. Coordinates are decimals of up to 30 digits, the
 last one rounded.
 """
 from __future__ import annotations

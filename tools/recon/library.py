@@ -165,10 +165,18 @@ class Surface(Mesh):
 
     @property
     def votes_against_per_sight(self) -> float:
-        """The votes against the surface for each line of sight: 0.003 to 0.1 in scans whose scanners stand where they are said to, 0.25
+        """The visibility weight against the surface for each line of sight: 0.003 to 0.1 in scans whose scanners stand where they are said to, 0.25
         and more where positions or normals are wrong."""
         against = (self.cost - self.smooth * self.counts['faces']) / self.vote
         return against / max(self.counts['sights'], 1)
+
+    def files(self) -> list[str]:
+        """The names of the files in `folder` that verify the surface."""
+        return ['scan.ply', 'mesh.ply', 'scan.cert']
+
+    def tiles(self) -> list[str]:
+        """The names of the tiles that the surface was joined of, without endings; none where it was built whole."""
+        return []
 
     def options(self) -> list[str]:
         return [f'smooth={self.smooth}', f'vote={self.vote}']
@@ -243,7 +251,7 @@ def build(points: Any, scanners: Any = None, seen_by: SeenBy | None = None, *, n
         scanners `far` off each point (default: one spacing).
     seen_by: the row of the scanner of each point (n,), one number for all points, or a list of rows for each point.
     weights (n,): how much each point's sights count, whole numbers from 1 to 255 (default: 1).
-    smooth, vote: the area weight of a face and the visibility weight of a sight.
+    `smooth`, `vote`: the area weight of a face and the visibility weight of a sight.
     unit, origin: coordinates become the whole numbers nearest to (x - origin) * unit (default: 100 to 1000 units between points, see
         `frame`). The surface is exact for these whole numbers; points at one place become one vertex.
     folder: where scan, mesh and certificate are kept (default: a folder that is removed with the surface).
@@ -254,19 +262,32 @@ def build(points: Any, scanners: Any = None, seen_by: SeenBy | None = None, *, n
     if not len(places) or len(places) > POINT_LIMIT:
         raise Invalid(f'{len(places):,} points: a scan has 1 to {POINT_LIMIT:,}', hint='thin them (recon.thinned), or cut them into tiles')
     stations, sights = stations_of(places, scanners, seen_by, normals, far)
-    frame_origin, frame_unit = chosen_frame(places, stations, unit, origin)
-    whole = whole_rows(places, frame_origin, frame_unit, 'points')
-    whole_stations = whole_rows(stations, frame_origin, frame_unit, 'scanners')
     kept = Path(tempfile.mkdtemp(prefix='recon-') if folder is None else folder)
-    kept.mkdir(parents=True, exist_ok=True)
-    write_scan(kept / 'scan.ply', whole, sights, whole_stations, checked_weights(weights, len(places)))
+    scan = written_scan(places, stations, sights, weights, unit, origin, kept)
     counts = run(['build', kept / 'scan.ply', kept / 'mesh.ply', kept / 'scan.cert', f'smooth={smooth}', f'vote={vote}'], program, is_shown)
     spots, corners = read_mesh(os.fspath(kept / 'mesh.ply'))
-    surface = Surface(spots / frame_unit + frame_origin, corners.reshape(-1, 3), rows_at(whole, spots), frame_unit, frame_origin, smooth, vote,
+    surface = Surface(spots / scan.unit + scan.origin, corners.reshape(-1, 3), rows_at(scan.points, spots), scan.unit, scan.origin, smooth, vote,
                       counts, kept, program)
     if folder is None:
         weakref.finalize(surface, shutil.rmtree, kept, True)
     return surface
+
+
+class Written(NamedTuple):
+    """A scan that was written: its points (n, 3) in whole units, and the unit and origin of these."""
+    points: np.ndarray
+    unit: int
+    origin: np.ndarray
+
+
+def written_scan(points: np.ndarray, scanners: np.ndarray, sights: Sights, weights: Any, unit: int | None, origin: Any, folder: Path) -> Written:
+    """Writes a scan as `scan.ply` into a folder, in whole units. Raises `Invalid` for arrays that make no scan."""
+    frame_origin, frame_unit = chosen_frame(points, scanners, unit, origin)
+    whole = whole_rows(points, frame_origin, frame_unit, 'points')
+    whole_scanners = whole_rows(scanners, frame_origin, frame_unit, 'scanners')
+    folder.mkdir(parents=True, exist_ok=True)
+    write_scan(folder / 'scan.ply', whole, sights, whole_scanners, checked_weights(weights, len(points)))
+    return Written(whole, frame_unit, frame_origin)
 
 
 def stations_of(points: np.ndarray, scanners: Any, seen_by: SeenBy | None, normals: Any, far: float | None) -> tuple[np.ndarray, Sights]:
@@ -286,7 +307,7 @@ def stations_of(points: np.ndarray, scanners: Any, seen_by: SeenBy | None, norma
 
 
 def chosen_frame(points: np.ndarray, scanners: np.ndarray, unit: int | None, origin: Any) -> tuple[np.ndarray, int]:
-    """The origin and the unit, as they were given or else as they fit."""
+    """Returns the origin and the scale, as given or else computed to fit."""
     if unit is not None and not 1 <= unit <= 1_000_000:
         raise Invalid(f'unit {unit} is not from 1 to 1,000,000')
     start = None if origin is None else points_of(origin, 'origin')[0]
@@ -313,4 +334,4 @@ def checked_weights(weights: Any, count: int) -> np.ndarray | None:
     return values
 
 
-__all__ = ['Invalid', 'Mesh', 'Refusal', 'Sights', 'Surface', 'build', 'check', 'sights_of', 'write_scan']
+__all__ = ['Invalid', 'Mesh', 'Refusal', 'Sights', 'Surface', 'build', 'check', 'sights_of', 'write_scan', 'written_scan']

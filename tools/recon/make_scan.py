@@ -1,17 +1,17 @@
-"""Makes a scan of a shape, in whole numbers, to try `recon` on. The same words make the same file.
+"""Makes a scan of a shape, in whole numbers, to try `recon` on. The same arguments make the same file.
 
   recon-make-scan SHAPE COUNT SEED OUT [scale=S] [noise=F] [stray=F]
 
   SHAPE              torus, statue (a figure of balls), cube or sphere, seen from 8 places around it; or room (a room with
                      furniture and two pillars, seen from 4 places in it). And three whose sights cross as many cells as may
-                     be, to time the worst: tube (a thin tube, seen from one point beyond each end), crowd (points in a ball,
+                     be, to time the worst: `tube` (a thin tube, seen from one point beyond each end), `crowd` (points in a ball,
                      each seen by 20 of 65,536 scanners in it, a row for each sight) and paraboloid (seen from 4 places over
                      it). These three have no errors and no wrong points
-  COUNT, SEED        how many rows, and a word that they are drawn from
+  COUNT, SEED        the number of rows, and the seed of the generator
   scale=S            units for the length 1; the shapes reach from about -1 to 1, their scanners to 2.4. Without it 500000. A
                      coordinate that would pass 2,097,151 stays there
-  noise=F            how far a point errs along its sight, as the deviation of a normal error, in the length of which S units
-                     are one. Without it 0.0015
+  noise=F            the standard deviation of the error of a point along its sight, where S units have the length 1
+                     (default: 0.0015)
   stray=F            which part of the points is wrong: half of them too short on their sight, half anywhere. Without it 0.02
 
 A point is drawn evenly on the surface together with a scanner, and kept where that scanner sees it, and not at a grazing
@@ -71,7 +71,7 @@ def box_is_met(low: Place, high: Place, a: Place, d: Place, first: float, last: 
 
 
 class Torus:
-    """A ring of radius 0.7 whose tube has the radius 0.28."""
+    """A torus with the radii 0.7 and 0.28."""
     scanners = ring_of_scanners(2.2, (1.4, -1.5))
 
     def draw(self, draw: random.Random) -> tuple[Place, Place]:
@@ -142,7 +142,7 @@ class Boxes:
 
 
 class Tube:
-    """A tube as thin as a five-hundredth of its length. Each sight goes along its inside from a point to one of the ends."""
+    """A thin tube, with the radius a five-hundredth of its length. Each sight goes along its inside from a point to one of the ends."""
     scanners = [(-1.05, 0, 0), (1.05, 0, 0)]
 
     def rows(self, draw: random.Random) -> Iterator[tuple[Place, int]]:

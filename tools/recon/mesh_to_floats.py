@@ -1,9 +1,9 @@
 """A mesh of `recon` in the numbers of the file that was scanned, for programs that want them so: MeshLab, for one, reads no
-PLY with whole-number coordinates. Coordinates are divided by the unit, and the origin that was taken off is added.
+PLY with whole-number coordinates. Coordinates are divided by the scale, and the origin that was taken off is added.
 
   recon-mesh-to-floats IN OUT [unit=U] [origin=X,Y,Z]
 
-  unit=U             the unit that the mesh was built with. Without it 1
+  unit=U             the scale with which the mesh was built (default: 1)
   origin=X,Y,Z       the place that was taken off the scan. Without it 0,0,0
 
 Coordinates are exact decimals, rounded only where they have over 30 digits. The faces stay as they are.

@@ -115,7 +115,7 @@ def sorted_faces(faces: np.ndarray, unseen: np.ndarray) -> tuple[np.ndarray, np.
 
 
 def steps_back(before: np.ndarray) -> tuple[np.ndarray, np.ndarray, np.ndarray]:
-    """Returns for each face the one `FAN` steps before it, or the first of its fan; how many steps that is; and the least on the
+    """Returns for each face the one `FAN` steps before it, or the first of its fan of triangles; how many steps that is; and the least on the
     way. `before` is -1 of first faces."""
     own = np.arange(len(before))
     head = np.where(before < 0, own, before)
@@ -126,7 +126,7 @@ def steps_back(before: np.ndarray) -> tuple[np.ndarray, np.ndarray, np.ndarray]:
 
 
 def fans_of(faces: np.ndarray, first: np.ndarray) -> tuple[np.ndarray, np.ndarray]:
-    """Returns sorted faces in the order of fans around their first vertices, and which of them begin a fan: in a fan the second
+    """Returns sorted faces in the order of triangle fans around their first vertices, and which of them begin one: in a fan of triangles the second
     vertex of a face is the third one of the face before it."""
     count, size = len(faces), faces.max(initial=0) + 1
     key, wanted = first * size + faces[:, 1], first * size + faces[:, 2]
@@ -162,7 +162,7 @@ def packed(mesh: PageMesh, frame: Frame) -> tuple[dict[str, Any], str]:
 
 
 def sampled(rows: np.ndarray, most: int) -> np.ndarray:
-    """Returns the rows, or as many of them as are told, evenly spread."""
+    """Returns the rows, or the given number of them, evenly spread."""
     return rows if len(rows) <= most else rows[np.linspace(0, len(rows) - 1, most).astype(int)]
 
 
@@ -227,7 +227,7 @@ def page_text(meshes: Sequence[PageMesh], scanners: np.ndarray, sights: np.ndarr
 
 def write_page(path: str, *, meshes: list[PageMesh], scanners: np.ndarray, sights: np.ndarray, figures: list[tuple[str, str]],
                choices: list[tuple[str, str, str]], digests: dict[str, str], commands: list[str], title: str) -> None:
-    """Writes a page that shows the meshes, of which the first is seen at once and the others by a slider.
+    """Writes a page that shows the meshes: the first at once and the others by a slider.
 
     `scanners` (n, 3) and `sights` (m, 2, 3), a sample of lines of sight from scanner to point, are in the coordinates of the
     vertices; at most 500 and 2,000 of them, evenly spread, go into the page. `figures` are names and values of the run,

@@ -5,13 +5,13 @@ from.
   recon-scan FILE OUT [position=header|matrix]              Leica's PTX
   recon-scan FILE=X,Y,Z [FILE=X,Y,Z ..] OUT                 files that are one a station, each with the place of its scanner
   recon-scan OUT table=TABLE                                the same, by a text of lines `X Y Z FILE`
-  recon-scan FILE OUT normals=yes [far=D]                   points with normals, of which nobody knows who saw them
+  recon-scan FILE OUT normals=yes [far=D]                   points with normals, without scanners
   recon-scan FUSED OUT images=IMAGES                        COLMAP's fused.ply with fused.ply.vis beside it, and images.bin or .txt
   recon-scan MODEL OUT [images=IMAGES]                      COLMAP's sparse points: points3D.bin or .txt, or the folder that has it
   recon-scan FILE OUT flight=TABLE                          an airborne LAS, by a table of lines TIME X Y Z
-  recon-scan FILE .. OUT above=yes                          airborne scans of which no position is known
+  recon-scan FILE .. OUT above=yes                          airborne scans without positions
 
-Files are told by their first bytes. A FILE with a place may also be a PTS or a list of numbers, X, Y and Z first in each line.
+Formats are recognised by the first bytes of a file. A FILE with a place may also be a PTS or a list of numbers, X, Y and Z first in each line.
 With each of these:
 
   from=X,Y,Z to=X,Y,Z   keep the points in this box alone, those on its faces too; with outside=yes those outside
@@ -48,8 +48,8 @@ station's header and the last row of its matrix have to agree within 0.001, or o
 
 LAZ is read where the Python packages laspy and lazrs are installed, and E57 of spherical coordinates where pye57 is.
 
-Normals are believed. How many are wrong the cost of the surface tells: what `recon build` says as cost, less `smooth` for each
-face, divided by `vote`, is the number of votes that are against the surface, and a tenth of the sights or more is a reason to
+Normals are not checked. The cost of the surface shows how many are wrong: the cost that `recon build` prints, less `smooth` for
+each face, divided by `vote`, is the weight of the sights that are against the surface. If it is a tenth of the sights or more,
 look at the normals.
 
 Left out are points with a coordinate or a scanner that is nan or infinite, empty returns of a PTX, points without a normal, and
@@ -75,7 +75,7 @@ ROOM = 0.8
 
 
 def add_corners(source: Source, sieve: Sieve, writer: Writer, positions: list[Sequence[str]]) -> None:
-    """Writes the eight points, and puts their scanners behind the others."""
+    """Writes the eight points, and appends their scanners."""
     if not source.has_scanners or source.scanner is None:
         raise Refusal('the file names no scanners: give their positions by positions=')
     if writer.count and not all(map(isfinite, sieve.box.low + sieve.box.high)):

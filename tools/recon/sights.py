@@ -1,4 +1,4 @@
-"""Scanners for points of which nobody knows who saw them: along normals, from far above, or along normals that are estimated.
+"""Scanners for points without known ones: along normals, from far above, or along normals that are estimated.
 
 Names: along_normals (one spacing off, at most 65,536 positions) · lies_flat, above (airborne scans) · estimated_normals.
 """

@@ -3,20 +3,20 @@
   recon-tiles split FILE .. FOLDER [points=N] [overlap=D | spacings=K] [through=N] [unit=U] [vote=V] [smooth=L] [how it is read]
   recon-tiles join FOLDER OUT [fill=yes] [report=FILE]
 
-`split` halves space by planes along the axes until each box, its tile's *core*, has at most so many points in it and within
+`split` halves space by planes along the axes until each box, its tile's *core*, has at most a given number of points in it and within
 the overlap around it. It writes a new FOLDER: a scan for each tile, with the scanners that its points name; `tiles.json`, which
 says what each is; and jobs that build and check each tile's surface, as `jobs.txt`, a command a line, and as `Makefile`.
 
   points=N           the most points of a tile. Without it 800000, and at most 1048576
   overlap=D          how far a tile reaches beyond its core, in the file's own numbers
   spacings=K         the same in mean spacings of the points, which a sample tells. Without either 20
-  through=N          how many points from outside a tile are handed in to it at most, whose sights enter its box. Without it a
+  through=N          how many points from outside a tile are passed to it at most, whose sights enter its box. Without it a
                      tenth of points=
   unit=, vote=, smooth=   options of `recon` for the jobs
   index=, positions=, position=, table=, images=, normals=, far=, above=, origin=, open_end=   how the scan is read, with the meaning
                      that they have for recon-scan
 
-FILE .. is all that recon-scan reads, in the same words. What `recon` does not read is left out.
+FILE .. is all that recon-scan reads, with the same arguments. What `recon` does not read is left out.
 
 `join` takes, when all jobs are done, of each tile's surface the faces whose middle lies in its core, and makes one vertex of
 what is one scanned point. It says of each two tiles that meet how many edges at their seam are not there one way as often as the

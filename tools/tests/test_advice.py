@@ -1,48 +1,23 @@
-"""What the program tells a person on how to mend a refusal, beside the table of docs/using.md."""
+"""What the program says on standard error on how to fix an error, beside docs/reference/errors.md and formats.md (dev/errors.py)."""
 from __future__ import annotations
 
-import os
-import re
 import unittest
 
-from helpers import ROOT, equal
-
-HEADING = '### Where a file is refused\n'
-
-
-def text_of(*path: str) -> str:
-    with open(os.path.join(ROOT, *path), encoding='utf-8') as file:
-        return file.read()
-
-
-def rows_of_page() -> list[tuple[list[str], str]]:
-    """The fronts of refusals and the cure of each row of the page, without its marks."""
-    rows = []
-    for line in text_of('docs', 'using.md').split(HEADING)[1].split('\nPLACE is')[0].splitlines():
-        if line.startswith('| `'):
-            says, cure = line[2:-2].split(' | ')
-            fronts: list[str] = []
-            for span in re.findall('`([^`]+)`', says):
-                words = span.split()
-                of_need = words[-1] if span.startswith('_') else None
-                count = 3 if not of_need and words[1] in ('missing', 'too_many', 'too_long') else 2
-                fronts.append(fronts[-1][:-2] + of_need if of_need else ' '.join(words[:count]))
-            rows.append((fronts, re.sub(r'\[([^]]*)\]\([^)]*\)', r'\1', cure).replace('`', '')))
-    return rows
-
-
-def rows_of_program() -> list[tuple[list[str], str]]:
-    """The same of the program."""
-    table = text_of('crates', 'recon_main', 'src', 'advice.rt').split('const CURES')[1].split('\n];')[0]
-    rows = re.findall(r'\(\s*&\[([^]]*)\],\s*"([^"]*)",?\s*\)', table)
-    return [(re.findall('"([^"]*)"', fronts), cure) for fronts, cure in rows]
+from helpers import call, equal
+import errors
 
 
 class Advice(unittest.TestCase):
-    def test_cures_are_those_of_the_page(self) -> None:
-        equal(rows_of_program(), rows_of_page())
+    def test_the_page_has_the_fixes_of_the_program(self) -> None:
+        status, said, error = call('errors')
+        equal((status, len(said.splitlines()), error), (0, 1, ''))
 
-    def test_each_refusal_has_a_cure(self) -> None:
-        names = set(re.findall('^\\| `refused ([0-9]+ [a-z_]+)', text_of('docs', 'formats.md'), re.MULTILINE))
-        fronts = [front for row in rows_of_program() for front in row[0]]
-        equal(sorted(name for name in names if not any(front.startswith(name) for front in fronts)), [])
+    def test_rows_have_the_numbers_of_the_format(self) -> None:
+        formats = '| `refused 7 missing NEED` | x |\n| `refused 10 too_many NEED count c` | x |\n| `refused 4 long_header` | x |\n'
+        source = 'const CURES: [(&[&str], &str); 2] = [\n(&["7 missing vertex_x", "10 too_many vertex"], "rename x="),\n(\n&["4 long_header"],\n"short",\n),\n];\n'
+        equal(errors.printed(source, formats).splitlines()[3:-1],
+              ['| `7 missing vertex_x`, `10 too_many vertex count c` | rename `x=` |', '| `4 long_header` | short |'])
+
+
+if __name__ == '__main__':
+    unittest.main()

@@ -9,7 +9,7 @@ import struct
 import subprocess
 import sys
 
-from helpers import (MESH, PACKAGE, POINTS, RECON, ROOT, SCAN, Given, InFolder, binary, call, command, equal, head, holds, read, refuses,
+from helpers import (MESH, PACKAGE, POINTS, SCAN, Given, InFolder, binary, call, command, equal, head, holds, read, refuses,
                      says, spoken, write)
 from recon.toolbox.ply_text import Refusal
 from test_stations import FIRST_STATION, PTX
@@ -18,7 +18,7 @@ SLICE = 'loops 1\nloop 4\n0 200 40000 400\n2 40000 200 400\n3 -200 -40000 400\n1
 
 
 def changed(draw: random.Random, data: bytes) -> bytes:
-    """The file with a byte or two put in, taken out or made another."""
+    """Returns the file with a byte or two put in, taken out or made another."""
     data = bytearray(data)
     for _ in range(draw.choice((1, 1, 2, 3))):
         k = draw.randrange(len(data))
@@ -172,21 +172,6 @@ class All(InFolder):
             line = ' '.join([*command(program), '--help | head -c 1'])
             done = subprocess.run(line, shell=True, capture_output=True, text=True)
             equal((len(done.stdout), done.stderr), (1, ''))
-
-    def test_the_lines_of_the_guide_are_understood(self) -> None:
-        # no file is there, so each program that reads one has to say so, and not that it does not know the words
-        with open(os.path.join(ROOT, 'docs', 'using.md'), encoding='utf-8') as file:
-            lines = re.findall(r'(?:^    |^      |`)recon-([a-z-]+) ([^`\n]*(?:\.|[a-z]=)[^`\n]*)', file.read(), re.MULTILINE)
-        equal(len(lines) > 15, True)
-        for program, words in lines:
-            if program == 'mesh' or (program == 'surface' and not RECON):  # recon-mesh is no program of the package
-                continue
-            more = ['--program', RECON] if program == 'surface' else []
-            for name in os.listdir('.'):
-                os.remove(name)
-            status, said, error = call(program, *words.split(), *more)
-            wanted = (0, False) if program == 'make-scan' or words.startswith('points ') else (1, True)
-            equal((program, words, status, 'No such file' in error), (program, words) + wanted)
 
     def test_large_files_take_little_memory(self) -> None:
         rows = 200000

@@ -172,5 +172,5 @@ class Believed(InFolder):
         equal((status, len(said.splitlines()), error), (0, 1, ''))
 
     def test_believed_definitions_stand_in_the_promises(self) -> None:
-        promises = pathlib.Path(ROOT, 'docs', 'promises.md').read_text()
+        promises = pathlib.Path(ROOT, 'docs', 'verification', 'guarantees.md').read_text()
         equal([line for line in call('believed')[1].splitlines() if line not in promises], [])

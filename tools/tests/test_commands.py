@@ -1,4 +1,4 @@
-"""What the built program says and writes where no clause is asked: words, refusals, verdicts and files of small scans, in tables of known
+"""What the built program prints and writes, without regard to contracts: arguments, errors, verdicts and files of small scans, in tables of known
 answers. They run where `recon` is built (see run.py); how the system serves it is in test_program."""
 from __future__ import annotations
 
@@ -38,18 +38,18 @@ WIDE = 'property uchar weight\nproperty list uint int scanner\n'
 
 
 def scan(rows: Sequence[str], places: Sequence[str], properties: str = ONE) -> str:
-    """A scan with these rows of points and of scanners."""
+    """Returns a scan with these rows of points and of scanners."""
     head = f'ply\nformat ascii 1.0\nelement vertex {len(rows)}\n{XYZ}{properties}element scanner {len(places)}\n{XYZ}end_header\n'
     return head + ''.join(row + '\n' for row in [*rows, *places])
 
 
 def seen(properties: str, values: Sequence[str]) -> str:
-    """The four points and their scanners, with these values behind the coordinates."""
+    """Returns the four points and their scanners, with these values after the coordinates."""
     return scan([f'{row} {value}' for row, value in zip(ROWS, values)], PLACES, properties)
 
 
 def changed(text: str, old: str, new: str) -> str:
-    """The text with another part in the place of the first one like this."""
+    """Returns the text with another part in the place of the first one like this."""
     front, found, behind = text.partition(old)
     equal(found, old)
     return front + new + behind
@@ -129,7 +129,7 @@ class Words(InFolder):
             equal(len(here()) > 1, status == 0)
 
     def test_numbers_as_decimals_are_rounded(self) -> None:
-        """The scanner of the words, in thousandths, stands in the certificate."""
+        """The scanner of the arguments, in thousandths, is in the certificate."""
         files(in_=scan([], [], '').replace(f'element scanner 0\n{XYZ}', ''))
         for word, number in (
             ('1.0005', 1001), ('-1.0005', -1001), ('2.5e-4', 0), ('5e-4', 1), ('-5e-4', -1), ('-0', 0), ('+.5', 500), ('7.', 7000),
@@ -303,7 +303,7 @@ class Surfaces(InFolder):
     def test_a_surface_is_written_with_its_certificate(self) -> None:
         empty = scan([], ['0 0 0'])
         no_cert = 'recon certificate 1\npoints 0\nscanners 1\nsights 0\nvote 8\nsmooth 1\ncost 0\ninside 0\nflow 0\nsink 0\nend\n'
-        # Of labels of one cost the inside is the smallest; the same flow is worth the empty one.
+        # Of labels of one cost the inside is the smallest; the same flow has the value of the empty one.
         light = CERT.replace('vote 8', 'vote 1').replace('inside 1\n8 9 10 11\n', 'inside 0\n')
         for more, text, line, mesh, cert in (
             ([], empty, 'points 0 scanners 1 sights 0 inside 0 faces 0 cost 0\n', NO_MESH, no_cert), ([], FOUR, FOUR_BUILT, MESH, CERT),
@@ -456,7 +456,7 @@ class Verdicts(InFolder):
             (own, 'unit 1\n', 'scanner 0 -01 0\n', '1 cert_line line 4'), (own, 'unit 1\n', 'scanner 0 0 2097152\n', '1 cert_line line 4'),
             (own, 'unit 1\n', 'scanner 0 0\n', '1 cert_line line 4'), (own, 'unit 1\n', 'scanner none \n', '1 cert_line line 4'),
             (own, 'unit 1\n', '', '1 cert_line line 4'),
-            # What the stamp says is compared before the counts: the scan, the unit, the scanner.
+            # The fingerprint is compared before the counts: the scan, the scale, the scanner.
             (other, 'unit 2\n', 'scanner 0 -1 17\n', f'16 other_scan stated {other[5:-1]} here {digest}'),
             (own, 'unit 2\n', 'scanner 0 -1 17\n', '17 other_unit stated 2 here 1'),
             (own, 'unit 1\n', 'scanner 0 -1 17\n', '18 other_fixed stated 0 -1 17 here none'),

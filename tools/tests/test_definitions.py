@@ -1,4 +1,4 @@
-"""The page of definitions, printed of its source and of heads of specs/, and the crates that a crate stands on."""
+"""The page of definitions, printed of its source and of heads of specs/, and the crates that a crate depends on."""
 from __future__ import annotations
 
 import os

@@ -33,7 +33,7 @@ fn example(rt: HostRuntime) {
 
 
 def faults(page: str, test: str, name: str = 'a_crate', file: str = 'tests.rt') -> list[str]:
-    """What is told of a crate with this page and this file of tests."""
+    """Returns the faults of a crate with this page and this file of tests."""
     os.makedirs(os.path.dirname(os.path.join(name, 'src', file)), exist_ok=True)
     write(os.path.join(name, 'src', 'lib.rt'), page)
     write(os.path.join(name, 'src', file), test)

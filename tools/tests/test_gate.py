@@ -36,7 +36,7 @@ points 4
 
 
 def faults(text: str, source: str = 'if a < b {\n') -> list[str]:
-    """What is told of an edit of a crate with one file."""
+    """Returns the faults of an edit of a crate with one file."""
     os.makedirs('crates/low/src', exist_ok=True)
     os.makedirs('attack/low', exist_ok=True)
     write('crates/low/src/lib.rt', source)
@@ -49,15 +49,15 @@ def faults(text: str, source: str = 'if a < b {\n') -> list[str]:
 
 
 def said(text: str, in_turn: bool) -> list[str]:
-    """What is said of a run, line by line."""
+    """Returns what is said of a run, line by line."""
     seen = progress.Progress(['low', 'host', 'high'] if not in_turn else ['low', 'high'], in_turn, 'LOG')
     return [it for it in (seen.said(line, 9) for line in text.splitlines()) if it is not None]
 
 
 class Gate(InFolder):
     def test_each_program_has_a_head_that_may_be_cut(self) -> None:
-        for name in ('attack', 'believed', 'bench', 'clouds', 'definitions', 'examples', 'fail_alloc', 'levels', 'lint', 'measure_surface', 'minutes',
-                     'others', 'phrases', 'pictures', 'progress', 'seams', 'surface', 'try', 'wrong_bodies'):
+        for name in ('attack', 'believed', 'bench', 'clouds', 'crates', 'definitions', 'errors', 'examples', 'fail_alloc', 'levels', 'links', 'lint',
+                     'make_example', 'manual', 'measure_surface', 'minutes', 'others', 'pages', 'phrases', 'pictures', 'progress', 'seams', 'surface', 'try', 'wrong_bodies'):
             line = f'{sys.executable} {os.path.join(DEV, name + ".py")} --help | head -c 1'
             done = subprocess.run(line, shell=True, capture_output=True, text=True)
             equal((name, len(done.stdout), done.stderr), (name, 1, ''))

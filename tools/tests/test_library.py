@@ -25,7 +25,7 @@ def sphere(count: int, seed: int = 1) -> np.ndarray:
 
 
 def nearest(points: np.ndarray) -> np.ndarray:
-    """The scanner that is nearest to each point."""
+    """Returns the scanner that is nearest to each point."""
     return (points @ SCANNERS.T).argmax(axis=1)
 
 
@@ -175,7 +175,7 @@ class Choosing(unittest.TestCase):
 class Page(InFolder):
     @unittest.skipUnless(RECON, 'recon is not built here')
     def test_the_example_page_runs(self) -> None:
-        with open(os.path.join(ROOT, 'docs', 'python.md'), encoding='utf-8') as file:
+        with open(os.path.join(ROOT, 'docs', 'reference', 'python.md'), encoding='utf-8') as file:
             text = file.read()
         blocks = re.findall('```python\n(.*?)```', text, re.DOTALL)
         equal(len(blocks) > 3, True)

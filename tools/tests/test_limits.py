@@ -53,7 +53,7 @@ def write_cube(name: str, count: int, seed: int) -> None:
 
 
 def write_tetrahedron(name: str, sights: list[int]) -> None:
-    """Writes the tetrahedron of examples/, each point of which is seen as often as stated, always from ten times its own place."""
+    """Writes the tetrahedron of examples/, with each point seen as often as stated, always from ten times its own position."""
     corners = [(100, 100, 100), (100, -100, -100), (-100, 100, -100), (-100, -100, 100)]
     head = ('ply\nformat binary_little_endian 1.0\nelement vertex 4\nproperty int x\nproperty int y\nproperty int z\n'
             'property list uint uchar scanner\nelement scanner 4\nproperty int x\nproperty int y\nproperty int z\nend_header\n')

@@ -10,7 +10,7 @@ import subprocess
 import unittest
 from typing import Any, Sequence
 
-from helpers import RECON, ROOT, SCAN, InFolder, call, equal, head, read, refuses, says, write
+from helpers import RECON, SCAN, InFolder, call, equal, head, read, refuses, says, write
 from recon.toolbox.tile_jobs import cksum
 from recon.toolbox import tile_boxes, tile_split
 from recon.toolbox.exact import differences
@@ -39,7 +39,7 @@ def tiles_of(folder: str) -> Any:
 
 
 def body(folder: str, tile: dict[Any, Any]) -> list[Any]:
-    """The words of a tile's rows, each with its scanner's place instead of the number."""
+    """Returns the tokens of a tile's rows, each with its scanner's position instead of the number."""
     text = read(os.path.join(folder, tile['name'] + '.ply'))
     lines = [line.split() for line in text.split('end_header\n')[1].splitlines()]
     rows, places = lines[:tile['points']], lines[tile['points']:]
@@ -58,7 +58,7 @@ def is_held(tile: dict[Any, Any], row: Sequence[Any]) -> bool:
 
 
 def are_tiles(folder: str, rows: Sequence[Any], limit: int) -> list[Any]:
-    """Each tile has exactly the rows in its box and some from outside, no more than the limit; each place is of one core."""
+    """Returns whether each tile has exactly the rows in its box and some from outside, no more than the limit; each place is of one core."""
     about, tiles = tiles_of(folder)
     placed = [tuple(map(str, row[:3] + PLACES[row[3]] + row[4:])) for row in rows]
     handed = set(read(os.path.join(folder, 'handed.txt')).splitlines())
@@ -78,7 +78,7 @@ def exact(words: Sequence[Any]) -> list[str]:
 
 
 def listed(folder: str, tile: dict[Any, Any]) -> list[Any]:
-    """The rows of a tile with lists: point, weight, and the places of its scanners."""
+    """Returns the rows of a tile with lists: point, weight, and the places of its scanners."""
     text = read(os.path.join(folder, tile['name'] + '.ply'))
     lines = [line.split() for line in text.split('end_header\n')[1].splitlines()]
     rows, places = lines[:tile['points']], lines[tile['points']:]
@@ -97,7 +97,7 @@ SIDE = 12
 
 
 def lattice() -> list[Any]:
-    """The closed surface of a cube, of unit squares that are cut into two triangles each: its faces as places."""
+    """Returns the closed surface of a cube, of squares with side 1 that are cut into two triangles each: its faces as points."""
     faces = []
     for axis in range(3):
         for end in (0, SIDE):
@@ -177,14 +177,14 @@ def names() -> list[str]:
 
 
 def calls() -> list[str]:
-    """What the stand-in was asked for since the last time, sorted."""
+    """Returns what the stand-in was asked for since the last time, sorted."""
     found = sorted(read('tiles/calls').splitlines()) if os.path.exists('tiles/calls') else []
     write('tiles/calls', '')
     return found
 
 
 def faces_of(name: str) -> list[Any]:
-    """The faces of a mesh as places, the smallest number first."""
+    """Returns the faces of a mesh as places, the smallest number first."""
     text = read(name).split('end_header\n')
     rows = [tuple(map(int, line.split())) for line in text[1].splitlines()]
     count = int(text[0].split('element vertex ')[1].split()[0])
@@ -199,7 +199,7 @@ def turned(faces: Sequence[Any]) -> list[Any]:
 
 
 def edges_of(faces: Sequence[Any]) -> dict[Any, Any]:
-    """How often each edge is there one way and the other."""
+    """Returns how often each edge is there one way and the other."""
     counts = {}
     for face in faces:
         for start, end in zip(face, face[1:] + face[:1]):
@@ -209,7 +209,7 @@ def edges_of(faces: Sequence[Any]) -> dict[Any, Any]:
 
 
 def are_told(faces: Sequence[Any], report: list[str]) -> None:
-    """Each edge that is told is one of the joined mesh that is not there one way as often as the other, of the kind told."""
+    """Each reported edge is one of the joined mesh that does not occur as often as its reverse, of the reported kind."""
     counts = edges_of(faces)
     told = {}
     for line in report:
@@ -219,7 +219,7 @@ def are_told(faces: Sequence[Any], report: list[str]) -> None:
     equal(len(told), len(report))
     for edge, (there, back) in counts.items():
         wanted = None if there == back else 'crowded' if there + back > 2 else 'open'
-        # A tile's own edge of which it lacks a face inside of its core is no seam's, and may be told or not.
+        # A tile's own edge that lacks a face inside of its core is no seam's, and may be reported or not.
         equal((edge, told.get(edge) in (None, wanted)), (edge, True))
     equal([edge for edge in told if edge not in counts], [])
 
@@ -506,14 +506,3 @@ class Tiles(InFolder):
         equal((status, error, 'recon-tiles split FILE .. FOLDER' in said), (0, '', True))
         for words in ((), ('split',), ('split', 'a'), ('split', 'a', 'b', 'points=1', 'points=2'), ('join', 'a', 'b', 'c')):
             equal(call('tiles', *words)[0], 2)
-
-    def test_the_lines_of_the_page_are_understood(self) -> None:
-        # no file is there, so each has to say so, and not that it does not know the words
-        lines = []
-        for page in ('large.md', 'using.md'):
-            with open(os.path.join(ROOT, 'docs', page), encoding='utf-8') as file:
-                lines += re.findall(r'recon-tiles ((?:split|join) [^`\n]+)', file.read())
-        equal(len(lines) > 3, True)
-        for words in lines:
-            status, _, error = call('tiles', *words.split())
-            equal((words, status, 'No such file' in error), (words, 1, True))

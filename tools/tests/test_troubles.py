@@ -1,4 +1,4 @@
-"""The built program over a system that interrupts, moves few bytes at a time and fails: a library in the system's place hands on its reads
+"""The built program over a system that interrupts, moves few bytes at a time and fails: a library in the system's place passes on its reads
 or its writes so. It is compiled here, so the tests run where `recon` is built and there is a C compiler."""
 from __future__ import annotations
 
@@ -11,7 +11,7 @@ from helpers import RECON, InFolder, equal, write
 from test_program import data, example, recon
 
 COMPILER = shutil.which('cc') or shutil.which('gcc') or shutil.which('clang') or ''
-# Each call of the kind is interrupted so often, moves so many bytes at most, and one of them, counted from 1, fails.
+# Each call of the kind is interrupted that often, moves at most that number of bytes, and one of them, counted from 1, fails.
 SHIM = r"""
 #define _GNU_SOURCE
 #include <errno.h>

@@ -19,7 +19,7 @@ use Rattle.tetra_store.specs.Links.{Links, IsLive, IsLinked}
 use Rattle.tetra_store.specs.Fan.{fan_facet}
 use Rattle.geo_sign.specs.Boxes.{IsInConflict, IsClearOf}
 use Rattle.geo_sign.proofs.Rotations.{rotated_back}
-use Rattle.cell_laws.proofs.RimLists.{one_side}
+use Rattle.cell_laws.proofs.OneFacet.{one_side}
 use Rattle.cavity.specs.Flood.{facet_on, IsRimAt, HasFanFacet, IsPassed, IsFlooding}
 use Rattle.cavity.proofs.Growing.{last_at, only_one, longer, old_or_last, cell_left, facet_left, outer_left, facet_last}
 use Rattle.cavity.proofs.Growing.{outer_last, contains_at}

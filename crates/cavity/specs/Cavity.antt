@@ -1,7 +1,7 @@
 -- The cavity of a vertex.
 --
---   IsCavity s p cells fan    the cells are exactly the live ones in conflict with p, each once, and the fan is the rim
---                             over which Delaunay cells with p stand; the store can put these in place of those
+--   IsCavity s p cells fan    the cells are exactly the live ones in conflict with p, each once, and `fan` is the boundary of
+--                             this region, over which Delaunay cells with p are put; the store can replace the cells so
 use Rattle.std.specs.Prelude.{ℕ, ◌<◌, ◌≤◌, List, length, Contains}
 use Rattle.tetra_store.specs.declared.fan.Facet.{Facet}
 use Rattle.tetra_store.specs.Links.{links_of, IsLive}
@@ -10,9 +10,9 @@ use Rattle.tetra_store.specs.Fan.{fan_facet, CanReplace}
 use Rattle.geo_sign.specs.Boxes.{IsInConflict}
 use Rattle.cell_laws.specs.Fans.{IsOnFan}
 
--- The cells are exactly those in conflict with p, each once (`can_replace` has that they are distinct). Each facet of the fan
--- is one over which a Delaunay cell with p stands. As soon as there is room, however much memory the store has taken, cells over
--- the fan can be put in place of these.
+-- The cells are exactly those in conflict with p, each once (`can_replace` states that they are distinct). Over each facet of
+-- the boundary there is a Delaunay cell with p. As soon as there is memory, however much the store has taken, cells over the
+-- boundary can replace these.
 pub record IsCavity (s : Store) (p : ℕ) (cells : List ℕ) (fan : List Facet) : Type 0 where
   pub live : (id : ℕ) → Contains cells id → IsLive (links_of s.slots) id
   pub conflict : (id : ℕ) → Contains cells id → IsInConflict (vertices_of s) p ((links_of s.slots).at id)

@@ -1,17 +1,18 @@
--- A flood over the links of cells, from cell to cell across facets. Sides are counted through the list of cells that were
--- reached: side k of the cell at index j is number 4 * j + k.
+-- A flood fill over the links of cells, from cell to adjacent cell. Sides are counted through the list of cells that were
+-- reached: side k of the cell at index j has the number 4 * j + k. The list `fan` has the boundary facets that were found.
 --
 --   AreMarked stamps round cells             exactly the cells reached are marked
---   facet_on f across                        a facet with the cell across it
---   IsReached, IsNewlyReached, IsLeft        the three ways to cross a facet: the cell across was reached before; it is
---                                            reached now; none in conflict is across, and the facet goes into the fan
---   IsCrossed v links p f across c g c' g'   the facet f was crossed in one of the three ways, from cells c and fan g to
+--   facet_on f across                        a facet with its adjacent cell
+--   IsReached, IsNewlyReached, IsLeft        the three ways to cross a facet: the adjacent cell was reached before; it is
+--                                            reached now; it is not in conflict or does not exist, and the facet is appended to
+--                                            the boundary
+--   IsCrossed v links p f across c g c' g'   the facet f was crossed in one of the three ways, from cells c and boundary g to
 --                                            c' and g'
---   IsRimAt v links p cells fan n i          fan facet i is that of a side that was crossed
---   HasFanFacet fan f across                 the fan has the facet f, with this cell across
---   IsPassed cells fan f across              the cell across was reached, or the facet is in the fan
+--   IsRimAt v links p cells fan n i          boundary facet i is that of a side that was crossed
+--   HasFanFacet fan f across                 the boundary has the facet f, with this adjacent cell
+--   IsPassed cells fan f across              the adjacent cell was reached, or the facet is on the boundary
 --   IsFlooding v links p from cells fan n    the first n sides of the cells reached were crossed
---   IsVisited v links p id c g c' g'         and the four sides of one cell more
+--   IsVisited v links p id c g c' g'         the four sides of one more cell were crossed too
 use Rattle.std.specs.Prelude.{ℕ, ◌≡◌, ◌<◌, ◌+◌, ◌*◌, ◌⊎◌, List, [], ◌∷◌, ◌++◌, Option, Some, length, slice_index, Contains}
 use Rattle.geo_sign.specs.Tetrahedron as geo
 use Rattle.geo_sign.specs.Tetrahedron.{facet_of, IsRotated}
@@ -27,11 +28,11 @@ pub record AreMarked (stamps : List ℕ) (round : ℕ) (cells : List ℕ) : Type
   pub listed : (x : ℕ) → IsMarked stamps round x → Contains cells x
   pub marked : (x : ℕ) → Contains cells x → IsMarked stamps round x
 
--- a facet with the cell across it
+-- a facet with its adjacent cell
 abbrev pub facet_on : List ℕ → Option ℕ → Facet
 facet_on f across = record { v = f; outer = across }
 
--- the cell across was reached before
+-- the adjacent cell was reached before
 pub record IsReached (across : Option ℕ) (cells : List ℕ) (fan : List Facet) (cells' : List ℕ)
     (fan' : List Facet) : Type 0 where
   pub cell : ℕ
@@ -40,7 +41,7 @@ pub record IsReached (across : Option ℕ) (cells : List ℕ) (fan : List Facet)
   pub cells_same : cells' ≡ cells
   pub fan_same : fan' ≡ fan
 
--- the cell across is in conflict, and is reached now
+-- the adjacent cell is in conflict, and is reached now
 pub record IsNewlyReached (v : Vertices) (links : Links) (p : ℕ) (across : Option ℕ) (cells : List ℕ) (fan : List Facet)
     (cells' : List ℕ) (fan' : List Facet) : Type 0 where
   pub cell : ℕ
@@ -50,7 +51,7 @@ pub record IsNewlyReached (v : Vertices) (links : Links) (p : ℕ) (across : Opt
   pub cells_more : cells' ≡ cells ++ cell ∷ []
   pub fan_same : fan' ≡ fan
 
--- no cell in conflict is across
+-- no adjacent cell is in conflict
 pub record IsLeft (v : Vertices) (links : Links) (p : ℕ) (f : List ℕ) (across : Option ℕ) (cells : List ℕ) (fan : List Facet)
     (cells' : List ℕ) (fan' : List Facet) : Type 0 where
   pub clear : (y : ℕ) → across ≡ Some y → IsClearOf v p (links.at y)
@@ -64,7 +65,7 @@ IsCrossed v links p f across cells fan cells' fan' =
     IsReached across cells fan cells' fan'
     ⊎ (IsNewlyReached v links p across cells fan cells' fan' ⊎ IsLeft v links p f across cells fan cells' fan')
 
--- fan facet i is that of a side before side n, and across it is no cell in conflict
+-- boundary facet i is that of a side before side n, and its adjacent cell, if there is one, is not in conflict
 pub record IsRimAt (v : Vertices) (links : Links) (p : ℕ) (cells : List ℕ) (fan : List Facet) (n i : ℕ) : Type 0 where
   pub cell : ℕ
   pub side : ℕ
@@ -75,19 +76,19 @@ pub record IsRimAt (v : Vertices) (links : Links) (p : ℕ) (cells : List ℕ) (
   pub outer : fan_outer fan i ≡ links.next (slice_index cells cell) side
   pub clear : (y : ℕ) → fan_outer fan i ≡ Some y → IsClearOf v p (links.at y)
 
--- a fan facet is this one, with this cell across
+-- a boundary facet is this one, with this adjacent cell
 pub record HasFanFacet (fan : List Facet) (f : geo.DirectedFacet) (across : Option ℕ) : Type 0 where
   pub facet : ℕ
   pub facet_in : facet < length fan
   pub is : fan_facet fan facet ≡ f
   pub outer : fan_outer fan facet ≡ across
 
--- across a side is a cell that was reached, or its facet is in the fan
+-- the adjacent cell was reached, or the facet is on the boundary
 abbrev pub IsPassed : (cells : List ℕ) (fan : List Facet) (f : geo.DirectedFacet) (across : Option ℕ) → Type 0
 IsPassed cells fan f across = ((y : ℕ) × (across ≡ Some y) × Contains cells y) ⊎ HasFanFacet fan f across
 
--- The cells reached have the first one, are live, in conflict and distinct. Of the first n sides each has been dealt with, the
--- fan has facets of such sides alone, and no facet twice.
+-- The cells reached contain the first one, are live, in conflict and distinct. Each of the first n sides was crossed, each
+-- boundary facet is that of one of these sides, and no facet occurs twice.
 pub record IsFlooding (v : Vertices) (links : Links) (p from : ℕ) (cells : List ℕ) (fan : List Facet) (n : ℕ) : Type 0 where
   pub start : Contains cells from
   pub live : (id : ℕ) → Contains cells id → IsLive links id
@@ -98,7 +99,7 @@ pub record IsFlooding (v : Vertices) (links : Links) (p from : ℕ) (cells : Lis
       → IsPassed cells fan (facet_of (links.at (slice_index cells j)) k) (links.next (slice_index cells j) k)
   pub once : (i j : ℕ) → i < length fan → j < length fan → IsRotated (fan_facet fan i) (fan_facet fan j) → i ≡ j
 
--- the four sides of the cell of this number, at whichever index it stands, were crossed too
+-- the four sides of the cell with this number, wherever it is in the list, were crossed too
 abbrev pub IsVisited : (v : Vertices) (links : Links) (p id : ℕ) (cells : List ℕ) (fan : List Facet) (cells' : List ℕ)
     (fan' : List Facet) → Type 0
 IsVisited v links p id cells fan cells' fan' =

@@ -1,4 +1,4 @@
-//! What a flood fills, and the call that fills it.
+//! The conflict region of a vertex, and the call that finds it.
 
 ghost use Rattle.std.specs.Prelude.{◌≡◌, ◌<◌, false, [], OnOk, OnErr, length, slice_index_or};
 ghost use Rattle.tetra_store.specs.Links.{links_of, IsLive};
@@ -14,28 +14,28 @@ use smallvec::SmallVec;
 use std::alloc::Global;
 use tetra_store::{CellId, Facet, Tetra};
 
-/// A list of cells. As many as most cavities have stand in the value itself, and take no memory.
+/// A list of cells. The value itself has room for most cavities, without a heap allocation.
 pub type CellList = SmallVec<CellId, 32>;
 
-/// A list of facets. As many as most cavities have stand in the value itself, and take no memory.
+/// A list of facets. The value itself has room for most cavities, without a heap allocation.
 pub type FacetList = SmallVec<Facet, 64>;
 
-/// The cells in conflict with a vertex, and the fan over which cells with it are put: the facets of these cells, directed as they
-/// are there, across which there is no cell in conflict, each with the cell across it, of which there is none on a wall of the box.
+/// The cells in conflict with a vertex (the conflict region), and the facets on its boundary, directed as in these cells. Each
+/// boundary facet comes with its adjacent cell, which is not in conflict; a facet on a wall of the box has none.
 ///
-/// It may be filled again and again, and keeps its memory. Only `cavity_of` fills it.
+/// It can be filled any number of times, and keeps its memory. Only `cavity_of` fills it.
 #[derive(Drop)]
 pub struct Cavity {
     /// The cells in conflict.
     pub cells: CellList,
-    /// The facets round them.
+    /// The boundary facets.
     pub fan: FacetList,
     // The numbers of the cells that the last flood reached.
     pub(crate) marks: Marks,
 }
 
 impl Cavity {
-    /// No cells and no facets. It takes no memory.
+    /// Returns an empty cavity. Allocates no memory.
     pub fn new(alloc: Global) -> Cavity
         ensures cells { result.cells.items ≡ [] }
         ensures fan { result.fan.items ≡ [] }
@@ -47,7 +47,7 @@ impl Cavity {
         }
     }
 
-    /// Takes all cells and facets out, and keeps the memory.
+    /// Removes all cells and facets, and keeps the memory.
     pub fn clear(&mut self)
         ensures cells { self.new.cells.items ≡ [] }
         ensures fan { self.new.fan.items ≡ [] }
@@ -57,9 +57,9 @@ impl Cavity {
     }
 }
 
-/// Finds the cells in conflict with a vertex that is not inserted yet, from one of them, and the fan over which cells with it are to
-/// be put. What stood in `into` before goes. The cells are all those in conflict, each once, and the fan is what `Tetra::replace`
-/// asks for. The only error is want of memory, and after it `into` is empty.
+/// Finds the cells in conflict with a vertex that is not inserted yet, from one of them, and the boundary of this region, over
+/// which the new cells are put. The previous content of `into` is lost. The result has each cell in conflict exactly once, and
+/// its boundary is what `Tetra::replace` requires. The only error is out of memory, and after it `into` is empty.
 pub fn cavity_of(t: &Tetra, p: u32, from: CellId, into: &mut Cavity) -> Result<(), NoMemory>
     requires delaunay { IsDelaunay (vertices_of t.now) (links_of t.now.slots) }
     requires below { p < length t.now.points }

@@ -1,4 +1,4 @@
-//! The flood across facets, from one cell in conflict to all.
+//! The flood fill through facets, from one cell in conflict to all.
 
 ghost use Rattle.std.specs.Prelude.{◌≡◌, ◌<◌, ◌+◌, ◌*◌, ◌↔◌, false, IsTrue, IsFalse, OnOk, Some, [], length, slice_index_or};
 ghost use Rattle.std.specs.Option.{ForSome};
@@ -12,7 +12,7 @@ use crate::cavity::Cavity;
 use geo_tie::conflict;
 use tetra_store::{CellId, Facet, Tetra};
 
-/// Whether a vertex that is not inserted yet is in conflict with a cell.
+/// Returns whether a vertex that is not inserted yet is in conflict with a cell.
 #[inline(never)]
 pub(crate) fn is_in_conflict(t: &Tetra, id: CellId, p: u32) -> bool
     requires below { p < length t.now.points }
@@ -34,8 +34,8 @@ pub(crate) fn is_in_conflict(t: &Tetra, id: CellId, p: u32) -> bool
     )
 }
 
-/// Crosses a facet of a reached cell: reaches the cell across where it is in conflict and was not reached before, and where it is
-/// not in conflict, or there is none, puts the facet into the fan.
+/// Crosses a facet of a reached cell: reaches the adjacent cell if it is in conflict and was not reached before; puts the facet
+/// on the boundary if the adjacent cell is not in conflict or does not exist.
 #[inline(always)]
 fn cross(
     into: &mut Cavity,
@@ -78,7 +78,7 @@ fn visit(into: &mut Cavity, t: &Tetra, p: u32, id: CellId) -> Result<(), NoMemor
     ensures marked { OnOk result (AreMarked into.new.marks.stamps.items into.new.marks.round into.new.cells.items) }
 {
     t.facts();
-    // The neighbors are all read before the first is visited, so that the cell is looked up once.
+    // All adjacent cells are read before the first is visited, so that the cell is looked up once.
     let [a, b, c, d] = t.cell(id).v;
     let w = t.across(id, 0);
     let x = t.across(id, 1);

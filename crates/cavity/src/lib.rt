@@ -1,13 +1,13 @@
-//! The cavity of a vertex that is about to be inserted: the Delaunay cells in conflict with it, and the fan of facets round them, over
-//! which the cells with the vertex are put.
+//! The cavity of a vertex that is about to be inserted: the Delaunay cells in conflict with it, and the boundary of this
+//! region, over which the cells with the vertex are put.
 //!
-//! This is the first half of an insertion as Bowyer and Watson (1981) describe it: the cells whose spheres contain the new vertex are
-//! connected across facets, so a flood from any one of them finds all. Here a tie on a sphere is decided by the tie rule, so the
-//! cells in conflict are never ambiguous. The flood looks once at each facet of each cell that it reaches, and tells the cells that
-//! it has reached by marks: its time is linear in the cavity, whatever its size. What one flood leaves of its memory the next one uses.
+//! This is the first half of an insertion as Bowyer and Watson (1981) describe it: the cells whose spheres contain the new
+//! vertex are connected through facets, so a flood fill from any one of them finds all. Symbolic perturbation breaks ties on a
+//! sphere, so the cells in conflict are unique. The flood tests each facet of each reached cell once, and marks the cells that
+//! it has reached: its time is linear in the size of the cavity. The next flood reuses the memory of the last.
 //!
-//! The cells stay as they are: to take them out and put others in is the store's. The crate stands on `tetra_store` (linked cells),
-//! `geo_tie` (the test for conflict), the laws of `cell_laws`, and the kit's `smallvec`.
+//! The cells do not change: the store removes and adds cells. The crate depends on `tetra_store` (linked cells), `geo_tie` (the
+//! test for conflict), the theorems of `cell_laws`, and the kit's `smallvec`.
 #![tactic(auto)]
 
 mod cavity;
@@ -17,5 +17,5 @@ mod marks;
 pub use cavity::{Cavity, CellList, FacetList, cavity_of};
 use std::alloc::AllocError;
 
-/// Want of memory: the one answer that any input may get.
+/// Out of memory: the one error that any input may cause.
 pub type NoMemory = AllocError;

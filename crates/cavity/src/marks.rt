@@ -1,4 +1,4 @@
-//! Marks of numbers, all of which are taken away at once.
+//! Marks of numbers, all removed at once in constant time.
 
 ghost use Rattle.std.specs.Prelude.{◌≡◌, ◌↔◌, ◌⊎◌, ℕ, IsTrue, OnOk};
 ghost use Rattle.cavity.specs.Marks.{AreStamps, IsMarked};
@@ -6,8 +6,8 @@ ghost use Rattle.cavity.specs.Marks.{AreStamps, IsMarked};
 use crate::NoMemory;
 use std::alloc::Global;
 
-/// Which numbers are marked: those whose stamp is that of the current round. So all marks are taken away in constant time, and a mark
-/// takes memory only where it is on a number above all that were marked before.
+/// Which numbers are marked: those whose entry is the number of the current round. So clearing takes constant time, and a mark
+/// allocates memory only if its number is above all that were marked before.
 #[derive(Drop)]
 pub(crate) struct Marks {
     stamps: Vec<u32>,
@@ -16,7 +16,7 @@ pub(crate) struct Marks {
 }
 
 impl Marks {
-    /// No marks.
+    /// Returns an empty set of marks.
     pub(crate) fn new(alloc: Global) -> Marks
         ensures { (x : ℕ) → IsMarked result.stamps.items result.round x → ⊥ }
     {
@@ -26,7 +26,7 @@ impl Marks {
         }
     }
 
-    /// Takes all marks away.
+    /// Removes all marks.
     pub(crate) fn clear(&mut self)
         ensures { (x : ℕ) → IsMarked self.new.stamps.items self.new.round x → ⊥ }
     {
@@ -37,7 +37,7 @@ impl Marks {
         self.round += 1;
     }
 
-    /// Whether a number is marked.
+    /// Returns whether a number is marked.
     pub(crate) fn has(&self, x: usize) -> bool
         ensures { IsTrue result ↔ IsMarked self.now.stamps.items self.now.round x }
     {

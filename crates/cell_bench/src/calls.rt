@@ -1,10 +1,10 @@
-//! Calls of `cell` and `across`.
+//! Benchmarks of `cell` and `across`.
 
 ghost use Rattle.tetra_store.specs.Links.{links_of, IsLive};
 
 use tetra_store::{CellId, Tetra};
 
-/// What calls came to: how many there were, and the sum of what they answered.
+/// The number of calls, and the sum of their results.
 #[derive(Clone, Copy, Debug, Default, PartialEq, Eq)]
 pub(crate) struct Answers {
     pub calls: u64,
@@ -12,7 +12,7 @@ pub(crate) struct Answers {
 }
 
 impl Answers {
-    /// With one call more, which answered a number.
+    /// Returns the counts with one more call, which returned a number.
     pub(crate) fn and(self, number: usize) -> Answers {
         Answers {
             calls: self.calls.wrapping_add(1),
@@ -20,7 +20,7 @@ impl Answers {
         }
     }
 
-    /// With those of other calls.
+    /// Returns the sum with those of other calls.
     pub(crate) fn with(self, others: Answers) -> Answers {
         Answers {
             calls: self.calls.wrapping_add(others.calls),
@@ -29,15 +29,15 @@ impl Answers {
     }
 }
 
-/// The next of a row of numbers with no pattern in their high bits.
+/// Returns the next number of a sequence without a pattern in the high bits.
 fn next_number(number: u64) -> u64 {
     number
         .wrapping_mul(6_364_136_223_846_793_005)
         .wrapping_add(1_442_695_040_888_963_407)
 }
 
-/// Reads a cell and goes across one of its sides, so many times, each time a side that has no pattern. On a wall it stays. It sums the
-/// numbers of the cells and of their first vertices.
+/// Reads a cell and moves to an adjacent cell, this number of times, each time through a pseudo-random side. On a wall it
+/// stays. It sums the numbers of the cells and of their first vertices.
 pub(crate) fn go_round(t: &Tetra, from: CellId, steps: u64) -> Answers
     requires { IsLive (links_of t.now.slots) from }
 {

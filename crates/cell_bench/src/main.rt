@@ -1,8 +1,10 @@
-//! Times the calls of linked cells in which most time goes: `cell` and `across`, `replace` of the two cells at a facet, and the steps of
-//! walks along sights; over the cells of a cube's faces, of a noisy sphere and of a flat lattice, each made from fixed numbers.
+//! Benchmarks the most expensive calls of linked cells: `cell` and `across`, `replace` of the two cells at a facet, and the
+//! steps of walks along sights; over the cells of a cube's faces, of a noisy sphere and of a flat lattice, each generated from
+//! fixed seeds.
 //!
-//! Without a word it makes few points and prints what the calls came to, in counts and sums that are the same at every run and on every
-//! machine. With a word, the number of points, it takes as many and prints nanoseconds a call as well: `cell_bench 100000`.
+//! Without an argument it uses few points and prints the number of calls and the sum of their results, which are the same in
+//! every run and on every machine. With an argument, the number of points, it also prints nanoseconds a call: `cell_bench
+//! 100000`.
 #![tactic(auto)]
 
 ghost use Rattle.std.specs.Prelude.{◌≤◌, All};
@@ -30,25 +32,25 @@ use std::env;
 use std::time::{Clock, Instant};
 use tetra_store::Tetra;
 
-/// Want of memory.
+/// Out of memory.
 pub(crate) type NoMemory = AllocError;
 
-/// The number that the generated scans are made of.
+/// The seed of the generated scans.
 const SEED: u64 = 7;
 
-/// How many points there are where no word says it.
+/// The number of points without an argument.
 const FEW_POINTS: u32 = 500;
 
-/// How many calls of `cell` and `across` there are then.
+/// The number of calls of `cell` and `across` in that case.
 const FEW_CALLS: u64 = 10_000;
 
-/// How many calls of `cell` and `across` are timed.
+/// The number of calls of `cell` and `across` that are timed.
 const MANY_CALLS: u64 = 10_000_000;
 
-/// The most points that a word may ask for.
+/// The maximal number of points that an argument may ask for.
 const MOST_POINTS: u32 = 1_000_000;
 
-/// How many calls, with their sum, and how long each took where that is asked for.
+/// Prints the number of calls, the sum of their results, and the time of each call if requested.
 fn report<R: Print>(
     rt: &R,
     what: &str,
@@ -64,7 +66,7 @@ fn report<R: Print>(
     Ok(())
 }
 
-/// Calls of `cell` and `across` over these points' cells, and walks along the sights of a scan, of whose rows they are the points.
+/// Benchmarks calls of `cell` and `across` over these points' cells, and walks along the sights of a scan with these points.
 fn time_seen<R: Print + Clock>(
     rt: &R,
     alloc: Global,
@@ -95,7 +97,7 @@ fn time_seen<R: Print + Clock>(
     report(rt, "crossings", walked, nanos, timed)
 }
 
-/// Replacements of the two cells at each upright triangle of a flat lattice, so many points a side.
+/// Benchmarks replacements of the two cells at each upright triangle of a flat lattice with this number of points a side.
 fn time_replaced<R: Print + Clock>(
     rt: &R,
     alloc: Global,
@@ -116,7 +118,7 @@ fn time_replaced<R: Print + Clock>(
     report(rt, "replace of other counts", splits.others, 0, false)
 }
 
-/// All of it, with so many points each.
+/// Runs all benchmarks, with this number of points each.
 fn time_all<R: Print + Clock>(rt: &R, alloc: Global, count: u32, timed: bool) -> anyhow::Result<()>
     requires least { 1 ≤ count }
     requires most { count ≤ MOST_POINTS }
@@ -131,7 +133,7 @@ fn time_all<R: Print + Clock>(rt: &R, alloc: Global, count: u32, timed: bool) ->
     time_replaced(rt, alloc, side_of(count), timed)
 }
 
-/// How many points a side a flat lattice has, so that with the inner points there are about so many.
+/// Returns the number of points a side of a flat lattice that has, with the inner points, about this number of points.
 fn side_of(count: u32) -> u32 {
     let mut side: u32 = 1;
     for step in [512, 256, 128, 64, 32, 16, 8, 4, 2, 1] {

@@ -1,4 +1,4 @@
-//! The points whose cells are timed.
+//! The points whose cells are benchmarked.
 
 ghost use Rattle.std.specs.Prelude.{◌≡◌, ◌<◌, ◌≤◌, ◌≤ℤ◌, ℕ, pos, IfOk, All, length, get_or};
 ghost use Rattle.geo_sign.specs.declared.point.TheConstants.{DATA_LIMIT};
@@ -12,16 +12,16 @@ use merge::{Merged, merge};
 use std::alloc::Global;
 use tetra_store::VERTEX_LIMIT;
 
-/// How far the sphere's points are from the middle, but for errors.
+/// The radius of the sphere, without noise.
 const RADIUS: i64 = 1_000;
 
-/// The errors are from this much too near to as much too far.
+/// The noise is between minus and plus this number.
 const ERROR: i64 = 4;
 
-/// How far the two tips of the flat points are from their plane.
+/// The distance of the two tips of the flat points from their plane.
 const TIP: i64 = 1_000_000;
 
-/// The whole root of a number, if it is below 2^13.
+/// Returns the integer square root of a number, if it is below 2^13.
 fn root(square: u64) -> i64
     ensures { pos 1 ≤ℤ result }
 {
@@ -35,14 +35,14 @@ fn root(square: u64) -> i64
     if root == 0 { 1 } else { i64::from(root) }
 }
 
-/// A coordinate at that reach, of a vector of this length.
+/// Scales a coordinate of a vector of this length to this reach.
 fn scaled(coordinate: i64, reach: i64, length: i64) -> i64
     requires { pos 1 ≤ℤ length }
 {
     coordinate.wrapping_mul(reach) / length
 }
 
-/// The place towards a point on the sphere, with an error by a number.
+/// Returns the point on the sphere in this direction, with noise from a number.
 fn rounded(p: Point, number: i64) -> Point
     requires { IsWithin DATA_LIMIT p }
     ensures { IsWithin DATA_LIMIT result }
@@ -64,7 +64,7 @@ fn rounded(p: Point, number: i64) -> Point
     }
 }
 
-/// The same points on a sphere, each with an error.
+/// Returns the same points on a sphere, each with noise.
 pub(crate) fn on_sphere(alloc: Global, points: &[Point]) -> Result<Vec<Point>, NoMemory>
     requires { All (IsWithin DATA_LIMIT) points.now }
     ensures within { IfOk result (λ made. All (IsWithin DATA_LIMIT) made.items) }
@@ -81,7 +81,7 @@ pub(crate) fn on_sphere(alloc: Global, points: &[Point]) -> Result<Vec<Point>, N
     Ok(made)
 }
 
-/// Adds the data point with these coordinates.
+/// Appends the data point with these coordinates.
 fn push(points: &mut Vec<Point>, x: i64, y: i64, z: i64) -> Result<(), NoMemory>
     requires { All (IsWithin DATA_LIMIT) points.old.items }
     ensures { All (IsWithin DATA_LIMIT) points.new.items }
@@ -92,7 +92,7 @@ fn push(points: &mut Vec<Point>, x: i64, y: i64, z: i64) -> Result<(), NoMemory>
     Ok(())
 }
 
-/// Adds points of a flat lattice of triangles, moved by these steps, so many a side.
+/// Appends points of a flat lattice of triangles, moved by these steps, with this number of points a side.
 fn push_lattice(points: &mut Vec<Point>, side: u32, x: i64, y: i64) -> Result<(), NoMemory>
     requires moved { (pos 0 ≤ℤ x) × (x ≤ℤ pos 100) × (pos 0 ≤ℤ y) × (y ≤ℤ pos 100) }
     requires within { All (IsWithin DATA_LIMIT) points.old.items }
@@ -107,11 +107,10 @@ fn push_lattice(points: &mut Vec<Point>, side: u32, x: i64, y: i64) -> Result<()
     Ok(())
 }
 
-/// A flat lattice of triangles between two tips, and behind these points one in each triangle that stands upright: the point in which
-/// the triangle's heights meet.
+/// Returns a flat lattice of triangles between two tips, followed by one point in each upright triangle: its orthocentre.
 ///
-/// Each triangle is a facet between two cells, one to each tip. The spheres of all other cells have the inner point outside or on them. So
-/// where the points are inserted in this order, each inner one is in conflict with these two cells alone.
+/// Each triangle is a facet between two cells, one to each tip. The spheres of all other cells have the inner point outside or
+/// on them. So if the points are inserted in this order, each inner one is in conflict with these two cells alone.
 pub(crate) fn flat(alloc: Global, side: u32) -> Result<Vec<Point>, NoMemory>
     ensures { IfOk result (λ points. All (IsWithin DATA_LIMIT) points.items) }
 {
@@ -123,7 +122,7 @@ pub(crate) fn flat(alloc: Global, side: u32) -> Result<Vec<Point>, NoMemory>
     Ok(points)
 }
 
-/// The distinct points of some, in the order in which they come. More than a store holds are an error.
+/// Returns the distinct points of some, in the order of their first occurrence. More points than a store holds are an error.
 pub(crate) fn merged(alloc: Global, points: &[Point]) -> anyhow::Result<Merged>
     requires { All (IsWithin DATA_LIMIT) points.now }
     ensures within { IfOk result (λ merged. (k : ℕ) → k < length merged.points.items → IsWithin DATA_LIMIT (get_or merged.points.items k origin)) }

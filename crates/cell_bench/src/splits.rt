@@ -1,4 +1,4 @@
-//! Replacements of the two cells at a facet.
+//! Benchmarks of replacing the two cells at a facet.
 
 ghost use Rattle.std.specs.Prelude.{◌≡◌, ◌<◌, false, OnOk, IfOk, length, slice_index_or};
 ghost use Rattle.tetra_store.specs.Links.{links_of, IsLive};
@@ -13,7 +13,7 @@ use std::time::{Clock, Instant};
 use tetra_store::{CellId, Tetra};
 use tetra_walk::locate;
 
-/// What replacements came to: those of two cells by six, how many nanoseconds they took, and those of other counts.
+/// The number of replacements of two cells by six, their time in nanoseconds, and the number of other replacements.
 #[derive(Clone, Copy, Debug, Default)]
 pub(crate) struct Splits {
     pub of_two: Answers,
@@ -22,7 +22,7 @@ pub(crate) struct Splits {
 }
 
 impl Splits {
-    /// With one replacement more, of so many cells, by one of this number among others.
+    /// Returns the counts with one more replacement, of `old` cells by cells over `fan` facets.
     fn and(self, old: usize, fan: usize, id: CellId, nanos: u64) -> Splits {
         if old == 2 && fan == 6 {
             Splits {
@@ -69,7 +69,7 @@ pub(crate) fn split(
     Ok(id)
 }
 
-/// Inserts all vertices that are not inserted, from the first on.
+/// Inserts all vertices that are not inserted, in ascending order.
 pub(crate) fn split_all(clock: &impl Clock, alloc: Global, t: &mut Tetra) -> anyhow::Result<Splits>
     requires { IsDelaunay (vertices_of t.old) (links_of t.old.slots) }
 {

@@ -18,14 +18,14 @@ use std::alloc::Global;
 use tetra_store::{CellId, Tetra};
 use tetra_walk::locate_scanner;
 
-/// Whether a vertex is an inserted data point.
+/// Returns whether a vertex is an inserted data point.
 pub(crate) fn is_data(t: &Tetra, v: u32) -> bool
     ensures { IsTrue result → (CORNERS ≤ v) × Has (vertices_of t.now) v }
 {
     v >= CORNERS && v < t.vertex_count() && t.is_inserted(v)
 }
 
-/// The number of a cell at a vertex, and 0 where it has none.
+/// Returns the number of a cell at a vertex, or 0 if it has none.
 fn place_of(t: &Tetra, v: u32) -> usize {
     if is_data(t, v) {
         t.cell_at(v).number()
@@ -34,8 +34,8 @@ fn place_of(t: &Tetra, v: u32) -> usize {
     }
 }
 
-/// The vertices that a scanner sees, those near each other mostly one after another: by the numbers of cells at them. `of_row` has the
-/// index of each row's point.
+/// Returns the vertices that a scanner sees, sorted by the number of a cell at them, so that successive ones are mostly near.
+/// `of_row` has the index of each row's point.
 pub(crate) fn seen_by(
     alloc: Global,
     t: &Tetra,
@@ -55,7 +55,7 @@ pub(crate) fn seen_by(
     Ok(seen)
 }
 
-/// Walks along a sight, whose scanner's cell is known, and sums the numbers of the sides through which it comes into cells.
+/// Walks along a sight to a scanner with a known cell, and sums the numbers of the entry sides of cells.
 fn walk_from(t: &Tetra, v: u32, s: Point, end: CellId) -> Answers
     requires delaunay { IsDelaunay (vertices_of t.now) (links_of t.now.slots) }
     requires inserted { Has (vertices_of t.now) v }

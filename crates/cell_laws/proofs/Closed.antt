@@ -2,7 +2,7 @@
 -- the list the cell that is highest over this place has it, since else there would be a higher one across a facet, in the list
 -- too. The place lies strictly in one cell alone, so the cell is in the list.
 -- Stands on: Cover, and Flood (a place lies strictly in one cell).
-use Rattle.std.proofs.Common.{ℕ, ◌≡◌, sym, subst, ◌⊎◌, inl, inr, arith, pos, ◌+ℤ◌, ◌≤ℤ◌, ◌<ℤ◌, List, []}
+use Rattle.std.proofs.Common.{[], ℕ, ◌≡◌, sym, subst, ◌⊎◌, inl, inr, arith, pos, ◌+ℤ◌, ◌≤ℤ◌, ◌<ℤ◌, List}
 use Rattle.std.proofs.lemmas.Int.{ints}
 use Rattle.geo_sign.specs.Polynomial.{constant, sum}
 use Rattle.geo_sign.proofs.Ring.{ring}
@@ -14,11 +14,11 @@ use Rattle.geo_sign.specs.Cells.{IsCell}
 use Rattle.geo_sign.specs.Tetrahedron.{Tetrahedron, tetrahedron}
 use Rattle.geo_sign.specs.Vertices.{Vertices}
 use Rattle.geo_sign.specs.Places.{IsStrictlyIn}
-use Rattle.cell_laws.specs.Lists.{IsFull, IsIn, IsJoined}
+use Rattle.cell_laws.specs.Lists.{IsFull, IsIn}
 use Rattle.geo_sign.specs.Writings.{IsRewritten}
 use Rattle.geo_sign.proofs.Exchanges.{turned_orientation}
 use Rattle.geo_sign.proofs.Rewritings.{IsCellOf, orientation_at, same_cell}
-use Rattle.cell_laws.proofs.Cover.{cover}
+use Rattle.cell_laws.proofs.Cover.{IsJoined, cover}
 use Rattle.cell_laws.proofs.Flood.{holds_one}
 use Rattle.cell_laws.proofs.Regions.{IsGeneric, IsOuter}
 use Rattle.cell_laws.proofs.Ways.{beside, strictly}

@@ -7,22 +7,21 @@
 --
 -- Stands on: Sums (pairs), CutSides, NamedBack (a facet and the turned one name each other) and RimLists (a cell's facets are
 -- different).
-use Rattle.std.proofs.Common.{ℕ, ◌+◌, ◌<◌, ◌≡◌, refl, sym, ap, subst, ◌∙◌, arith, Bool, true, false, true≢false, not, ◌&&◌}
-use Rattle.std.proofs.Common.{Option, Some, None, List, [], ◌∷◌}
+use Rattle.std.proofs.Common.{[], ℕ, ◌+◌, ◌<◌, ◌≡◌, refl, sym, ap, subst, ◌∙◌, arith, Bool, true, false, true≢false, not, ◌&&◌}
+use Rattle.std.proofs.Common.{Option, Some, None, List, ◌∷◌}
 use Rattle.std.proofs.lemmas.Bool.{and_parts, and_from, not-true, not_from_false}
 use Rattle.std.proofs.lemmas.List.Sums.{sum_by-cons}
 use Rattle.geo_sign.specs.declared.point.TheConstants.{CORNERS}
 use Rattle.geo_sign.specs.Tetrahedron.{Tetrahedron, DirectedFacet, facet_of, IsRotated}
 use Rattle.cell_laws.specs.ClosedLaws.{edges_of, edge_count, facets_at, HasNoCorner, IsCutList, ClosedLaw}
-use Rattle.cell_laws.specs.LinkLaws.{IsNamedBack}
 use Rattle.cell_laws.specs.Links.{Side}
 use Rattle.cell_laws.specs.Lists.{IsIn}
 use Rattle.geo_sign.proofs.Rotations.{turned_back, turned_turned}
 use Rattle.cell_laws.proofs.CutSides.{edges_turned, boundary, side_at, all_sides, side_listed, listed_side, sides_once}
 use Rattle.cell_laws.proofs.CutSides.{is_turned, turned_means, means_turned, is_same_side, same_side_means, same_side_is}
 use Rattle.cell_laws.proofs.CutSides.{is_inside, corner_first}
-use Rattle.cell_laws.proofs.NamedBack.{back_law}
-use Rattle.cell_laws.proofs.RimLists.{one_side}
+use Rattle.cell_laws.proofs.NamedBack.{IsNamedBack, back_law}
+use Rattle.cell_laws.proofs.OneFacet.{one_side}
 use Rattle.cell_laws.proofs.Sums.{IsOnce, once_pairs, named_once, named_in, in_named, named_is_once, total, pick, sum_same}
 use Rattle.cell_laws.proofs.Sums.{sum_plus, paired}
 

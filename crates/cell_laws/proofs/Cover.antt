@@ -3,8 +3,8 @@
 -- would be no outer one, so there would be a cell across, and it would be higher over the place. A vertex lies in a cell by
 -- this, and is one of its four, since it would be in conflict with the cell otherwise.
 -- Stands on: Best, Wrap, Fan and Ways.
-use Rattle.std.proofs.Common.{ℕ, zero, suc, ◌<◌, ◌≤◌, ◌≡◌, refl, sym, subst, ◌∙◌, ◌⊎◌, inl, inr, ⊎_elim, arith, Bool, true}
-use Rattle.std.proofs.Common.{false, true≢false, pos, neg_ℤ, ◌*ℤ◌, ◌≤ℤ◌, ◌<ℤ◌, List, [], ◌∷◌, ◌++◌}
+use Rattle.std.proofs.Common.{[], ℕ, zero, suc, ◌<◌, ◌≤◌, ◌≡◌, refl, sym, subst, ◌∙◌, ◌⊎◌, inl, inr, ⊎_elim, arith, Bool, true}
+use Rattle.std.proofs.Common.{false, true≢false, pos, neg_ℤ, ◌*ℤ◌, ◌≤ℤ◌, ◌<ℤ◌, List, ◌∷◌, ◌++◌}
 use Rattle.std.proofs.lemmas.Int.{ints, by_lt_z}
 use Rattle.std.proofs.lemmas.Bool.{cases_lt}
 use lib.IntN.{*ℤ_comm}
@@ -14,7 +14,7 @@ use Rattle.geo_sign.specs.Tetrahedron.{Tetrahedron, tetrahedron}
 use Rattle.geo_sign.specs.Vertices.{Has, orientation_of, Vertices}
 use Rattle.geo_sign.specs.Places.{IsLyingIn}
 use Rattle.cell_laws.specs.Lifts.{lift_of}
-use Rattle.cell_laws.specs.Lists.{IsFull, IsIn, IsJoined}
+use Rattle.cell_laws.specs.Lists.{AreCells, IsFull, IsIn}
 use Rattle.geo_sign.specs.Writings.{IsVertexOf, IsRewritten}
 use Rattle.geo_sign.proofs.Rewritings.{IsCellOf, orientation_at, power_at, same_cell, same_orientation}
 use Rattle.geo_sign.proofs.Exchanges.{point_side}
@@ -26,6 +26,13 @@ use Rattle.cell_laws.proofs.Order.{IsLater, walk_step}
 use Rattle.cell_laws.proofs.Regions.{IsConvex, IsGeneric, IsOuter}
 use Rattle.cell_laws.proofs.Ways.{beside, lying, same_lift}
 use Rattle.cell_laws.proofs.Wrap.{across, below, below_has}
+
+-- with each cell the list has those across its facets
+pub record IsJoined {X : Type 0} (v : Vertices) (live : List X) (cell : X → Tetrahedron) : Type 0 where
+  pub cells : AreCells v live cell
+  pub next :
+      (x : X) (a b c d e : ℕ) → IsIn live x → IsRewritten (cell x) (tetrahedron a b c d) → IsCell v a c b e →
+      (y : X) × IsIn live y × IsRewritten (cell y) (tetrahedron a c b e)
 
 highest :
     {X : Type 0} (v : Vertices) → IsGeneric v → (q : RationalPoint)

@@ -1,40 +1,36 @@
 -- The laws of cells, of one vertex more and of linked cells, as specs/ states them.
 -- Stands on: the lemmas of Wrap to LinkedCells, with Heights, Box and Goal for what those suppose.
-use Rattle.std.proofs.Common.{ℕ, ◌≡◌, refl, sym, ◌∙◌, pos, true≢false, Option, Some, None, inl, inr, ⊎_elim}
+use Rattle.std.proofs.Common.{ℕ, ◌≡◌, List, Bool, true, sym, ◌∙◌, pos, true≢false, Option, inl, inr, ⊎_elim}
 use Rattle.std.proofs.lemmas.Int.{by_lt_z}
 use Rattle.geo_sign.specs.Rational.{displaced, RationalPoint}
 use Rattle.geo_sign.specs.Cells.{IsCell}
-use Rattle.geo_sign.specs.Tetrahedron.{DirectedFacet, facet_of, Tetrahedron, tetrahedron}
-use Rattle.geo_sign.specs.Vertices.{IsWall, Vertices}
-use Rattle.geo_sign.specs.Boxes.{IsBoxed, with_vertex}
+use Rattle.geo_sign.specs.Tetrahedron.{Tetrahedron}
+use Rattle.geo_sign.specs.Vertices.{Vertices}
+use Rattle.geo_sign.specs.Boxes.{IsBoxed, IsInConflict, IsNew}
 use Rattle.geo_sign.specs.Places.{IsInBox, IsLyingIn}
-use Rattle.cell_laws.specs.CellLaws.{AcrossLaw, ConvexLaw, EnvelopeLaw, GenericLaw, JoinedLaw, OneLaw}
-use Rattle.cell_laws.specs.InsertionLaws.{EdgeLaw, FanLaw, FloodLaw, InsertLaw, StayLaw, VertexLaw}
-use Rattle.cell_laws.specs.LinkLaws.{CavityLaw, FloodedLaw, FoundLaw, LinkedLaw, ReplaceLaw, RimLaw, WallLaw}
-use Rattle.cell_laws.specs.Links.{IsBackAt}
-use Rattle.cell_laws.specs.Lists.{IsListing}
+use Rattle.cell_laws.specs.CellLaws.{AcrossLaw, EnvelopeLaw, GenericLaw, OneLaw}
+use Rattle.cell_laws.specs.InsertionLaws.{EdgeLaw, FanLaw, FloodLaw, StayLaw, VertexLaw}
+use Rattle.cell_laws.specs.LinkLaws.{CavityLaw, FoundLaw, LinkedLaw, RimLaw}
+use Rattle.cell_laws.specs.Links.{AreLinked, IsFlooded}
+use Rattle.cell_laws.specs.Lists.{AreCells, IsIn, IsListing}
 use Rattle.geo_sign.specs.Writings.{IsVertexOf}
-use Rattle.geo_sign.proofs.Rewritings.{power_at, same_cell}
+use Rattle.geo_sign.proofs.Rewritings.{power_at}
 use Rattle.cell_laws.proofs.Box.{data_inner, outer_wall}
-use Rattle.cell_laws.proofs.Closed.{closed_full, outer_none}
+use Rattle.cell_laws.proofs.Closed.{outer_none}
 use Rattle.cell_laws.proofs.Cover.{each_place}
 use Rattle.cell_laws.proofs.Edges.{fan_edges}
-use Rattle.cell_laws.proofs.Fan.{cell_fan, fan_before, fan_cell, fan_next, fan_once, not_in, stays, stays_cell, was_cell}
+use Rattle.cell_laws.proofs.Fan.{cell_fan, fan_before, fan_cell, fan_next, fan_once, not_in, stays_cell, was_cell}
 use Rattle.cell_laws.proofs.Flood.{above, flood, holds_one}
 use Rattle.cell_laws.proofs.Goal.{goal, wall_outer}
 use Rattle.cell_laws.proofs.Heights.{tied_convex, tied_generic}
-use Rattle.cell_laws.proofs.Insert.{inserted, made_cells}
 use Rattle.cell_laws.proofs.Inside.{box_inside}
-use Rattle.cell_laws.proofs.LinkedCells.{back_same, facet_same, fan_link, flooded_closed, from_facet, link_fan, linked_listing}
+use Rattle.cell_laws.proofs.LinkedCells.{fan_link, flooded_closed, link_fan, linked_listing}
 use Rattle.cell_laws.proofs.Regions.{IsInner, IsOuter}
 use Rattle.cell_laws.proofs.Rim.{fan_some, fan_spin, vertex_kept}
 use Rattle.cell_laws.proofs.Wrap.{across, one_over}
 
 pub generic_law : GenericLaw
 generic_law v x a b c d u ha hb hc hd hu o e = tied_generic v x a b c d u ha hb hc hd hu o e
-
-pub convex_law : ConvexLaw
-convex_law v x t u ha hb hc hd hu o l k = tied_convex v x t u ha hb hc hd hu o l k
 
 pub envelope_law : EnvelopeLaw
 envelope_law v t r q ht hr l = above v t r q ht hr l
@@ -62,9 +58,6 @@ placed v x a b c d k q h = each_place v (tied_generic v x) a b c d k q (λ i j l
 pub one_law : OneLaw
 one_law v x t r q ht hr l k = holds_one v (tied_generic v x) t r q ht hr l k
 
-pub joined_law : JoinedLaw
-joined_law v x live cell j y i = closed_full v (tied_generic v x) live cell j y i
-
 -- ---- one vertex more
 pub fan_law : FanLaw
 fan_law v x p n =
@@ -90,46 +83,19 @@ pub flood_law : FloodLaw
 flood_law v x p n live cell list marked closed y i m c z j d =
     flood v (tied_generic v x) p (displaced (v.at p)) (goal v x p n.above n.below) live cell list marked closed y i m c z j d
 
-pub boxed_with : (v : Vertices) (p : ℕ) → IsBoxed v → IsBoxed (with_vertex v p)
-boxed_with v p x =
-    record {
-      corner_in = λ k h. stays v p k (x.corner_in k h);
-      corner_at = x.corner_at;
-      data_at = x.data_at;
-      apart = x.apart;
-      tied = x.tied;
-    }
-
-pub insert_law : InsertLaw
-insert_law v x p n live cell live' cell' f r = (
-  boxed_with v p x,
-  inserted v p (tied_generic v x) (data_inner v x p n.above n.below) n.out n.below live cell live' cell' f r,
-)
-
 pub edge_law : EdgeLaw
 edge_law v x p n m f h = fan_edges v p (fan_law v x p n) m f h
-
--- ---- linked cells
-pub wall_law : WallLaw
-wall_law v b live cell next l cells x k i m = (l.walls x k i m, λ w. by w (next x k) refl)
-  where
-    f : DirectedFacet
-    f = facet_of (cell x) k
-
-    by : IsWall v f → (o : Option ℕ) → next x k ≡ o → next x k ≡ None
-    by w None e = e
-    by w (Some y) e =
-        let t = from_facet (cell x) k in
-        let r : IsBackAt live cell f y = l.back x k y i m e in
-        let z = back_same live cell f y r in
-        let o = wall_outer v b t.a t.b t.c t.d (same_cell v (cell x) t (facet_same (cell x) k) (cells x i)) w in
-        absurd (outer_none v t.a t.b t.c z.0 o (same_cell v (cell y) (tetrahedron t.a t.c t.b z.0) z.1 (cells y r.listed)))
 
 pub linked_law : LinkedLaw
 linked_law v x live cell next l cells y i = linked_listing v x (tied_generic v x) live cell next l cells y i
 
-pub flooded_law : FloodedLaw
-flooded_law v x p n live cell next l cells marked f y i m c z j d =
+-- a flood over the links from one cell in conflict, which goes on at each neighbor in conflict, finds all cells in conflict
+flooded :
+    (v : Vertices) → IsBoxed v → (p : ℕ) → IsNew v p → (live : List ℕ) (cell : ℕ → Tetrahedron) (next : ℕ → ℕ → Option ℕ) →
+    AreLinked v live cell next → AreCells v live cell → (marked : ℕ → Bool) → IsFlooded v p live cell next marked →
+    (x : ℕ) → IsIn live x → marked x ≡ true → IsInConflict v p (cell x) → (y : ℕ) → IsIn live y → IsInConflict v p (cell y) →
+    marked y ≡ true
+flooded v x p n live cell next l cells marked f y i m c z j d =
     let g = tied_generic v x in
     flood v g p (displaced (v.at p)) (goal v x p n.above n.below) live cell (linked_listing v x g live cell next l cells y i)
     marked (flooded_closed v x p live cell next l cells marked f) y i m c z j d
@@ -152,7 +118,7 @@ cavity_law v b p n live cell next l cells marked f conflict x i m =
       kept = λ y j e.
           by_lt_z (power_at v (cell y) p) (pos 0)
           (λ h. absurd
-          (true≢false (sym (flooded_law v b p n live cell next l cells marked f x i m (conflict x i m) y j h) ∙ e))) (λ h. h);
+          (true≢false (sym (flooded v b p n live cell next l cells marked f x i m (conflict x i m) y j h) ∙ e))) (λ h. h);
     }
 
 pub rim_law : RimLaw
@@ -160,9 +126,3 @@ rim_law v x p live cell next l cells y i =
     let g = tied_generic v x in
     let list : IsListing v live cell = linked_listing v x g live cell next l cells y i in
     record { fan = link_fan v x g p live cell next l cells; all = fan_link v p live cell next l list.full }
-
-pub replace_law : ReplaceLaw
-replace_law v x p n live cell cells live' cell' next' made l y i =
-    let g = tied_generic v x in
-    let all = made_cells v p g (data_inner v x p n.above n.below) n.below live cell cells live' cell' made in
-    (boxed_with v p x, linked_listing (with_vertex v p) (boxed_with v p x) g live' cell' next' l all y i)

@@ -22,7 +22,6 @@ pub mod LinkedCells
 pub mod Edges
 pub mod Laws
 pub mod SomeCell
-pub mod Example
 pub mod Sides
 pub mod Near
 pub mod Firsts
@@ -34,13 +33,9 @@ pub mod Scanners
 pub mod SightTests
 pub mod SightLaws
 pub mod SightPaths
-pub mod Relinking
-pub mod RimLists
-pub mod Renewal
+pub mod OneFacet
 pub mod BoxLinks
-pub mod ExampleInserted
 pub mod Stored
-pub mod RimSides
 pub mod NamedBack
 pub mod TieSigns
 pub mod Sums

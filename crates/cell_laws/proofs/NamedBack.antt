@@ -1,16 +1,28 @@
 -- Neighbors name each other across the same facet.
 -- Stands on: LinkedCells and Laws (no neighbor exactly across a wall).
-use Rattle.std.proofs.Common.{ℕ, ◌≡◌, refl, ap, sym, ◌∙◌, Option, Some, None}
-use Rattle.geo_sign.specs.Tetrahedron.{tetrahedron, facet_of, IsRotated}
-use Rattle.cell_laws.specs.LinkLaws.{BackLaw}
-use Rattle.cell_laws.specs.Links.{IsBackAt}
+use Rattle.std.proofs.Common.{ℕ, ◌<◌, ◌≡◌, List, refl, ap, sym, ◌∙◌, Option, Some, None}
+use Rattle.geo_sign.specs.Tetrahedron.{Tetrahedron, tetrahedron, facet_of, IsRotated, IsTurned}
+use Rattle.geo_sign.specs.Vertices.{Vertices}
+use Rattle.geo_sign.specs.Boxes.{IsBoxed}
+use Rattle.cell_laws.specs.Links.{AreLinked, IsBackAt}
+use Rattle.cell_laws.specs.Lists.{IsIn, AreCells}
 use Rattle.geo_sign.proofs.Rewritings.{same_cell}
 use Rattle.geo_sign.proofs.Rotations.{turned_back, turned_turned}
 use Rattle.cell_laws.proofs.Closed.{outer_none}
 use Rattle.cell_laws.proofs.Goal.{wall_outer}
 use Rattle.cell_laws.proofs.LinkedCells.{back_same, facet_same, from_facet}
 
-pub back_law : BackLaw
+-- y has the facet turned, and x across it
+pub record IsNamedBack (cell : ℕ → Tetrahedron) (next : ℕ → ℕ → Option ℕ) (x k y : ℕ) : Type 0 where
+  pub side : ℕ
+  pub in_range : side < 4
+  pub turned : IsTurned (facet_of (cell x) k) (facet_of (cell y) side)
+  pub named : next y side ≡ Some x
+
+pub back_law :
+    (v : Vertices) → IsBoxed v → (live : List ℕ) (cell : ℕ → Tetrahedron) (next : ℕ → ℕ → Option ℕ) →
+    AreLinked v live cell next → AreCells v live cell → (x k y : ℕ) → IsIn live x → k < 4 → next x k ≡ Some y →
+    IsNamedBack cell next x k y
 back_law v b live cell next l cells x k y i m e =
     record { side = r.side; in_range = r.in_range; turned = r.turned; named = by (next y r.side) refl }
   where

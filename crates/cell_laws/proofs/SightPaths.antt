@@ -7,8 +7,8 @@
 -- than itself, so each stands in the way once or not at all (path_counted).
 --
 -- Stands on: SightLaws, SightSteps (the order) and Complete (each crossed facet is met).
-use Rattle.std.proofs.Common.{ℕ, zero, suc, ◌<◌, ◌≡◌, refl, ap, ap₂, sym, subst, ◌∙◌, ◌+◌, inl, inr, ⊎_elim, arith, Bool, true}
-use Rattle.std.proofs.Common.{false, true≢false, ◌&&◌, eqb, Option, List, [], ◌∷◌}
+use Rattle.std.proofs.Common.{[], ℕ, zero, suc, ◌<◌, ◌≡◌, refl, ap, ap₂, sym, subst, ◌∙◌, ◌+◌, inl, inr, ⊎_elim, arith, Bool, true}
+use Rattle.std.proofs.Common.{false, true≢false, ◌&&◌, eqb, Option, List, ◌∷◌}
 use Rattle.std.proofs.lemmas.Bool.{eqb-true, and_parts, eq-eqb}
 use Rattle.std.proofs.lemmas.Int.{ints}
 use Rattle.std.proofs.lemmas.Option.{same_Some}
@@ -31,7 +31,7 @@ use Rattle.cell_laws.proofs.Complete.{IsGiven, all_given}
 use Rattle.cell_laws.proofs.Crossings.{left_turned}
 use Rattle.cell_laws.proofs.Heights.{tied_generic}
 use Rattle.cell_laws.proofs.LinkedCells.{linked_listing}
-use Rattle.cell_laws.proofs.RimSides.{same_side}
+use Rattle.cell_laws.proofs.OneFacet.{same_side}
 use Rattle.cell_laws.proofs.Scanners.{scanner_free, scanner_in_box}
 use Rattle.cell_laws.proofs.SightLaws.{met_behind, step_law, sight_law, left_of}
 use Rattle.cell_laws.proofs.SightSteps.{Passage, IsWay, first_before}

@@ -13,7 +13,7 @@ use Rattle.geo_sign.specs.Tetrahedron.{Tetrahedron, tetrahedron}
 use Rattle.geo_sign.specs.Vertices.{Vertices, Has}
 use Rattle.geo_sign.specs.Boxes.{IsBoxed, IsNew, with_vertex}
 use Rattle.geo_sign.specs.Places.{IsInBox}
-use Rattle.cell_laws.specs.CellLaws.{PlaceLaw, SomeLaw}
+use Rattle.cell_laws.specs.CellLaws.{PlaceLaw}
 use Rattle.geo_sign.proofs.Rewritings.{IsCellOf}
 use Rattle.cell_laws.proofs.BoxLinks.{box_law}
 use Rattle.cell_laws.proofs.Laws.{fan_law, found_law, placed}
@@ -140,9 +140,6 @@ module _ (v : Vertices) (b : IsBoxed v) where
       let c = (b.corner_in 7 (omega arith)).0 in
       let z = up_to (v.count - 8) v.count (omega (arith, c)) (omega arith) in
       (z.0, same_in v (λ u. nat_lt u v.count && v.is_in u) v.is_in all_in z.0 z.1)
-
-pub some_law : SomeLaw
-some_law v b = some_cell v b
 
 pub place_law : PlaceLaw
 place_law v b q h = let c = some_cell v b in placed v b c.0.a c.0.b c.0.c c.0.d c.1 q h

@@ -2,23 +2,20 @@
 --
 --   ThreeTermsLaw     the powers at two tetrahedra across a facet
 --   GenericLaw        the power is zero at a tetrahedron's own vertices alone
---   ConvexLaw         a vertex that lies in a tetrahedron is in conflict with it or one of its own
 --   EnvelopeLaw       over a place, the cell that has it is the highest
 --   HasOneAcross      exactly one vertex makes a cell across a facet
 --   AcrossLaw         each facet of a cell is on a wall, or has exactly one cell across it
 --   HaveOneFacet      two cells have a directed facet in common at one side at most, and are then one
 --   FacetLaw          at most one cell has a given directed facet, at one side
---   SomeLaw           there is a cell
 --   PlaceLaw          each place of the box lies in a cell
 --   OneLaw            a place strictly inside a cell lies in no other
---   JoinedLaw         a list of cells that has one, and with each those across its facets, has all
 --   six, CornerLaw    the six cells of the box, which are all cells of the corners alone
-use Rattle.std.specs.Prelude.{ℕ, ◌<◌, ◌≡◌, ◌⊎◌, ℤ, pos, ◌+ℤ◌, ◌*ℤ◌, ◌<ℤ◌, ◌≤ℤ◌, List, [], ◌∷◌}
+use Rattle.std.specs.Prelude.{[], ℕ, ◌<◌, ◌≡◌, ◌⊎◌, ℤ, pos, ◌+ℤ◌, ◌*ℤ◌, ◌<ℤ◌, ◌≤ℤ◌, List, ◌∷◌}
 use Rattle.geo_sign.specs.declared.point.TheConstants.{CORNERS}
 use Rattle.geo_sign.specs.Point.{Point}
 use Rattle.geo_sign.specs.Orientation.{orientation}
 use Rattle.geo_sign.specs.Power.{power}
-use Rattle.geo_sign.specs.Rational.{RationalPoint, rational}
+use Rattle.geo_sign.specs.Rational.{RationalPoint}
 use Rattle.geo_sign.specs.Tetrahedron.{Tetrahedron, tetrahedron, facet, facet_of, IsRotated}
 use Rattle.geo_sign.specs.Vertices.{Vertices, Has, orientation_of, power_of, IsWall}
 use Rattle.geo_sign.specs.Cells.{IsCell}
@@ -26,7 +23,7 @@ use Rattle.geo_sign.specs.Writings.{IsRewritten, IsVertexOf}
 use Rattle.geo_sign.specs.Boxes.{IsBoxed}
 use Rattle.geo_sign.specs.Places.{IsInBox, IsLyingIn, IsStrictlyIn}
 use Rattle.cell_laws.specs.Lifts.{lift_of}
-use Rattle.cell_laws.specs.Lists.{IsIn, IsFull, IsJoined}
+use Rattle.cell_laws.specs.Lists.{IsFull}
 
 -- of any five points at any heights
 abbrev pub ThreeTermsLaw : Type 0
@@ -40,13 +37,6 @@ abbrev pub GenericLaw : Type 0
 GenericLaw =
     (v : Vertices) → IsBoxed v → (a b c d u : ℕ) → a < v.count → b < v.count → c < v.count → d < v.count → u < v.count →
     pos 0 <ℤ orientation_of v a b c d → power_of v a b c d u ≡ pos 0 → IsVertexOf (tetrahedron a b c d) u
-
--- whether the five are in or not, again
-abbrev pub ConvexLaw : Type 0
-ConvexLaw =
-    (v : Vertices) → IsBoxed v → (t : Tetrahedron) (u : ℕ) → t.a < v.count → t.b < v.count → t.c < v.count → t.d < v.count →
-    u < v.count → pos 0 <ℤ orientation_of v t.a t.b t.c t.d → IsLyingIn v t (rational (v.at u)) →
-    pos 0 ≤ℤ power_of v t.a t.b t.c t.d u → IsVertexOf t u
 
 -- the heights of two planes at q, each times the other cell's orientation; this needs nothing of the vertices
 abbrev pub EnvelopeLaw : Type 0
@@ -74,10 +64,6 @@ abbrev pub FacetLaw : Type 0
 FacetLaw =
     (v : Vertices) → IsBoxed v → (t r : Tetrahedron) → IsCell v t.a t.b t.c t.d → IsCell v r.a r.b r.c r.d → HaveOneFacet v t r
 
--- whatever data points are in
-abbrev pub SomeLaw : Type 0
-SomeLaw = (v : Vertices) → IsBoxed v → (t : Tetrahedron) × IsCell v t.a t.b t.c t.d
-
 abbrev pub PlaceLaw : Type 0
 PlaceLaw =
     (v : Vertices) → IsBoxed v → (q : RationalPoint) → IsInBox q →
@@ -88,12 +74,6 @@ abbrev pub OneLaw : Type 0
 OneLaw =
     (v : Vertices) → IsBoxed v → (t r : Tetrahedron) (q : RationalPoint) → IsCell v t.a t.b t.c t.d → IsCell v r.a r.b r.c r.d →
     IsLyingIn v t q → IsStrictlyIn v r q → IsRewritten t r
-
--- from any name on
-abbrev pub JoinedLaw : Type 0
-JoinedLaw =
-    (v : Vertices) → IsBoxed v → (live : List ℕ) (cell : ℕ → Tetrahedron) → IsJoined v live cell → (x : ℕ) → IsIn live x →
-    IsFull v live cell
 
 -- the six cells of the box
 abbrev pub six : List Tetrahedron

@@ -2,7 +2,6 @@
 --
 --   IsFanList v p n f               the facets f 0 to f (n - 1) are the fan's, each once
 --   AreEdges n f                    each directed edge's reverse is there, and each directed edge stands in one facet
---   HaveEdge f g                    two facets have a directed edge in common
 use Rattle.std.specs.Prelude.{ℕ, ◌≡◌, ◌<◌}
 use Rattle.geo_sign.specs.Edges.{edge_end, edge_start}
 use Rattle.geo_sign.specs.Tetrahedron.{DirectedFacet, facet, IsRotated}
@@ -20,11 +19,3 @@ pub record AreEdges (n : ℕ) (f : ℕ → DirectedFacet) : Type 0 where
       (j : ℕ) × (k : ℕ) × (j < n) × (k < 3) × (edge_start (f j) k ≡ edge_end (f i) e) × (edge_end (f j) k ≡ edge_start (f i) e)
   pub apart : (i e j k : ℕ) → i < n → j < n → edge_start (f i) e ≡ edge_start (f j) k → edge_end (f i) e ≡ edge_end (f j) k
       → i ≡ j
-
-pub record HaveEdge (f g : DirectedFacet) : Type 0 where
-  pub i : ℕ
-  pub j : ℕ
-  pub i_in : i < 3
-  pub j_in : j < 3
-  pub same_start : edge_start f i ≡ edge_start g j
-  pub same_end : edge_end f i ≡ edge_end g j

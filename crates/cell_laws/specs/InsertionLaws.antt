@@ -4,19 +4,16 @@
 --   StayLaw       the cells without it are those that it is not in conflict with
 --   VertexLaw     no vertex is lost
 --   FloodLaw      marked cells in conflict that no step between cells in conflict leaves are all cells in conflict
---   InsertLaw     taking out the cells in conflict and putting in the fan gives the cells with one vertex more
 --   EdgeLaw       each directed edge of the fan stands once, and its reverse too
---   SideLaw       what edges of two facets say of the sides of the new cells over them
 use Rattle.std.specs.Prelude.{ℕ, ◌<◌, ◌≡◌, ◌≢◌, ◌⊎◌, ◌↔◌, Bool, true, pos, ◌<ℤ◌, ◌≤ℤ◌, List}
-use Rattle.geo_sign.specs.Tetrahedron.{Tetrahedron, DirectedFacet, facet_of, IsTurned, IsRotated}
+use Rattle.geo_sign.specs.Tetrahedron.{Tetrahedron, DirectedFacet}
 use Rattle.geo_sign.specs.Vertices.{Vertices, Has, orientation_of, power_of}
 use Rattle.geo_sign.specs.Cells.{IsCell}
 use Rattle.geo_sign.specs.Writings.{IsVertexOf}
 use Rattle.geo_sign.specs.Boxes.{IsBoxed, with_vertex, IsNew, IsInConflict, IsClearOf}
 use Rattle.cell_laws.specs.Fans.{IsOnFan}
-use Rattle.cell_laws.specs.Lists.{IsIn, IsFull, IsListing, IsClosedInConflict, AreReplaced}
-use Rattle.geo_sign.specs.Edges.{edge_start, edge_end, over}
-use Rattle.cell_laws.specs.Edges.{IsFanList, AreEdges, HaveEdge}
+use Rattle.cell_laws.specs.Lists.{IsIn, IsListing, IsClosedInConflict}
+use Rattle.cell_laws.specs.Edges.{IsFanList, AreEdges}
 
 -- the facets between the cells in conflict with p and all else, over which the cells with p will stand
 pub record IsFanOf (v : Vertices) (p : ℕ) : Type 0 where
@@ -55,25 +52,5 @@ FloodLaw =
     (x : ℕ) → IsIn live x → marked x ≡ true → IsInConflict v p (cell x) → (y : ℕ) → IsIn live y → IsInConflict v p (cell y) →
     marked y ≡ true
 
-abbrev pub InsertLaw : Type 0
-InsertLaw =
-    (v : Vertices) → IsBoxed v → (p : ℕ) → IsNew v p →
-    (live : List ℕ) (cell : ℕ → Tetrahedron) (live' : List ℕ) (cell' : ℕ → Tetrahedron) → IsFull v live cell →
-    AreReplaced v p live cell live' cell' →
-    IsBoxed (with_vertex v p) × IsFull (with_vertex v p) live' cell'
-
 abbrev pub EdgeLaw : Type 0
 EdgeLaw = (v : Vertices) → IsBoxed v → (p : ℕ) → IsNew v p → (n : ℕ) (f : ℕ → DirectedFacet) → IsFanList v p n f → AreEdges n f
-
--- Two new cells over p: where their facets have an edge and its reverse they are neighbors across those sides, and where
--- they have a side in common their facets have an edge in common. This needs nothing of the vertices.
-pub record IsSideLaw (f g : DirectedFacet) (p : ℕ) : Type 0 where
-  pub turned :
-      (i j : ℕ) → i < 3 → j < 3 → edge_start f i ≡ edge_end g j → edge_end f i ≡ edge_start g j →
-      IsTurned (facet_of (over f p) i) (facet_of (over g p) j)
-  pub common :
-      f.a ≢ p → f.b ≢ p → f.c ≢ p → g.a ≢ p → g.b ≢ p → g.c ≢ p → (i j : ℕ) → i < 4 → j < 4 →
-      IsRotated (facet_of (over f p) i) (facet_of (over g p) j) → HaveEdge f g
-
-abbrev pub SideLaw : Type 0
-SideLaw = (f g : DirectedFacet) (p : ℕ) → IsSideLaw f g p

@@ -5,11 +5,9 @@ pub mod Links
 pub mod Edges
 pub mod CellLaws
 pub mod InsertionLaws
-pub mod Replacements
 pub mod LinkLaws
 pub mod Paths
 pub mod WalkLaws
-pub mod ExampleLaws
 pub mod StoredLaws
 pub mod TieLaws
 pub mod ClosedLaws

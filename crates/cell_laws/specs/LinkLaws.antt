@@ -1,64 +1,26 @@
 -- Laws of linked cells, in the words of any store: a list of live names, the cell of each, and the neighbor at each side.
 --
 --   BoxLaw        the six cells over the corners, and how they are linked
---   WallLaw       a linked cell has no neighbor exactly across a wall
---   BackLaw       neighbors name each other across the same facet
 --   LinkedLaw     linked cells that are cells are all cells, each once
---   FloodedLaw    a flood over their links from one cell in conflict finds all
 --   FoundLaw      the cell in which a new vertex lies is in conflict with it
 --   CavityLaw     a flood over the links marks exactly the cells in conflict
 --   RimLaw        the fan is the facets of cells in conflict at the rim
---   ReplaceLaw    linked cells that were made from those with one vertex less are all cells with it, each once
---   RimOfLaw      a list of the sides at the rim, as RimListLaw takes it
---   RimListLaw    the facets at the rim of the cells in conflict have all that putting in new cells over them asks for
---   RelinkLaw     what a replacement leaves is linked; this is about links alone and needs nothing of the vertices
---   RenewLaw      a replacement of all cells in conflict leaves all cells with one vertex more, each once
-use Rattle.std.specs.Prelude.{ℕ, zero, suc, ◌<◌, ◌≡◌, ◌⊎◌, ◌↔◌, pos, ◌<ℤ◌, Bool, true, false, Option, Some, None, List, [], ◌∷◌}
-use Rattle.std.specs.Prelude.{length, slice_index_or}
+use Rattle.std.specs.Prelude.{[], ℕ, zero, suc, ◌<◌, ◌≡◌, Bool, true, false, Option, Some, None, List, ◌∷◌}
 use Rattle.geo_sign.specs.declared.point.TheConstants.{CORNERS}
 use Rattle.geo_sign.specs.Rational.{rational}
-use Rattle.geo_sign.specs.Tetrahedron.{Tetrahedron, tetrahedron, DirectedFacet, facet_of, IsTurned}
-use Rattle.geo_sign.specs.Vertices.{Vertices, Has, IsWall, orientation_of}
+use Rattle.geo_sign.specs.Tetrahedron.{Tetrahedron, tetrahedron, facet_of}
+use Rattle.geo_sign.specs.Vertices.{Vertices, Has}
 use Rattle.geo_sign.specs.Cells.{IsCell}
-use Rattle.geo_sign.specs.Boxes.{IsBoxed, with_vertex, IsNew, IsInConflict, IsClearOf}
+use Rattle.geo_sign.specs.Boxes.{IsBoxed, IsNew, IsInConflict, IsClearOf}
 use Rattle.geo_sign.specs.Places.{IsLyingIn}
-use Rattle.cell_laws.specs.Edges.{IsFanList, AreEdges}
 use Rattle.cell_laws.specs.Fans.{IsOnFan}
-use Rattle.cell_laws.specs.Lists.{IsIn, AreCells, IsListing, IsMade}
-use Rattle.cell_laws.specs.Links.{Side, AreLinked, IsFlooded, IsRimSide, IsFanAt}
-use Rattle.cell_laws.specs.Replacements.{IsRimList, IsRimOf, IsReplacement}
-use Rattle.geo_sign.specs.Writings.{IsVertexOf}
-
-abbrev pub WallLaw : Type 0
-WallLaw =
-    (v : Vertices) → IsBoxed v → (live : List ℕ) (cell : ℕ → Tetrahedron) (next : ℕ → ℕ → Option ℕ) →
-    AreLinked v live cell next → AreCells v live cell → (x k : ℕ) → IsIn live x → k < 4 →
-    (next x k ≡ None) ↔ IsWall v (facet_of (cell x) k)
-
--- y has the facet turned, and x across it
-pub record IsNamedBack (cell : ℕ → Tetrahedron) (next : ℕ → ℕ → Option ℕ) (x k y : ℕ) : Type 0 where
-  pub side : ℕ
-  pub in_range : side < 4
-  pub turned : IsTurned (facet_of (cell x) k) (facet_of (cell y) side)
-  pub named : next y side ≡ Some x
-
-abbrev pub BackLaw : Type 0
-BackLaw =
-    (v : Vertices) → IsBoxed v → (live : List ℕ) (cell : ℕ → Tetrahedron) (next : ℕ → ℕ → Option ℕ) →
-    AreLinked v live cell next → AreCells v live cell → (x k y : ℕ) → IsIn live x → k < 4 → next x k ≡ Some y →
-    IsNamedBack cell next x k y
+use Rattle.cell_laws.specs.Lists.{IsIn, AreCells, IsListing}
+use Rattle.cell_laws.specs.Links.{AreLinked, IsFlooded, IsRimSide, IsFanAt}
 
 abbrev pub LinkedLaw : Type 0
 LinkedLaw =
     (v : Vertices) → IsBoxed v → (live : List ℕ) (cell : ℕ → Tetrahedron) (next : ℕ → ℕ → Option ℕ) →
     AreLinked v live cell next → AreCells v live cell → (x : ℕ) → IsIn live x → IsListing v live cell
-
-abbrev pub FloodedLaw : Type 0
-FloodedLaw =
-    (v : Vertices) → IsBoxed v → (p : ℕ) → IsNew v p → (live : List ℕ) (cell : ℕ → Tetrahedron) (next : ℕ → ℕ → Option ℕ) →
-    AreLinked v live cell next → AreCells v live cell → (marked : ℕ → Bool) → IsFlooded v p live cell next marked →
-    (x : ℕ) → IsIn live x → marked x ≡ true → IsInConflict v p (cell x) → (y : ℕ) → IsIn live y → IsInConflict v p (cell y) →
-    marked y ≡ true
 
 abbrev pub FoundLaw : Type 0
 FoundLaw =
@@ -89,54 +51,6 @@ RimLaw =
     (v : Vertices) → IsBoxed v → (p : ℕ) (live : List ℕ) (cell : ℕ → Tetrahedron) (next : ℕ → ℕ → Option ℕ) →
     AreLinked v live cell next → AreCells v live cell → (x : ℕ) → IsIn live x → IsRimLaw v p live cell next
 
-abbrev pub ReplaceLaw : Type 0
-ReplaceLaw =
-    (v : Vertices) → IsBoxed v → (p : ℕ) → IsNew v p → (live : List ℕ) (cell : ℕ → Tetrahedron) → AreCells v live cell →
-    (live' : List ℕ) (cell' : ℕ → Tetrahedron) (next' : ℕ → ℕ → Option ℕ) → IsMade v p live cell live' cell' →
-    AreLinked (with_vertex v p) live' cell' next' → (y : ℕ) → IsIn live' y →
-    IsBoxed (with_vertex v p) × IsListing (with_vertex v p) live' cell'
-
--- side i of the list, and past the end side 0 of the cell 0
-abbrev pub side_of_list : List Side → ℕ → Side
-side_of_list sides i = slice_index_or sides i (record { at = 0; side = 0 })
-
-abbrev pub RimOfLaw : Type 0
-RimOfLaw =
-    (v : Vertices) (live : List ℕ) (cell : ℕ → Tetrahedron) (next : ℕ → ℕ → Option ℕ) → AreLinked v live cell next →
-    AreCells v live cell → (removed : ℕ → Bool) (sides : List Side) → IsRimOf live next removed sides →
-    IsRimList live cell next removed (length sides) (λ i. facet_of (cell (side_of_list sides i).at) (side_of_list sides i).side)
-    (λ i. next (side_of_list sides i).at (side_of_list sides i).side)
-
--- the facets over which new cells are put in: they are the fan's, their edges meet, p is before each, no vertex is lost, and
--- there is one
-pub record AreRims (v : Vertices) (p : ℕ) (live : List ℕ) (cell : ℕ → Tetrahedron) (removed : ℕ → Bool) (n : ℕ)
-    (fan : ℕ → DirectedFacet) : Type 0 where
-  pub facets : IsFanList v p n fan
-  pub edges : AreEdges n fan
-  pub before : (i : ℕ) → i < n → pos 0 <ℤ orientation_of v (fan i).a (fan i).b (fan i).c p
-  pub vertices :
-      (u : ℕ) → Has v u → ((i : ℕ) × (i < n) × ((u ≡ (fan i).a) ⊎ ((u ≡ (fan i).b) ⊎ (u ≡ (fan i).c)))) ⊎
-      ((x : ℕ) × IsIn live x × (removed x ≡ false) × IsVertexOf (cell x) u)
-  pub some : 0 < n
-
--- x is one of the cells taken out
-abbrev pub RimListLaw : Type 0
-RimListLaw =
-    (v : Vertices) → IsBoxed v → (p : ℕ) → IsNew v p → (live : List ℕ) (cell : ℕ → Tetrahedron) (next : ℕ → ℕ → Option ℕ) →
-    AreLinked v live cell next → AreCells v live cell → (removed : ℕ → Bool) → AreConflicts v p live cell removed →
-    (n : ℕ) (fan : ℕ → DirectedFacet) (outer : ℕ → Option ℕ) → IsRimList live cell next removed n fan outer → (x : ℕ) →
-    IsIn live x → removed x ≡ true → AreRims v p live cell removed n fan
-
-abbrev pub RelinkLaw : Type 0
-RelinkLaw =
-    (v : Vertices) (p : ℕ) (live : List ℕ) (cell : ℕ → Tetrahedron) (next : ℕ → ℕ → Option ℕ) → AreLinked v live cell next →
-    ((x : ℕ) → IsIn live x → ¬ IsVertexOf (cell x) p) →
-    (removed : ℕ → Bool) (n : ℕ) (fan : ℕ → DirectedFacet) (outer : ℕ → Option ℕ) →
-    IsRimList live cell next removed n fan outer → AreEdges n fan →
-    (fresh : ℕ → ℕ) (live' : List ℕ) (cell' : ℕ → Tetrahedron) (next' : ℕ → ℕ → Option ℕ) →
-    IsReplacement p live cell next removed n fan outer fresh live' cell' next' →
-    AreLinked v live' cell' next' × AreLinked (with_vertex v p) live' cell' next'
-
 -- what a store of all cells has, for its next insertion too
 pub record AreAllCells (v : Vertices) (live : List ℕ) (cell : ℕ → Tetrahedron) (next : ℕ → ℕ → Option ℕ) : Type 0 where
   pub boxed : IsBoxed v
@@ -144,21 +58,12 @@ pub record AreAllCells (v : Vertices) (live : List ℕ) (cell : ℕ → Tetrahed
   pub cells : AreCells v live cell
   pub listing : IsListing v live cell
 
-abbrev pub RenewLaw : Type 0
-RenewLaw =
-    (v : Vertices) (live : List ℕ) (cell : ℕ → Tetrahedron) (next : ℕ → ℕ → Option ℕ) → AreAllCells v live cell next → (p : ℕ) →
-    IsNew v p → (removed : ℕ → Bool) → AreConflicts v p live cell removed →
-    (n : ℕ) (fan : ℕ → DirectedFacet) (outer : ℕ → Option ℕ) →
-    IsRimList live cell next removed n fan outer → (x : ℕ) → IsIn live x → removed x ≡ true →
-    (fresh : ℕ → ℕ) (live' : List ℕ) (cell' : ℕ → Tetrahedron) (next' : ℕ → ℕ → Option ℕ) →
-    IsReplacement p live cell next removed n fan outer fresh live' cell' next' → AreAllCells (with_vertex v p) live' cell' next'
-
 -- ---- the corners alone
 -- the names under which the six cells of the box stand
 abbrev pub six_names : List ℕ
 six_names = 0 ∷ 1 ∷ 2 ∷ 3 ∷ 4 ∷ 5 ∷ []
 
--- one tetrahedron at corner 0, one at corner 7, and between them four round the diagonal from 3 to 4; all written positively
+-- one tetrahedron at corner 0, one at corner 7, and between them four round the diagonal from 3 to 4; all positively oriented
 abbrev pub six_cell : ℕ → Tetrahedron
 six_cell zero = tetrahedron 0 1 2 4
 six_cell (suc zero) = tetrahedron 1 2 4 3

@@ -3,18 +3,14 @@
 --   IsIn xs x                         x is in the list
 --   AreCells v live cell              each name stands for a cell
 --   IsFull, IsListing                 the names stand for all cells; and for each once
---   IsJoined v live cell              with each cell the list has those across its facets
 --   IsClosedInConflict v p live cell marked   no step between cells in conflict leaves the marked ones
---   IsMade, AreReplaced               the second list came from the first by taking out all cells in conflict with p and
---                                     putting in p over the fan's facets
 --   count f xs                        how many pass a test
-use Rattle.std.specs.Prelude.{ℕ, ◌≡◌, ◌⊎◌, ◌+◌, Bool, true, false, List, [], ◌∷◌}
+use Rattle.std.specs.Prelude.{[], ℕ, ◌≡◌, ◌⊎◌, ◌+◌, Bool, true, false, List, ◌∷◌}
 use Rattle.geo_sign.specs.Tetrahedron.{Tetrahedron, tetrahedron}
 use Rattle.geo_sign.specs.Vertices.{Vertices}
 use Rattle.geo_sign.specs.Cells.{IsCell}
 use Rattle.geo_sign.specs.Writings.{IsRewritten}
-use Rattle.geo_sign.specs.Boxes.{IsInConflict, IsClearOf}
-use Rattle.cell_laws.specs.Fans.{IsOnFan}
+use Rattle.geo_sign.specs.Boxes.{IsInConflict}
 
 abbrev pub IsIn : {X : Type 0} → List X → X → Type 0
 IsIn [] t = ⊥
@@ -31,33 +27,12 @@ pub record IsListing {X : Type 0} (v : Vertices) (live : List X) (cell : X → T
   pub full : IsFull v live cell
   pub once : (x y : X) → IsIn live x → IsIn live y → IsRewritten (cell x) (cell y) → x ≡ y
 
-pub record IsJoined {X : Type 0} (v : Vertices) (live : List X) (cell : X → Tetrahedron) : Type 0 where
-  pub cells : AreCells v live cell
-  pub next :
-      (x : X) (a b c d e : ℕ) → IsIn live x → IsRewritten (cell x) (tetrahedron a b c d) → IsCell v a c b e →
-      (y : X) × IsIn live y × IsRewritten (cell y) (tetrahedron a c b e)
-
 -- from each that is marked, each in conflict across a facet is marked
 abbrev pub IsClosedInConflict : {X : Type 0} (v : Vertices) (p : ℕ) (live : List X) (cell : X → Tetrahedron) → (X → Bool) → Type 0
 IsClosedInConflict {X} v p live cell marked =
     (x y : X) (a b c d e : ℕ) → IsIn live x → IsIn live y → marked x ≡ true → IsInConflict v p (cell x) →
     IsInConflict v p (cell y) → IsRewritten (cell x) (tetrahedron a b c d) → IsRewritten (cell y) (tetrahedron a c b e) →
     marked y ≡ true
-
--- each of the second list is one of the first that p is not in conflict with, or p over a facet of the fan
-abbrev pub IsMade :
-    {X : Type 0} (v : Vertices) (p : ℕ) (live : List X) (cell : X → Tetrahedron) (live' : List X) (cell' : X → Tetrahedron) →
-    Type 0
-IsMade {X} v p live cell live' cell' =
-    (y : X) → IsIn live' y → ((x : X) × IsIn live x × IsRewritten (cell x) (cell' y) × IsClearOf v p (cell x)) ⊎
-    ((a b c : ℕ) × IsOnFan v p a b c × IsRewritten (tetrahedron a b c p) (cell' y))
-
--- and all of these are there
-pub record AreReplaced {X : Type 0} (v : Vertices) (p : ℕ) (live : List X) (cell : X → Tetrahedron) (live' : List X)
-    (cell' : X → Tetrahedron) : Type 0 where
-  pub only : IsMade v p live cell live' cell'
-  pub stay : (x : X) → IsIn live x → IsClearOf v p (cell x) → (y : X) × IsIn live' y × IsRewritten (cell' y) (cell x)
-  pub come : (a b c : ℕ) → IsOnFan v p a b c → (y : X) × IsIn live' y × IsRewritten (cell' y) (tetrahedron a b c p)
 
 -- what one name adds to a count
 abbrev pub one_if : Bool → ℕ

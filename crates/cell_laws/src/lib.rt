@@ -1,39 +1,34 @@
-//! Laws of one Delaunay tetrahedrization under the tie rule: what insertion, walks and sights need from geometry, for any store.
+//! Theorems on one Delaunay tetrahedralization under symbolic perturbation: what insertion, walks and lines of sight need from geometry,
+//! for any store of cells.
 //!
-//! The crate does no work when a program runs. Each function is a law by its contract, with an empty body, and the proofs of other
-//! crates cite it. All laws stand on one record of hypotheses, `IsBoxed`: the corners of the box are in their places and in, the
-//! other vertices are distinct data points, of which any may be in, and all have the heights of the tie rule. Cells are four
-//! vertices by the empty-sphere definition, and never what some program has made.
+//! The crate does no work at run time. Each function is a theorem: its contract is the statement and its body is empty, and proofs of
+//! other crates cite it. All theorems suppose one record of hypotheses, `IsBoxed`: the corners of the box are in place and in, the other
+//! vertices are distinct data points, any of which may be in, and all have the heights of the perturbation. Cells are four vertices by the
+//! empty-sphere definition, and never what some program has made.
 //!
-//! | File | Laws |
+//! | File | Theorems |
 //! |---|---|
-//! | `cells` | cells cover the box, do not overlap, meet in facets, and are joined; the sign of a power is settled |
-//! | `insertion` | one vertex more: which cells go, which come, and that the fan is closed |
+//! | `cells` | cells cover the box, do not overlap and meet in facets; the sign of a power |
+//! | `insertion` | one more vertex: which cells go, which come, and that the boundary of the conflict region is closed |
 //! | `links` | linked cells: a list of names, the vertices of each, and its neighbor at each side; closed facets between labels |
 //! | `walks` | walks to a place end; one cell is a scanner's, one towards it, one behind a sight; what a sight crosses, in order |
 //! | `stores` | the points, names and rows of a store |
-//! | `examples` | the hypotheses can be met |
 //!
-//! The crate stands on `geo_sign` alone.
+//! The crate depends on `geo_sign` alone.
 #![tactic(auto)]
 
 mod cells;
-mod examples;
 mod insertion;
 mod links;
 mod stores;
 mod walks;
 
 pub use cells::{
-    across_law, convex_law, corner_law, envelope_law, facet_law, generic_law, joined_law, one_law,
-    place_law, some_law, strict_envelope_law, three_lifts_law, three_terms_law, tie_law,
+    across_law, corner_law, envelope_law, facet_law, generic_law, one_law, place_law,
+    strict_envelope_law, three_lifts_law, three_terms_law, tie_law,
 };
-pub use examples::{example_law, inserted_law};
-pub use insertion::{edge_law, fan_law, flood_law, insert_law, side_law, stay_law, vertex_law};
-pub use links::{
-    back_law, box_law, cavity_law, closed_law, flooded_law, found_law, linked_law, relink_law,
-    renew_law, replace_law, rim_law, rim_list_law, rim_of_law, wall_law,
-};
+pub use insertion::{edge_law, fan_law, flood_law, stay_law, vertex_law};
+pub use links::{box_law, cavity_law, closed_law, found_law, linked_law, rim_law};
 pub use stores::{all_law, list_law, row_law, stored_law};
 pub use walks::{
     near_law, path_law, row_sight_law, scanner_law, sight_law, spread_law, step_law,

@@ -1,8 +1,8 @@
-//! Tests of cells and of networks over cells: what is built of linked cells beside what is found by trying all, and the examples of
-//! `geo_sign` and `delaunay`.
+//! Tests of cells and of networks over cells: linked cells compared with brute-force oracles, and the examples of `geo_sign`
+//! and `delaunay`.
 //!
-//! The crate has tests alone. They call what the crates of cells promise to callers, so a check of them proves no function of
-//! those again. What a test says of one case stands in a function of its own, as in `flow_tests`.
+//! The crate has only tests. They call public functions of the cell crates, so that checking them does not verify those
+//! functions again. What a test asserts of one case is in a function of its own, as in `flow_tests`.
 #![tactic(auto)]
 
 #[cfg(test)]

@@ -1,4 +1,4 @@
-//! Built cells and networks beside what is found by trying all, and examples; `points` is what they share.
+//! Cells and networks compared with brute-force oracles, and examples; `points` has the fixtures.
 
 mod insertions;
 mod networks;

@@ -1,9 +1,9 @@
--- What a certificate states, and when it is well formed.
+-- The content of a certificate, and when it is well formed.
 --
---   stamp_view s    the digest, the unit and the fixed scanner of a stamp
---   Claim           the stamp, the numbers and the rows of a certificate
+--   stamp_view s    the digest, the scale and the fixed scanner of a fingerprint
+--   Claim           the fingerprint, the numbers and the rows of a certificate
 --   claim_of c      those that a certificate states
---   IsWellFormed c  the rows are of their forms and rise
+--   IsWellFormed c  the rows are valid and ascend
 use Rattle.std.specs.Prelude.{ℕ, ◌<◌, ◌^◌, List, Option, All, AllPairs, length, map}
 use Rattle.std.specs.Option.{option_map}
 use Rattle.geo_sign.specs.Rising.{IsBefore}
@@ -14,7 +14,7 @@ use Rattle.cert_text.specs.declared.stamp.Stamp.{Stamp}
 use Rattle.cert_text.specs.Stamps.{StampView, IsVersion}
 use Rattle.cert_text.specs.Rows.{IsCellRow, IsFlowRow, IsSinkRow}
 
--- what a stamp says
+-- the content of a fingerprint
 abbrev pub stamp_view : Stamp → StampView
 stamp_view s = record { digest = s.digest; unit = s.unit; fixed = s.fixed }
 
@@ -27,7 +27,7 @@ pub record Counts : Type 0 where
   pub smooth : ℕ
   pub cost : ℕ
 
--- a stamp or none, counts, a cost, the cells that are inside, and a flow
+-- a fingerprint or none, counts, a cost, the cells that are inside, and a flow
 pub record Claim : Type 0 where
   pub stamp : Option StampView
   pub counts : Counts
@@ -35,7 +35,7 @@ pub record Claim : Type 0 where
   pub flow : List FlowRow
   pub sink : List SinkRow
 
--- what a certificate states
+-- the content of a certificate
 abbrev pub claim_of : Certificate → Claim
 claim_of c =
     record {
@@ -53,7 +53,7 @@ claim_of c =
       sink = c.sink.items;
     }
 
--- five numbers of 32 bits and a cost of 64
+-- five 32-bit numbers and a 64-bit cost
 pub record FitCounts (c : Counts) : Type 0 where
   pub points : c.points < 2 ^ 32
   pub scanners : c.scanners < 2 ^ 32
@@ -62,25 +62,25 @@ pub record FitCounts (c : Counts) : Type 0 where
   pub smooth : c.smooth < 2 ^ 32
   pub cost : c.cost < 2 ^ 64
 
--- cells in strictly rising order
+-- cells in strictly ascending order
 pub record AreCellRows (cells : List (List ℕ)) : Type 0 where
   pub few : length cells < 2 ^ 64
   pub each : All IsCellRow cells
   pub rising : AllPairs IsBefore cells
 
--- amounts on facets, in strictly rising order of the facets
+-- amounts on facets, in strictly ascending order of the facets
 pub record IsFlowList (rows : List FlowRow) : Type 0 where
   pub few : length rows < 2 ^ 64
   pub each : All IsFlowRow rows
   pub rising : AllPairs IsBefore (map (λ r. r.facet) rows)
 
--- amounts at cells, in strictly rising order of the cells
+-- amounts at cells, in strictly ascending order of the cells
 pub record IsSinkList (rows : List SinkRow) : Type 0 where
   pub few : length rows < 2 ^ 64
   pub each : All IsSinkRow rows
   pub rising : AllPairs IsBefore (map (λ r. r.cell) rows)
 
--- the stamp is one, the numbers fit, the rows are of their forms, and the three lists rise strictly
+-- the fingerprint is valid, the numbers fit, the rows are valid, and the three lists ascend strictly
 pub record IsWellFormed (c : Claim) : Type 0 where
   pub stamp : IsVersion c.stamp
   pub counts : FitCounts c.counts

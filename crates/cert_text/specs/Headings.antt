@@ -2,7 +2,7 @@
 use Rattle.cert_text.specs.declared.read.Heading.{Heading}
 use Rattle.cert_text.specs.Certificates.{Counts}
 
--- the heading that the code has read as a value of the definitions
+-- the heading in the code as a value of the definitions
 abbrev pub counts_of : Heading → Counts
 counts_of h =
     record { points = h.points; scanners = h.scanners; sights = h.sights; vote = h.vote; smooth = h.smooth; cost = h.cost }

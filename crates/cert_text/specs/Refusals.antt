@@ -1,17 +1,17 @@
--- Why a text is no certificate: the first refusal in line order.
+-- Why a text is not a certificate: the first error in line order.
 --
---   cert_refusal l            the refusal of a line as one of a certificate
---   OrNoMemory r P            want of memory, or the fact
---   RefusedLine, AtLine       a line of a form is refused; or it is good and something is said of what is behind
---   RefusedStamp text r       one of the three lines of a stamp is refused
---   RefusedVersion text r     the first line is neither title, or the stamp behind it is refused
---   counts_line s             the line of the first count
---   RefusedCounts n text r    one of the six lines from line n on is refused
+--   cert_refusal l            the error of a line as one of a certificate
+--   OrNoMemory r P            out of memory, or this statement
+--   RefusedLine, AtLine       a line is invalid; or it is valid and the text after it has a property
+--   RefusedStamp text r       one of the three lines of a fingerprint is rejected
+--   RefusedVersion text r     the first line is neither title, or the fingerprint after it is rejected
+--   counts_line s             the number of the line of the first count
+--   RefusedCounts n text r    one of the six lines from line n on is rejected
 --   AtInside, AtFlow, AtSink  from one of the lists on
 --   AtEnd                     from the last line on
 --   AtCounts                  from the first count on
 --   AtCertificate             the whole text, line by line
---   IsRefusedCertificate text r   the text is refused so
+--   IsRefusedCertificate text r   the text is rejected with this error
 use Rattle.std.specs.Prelude.{ℕ, ◌≡◌, ◌+◌, ◌-◌, ◌^◌, ◌++◌, Option, Some, None, List}
 use Rattle.line_text.specs.Numbers.{BeginsWithNone}
 use Rattle.line_text.specs.declared.refusal.LineRefusal.{LineRefusal}
@@ -27,43 +27,43 @@ use Rattle.cert_text.specs.Texts.{title, stamped_title, unit_word, scan_line, fi
 use Rattle.cert_text.specs.Texts.{scanners_word, sights_word, vote_word, smooth_word, cost_word, inside_word, flow_word}
 use Rattle.cert_text.specs.Texts.{sink_word, end_line, cell_line, flow_line, sink_line, counts_text}
 
--- the refusal of a line as one of a certificate
+-- the error of a line as one of a certificate
 abbrev pub cert_refusal : LineRefusal → CertRefusal
 cert_refusal (lines.BadLine n) = BadLine n
 cert_refusal (lines.Order n) = Order n
 cert_refusal lines.Cut = CertCut
 cert_refusal lines.NoMemory = NoMemory
 
--- a fact about the text, where memory was found
+-- a statement about the text, unless memory ran out
 abbrev pub OrNoMemory : CertRefusal → Type 0 → Type 0
 OrNoMemory NoMemory P = Unit {0}
 OrNoMemory _ P = P
 
--- line n is not of the form
+-- line n is invalid
 abbrev pub RefusedLine : {A : Type 0} → (A → Type 0) → (A → List ℕ) → ℕ → List ℕ → LineRefusal → Type 0
 RefusedLine IsForm line_of n text r = BeginsWithNone IsForm line_of text × IsCutOrBad n text r
 
--- line n, of the form
+-- line n is valid
 abbrev pub AtLine : {A : Type 0} → (A → Type 0) → (A → List ℕ) → ℕ → List ℕ → LineRefusal → (A → List ℕ → Type 0) → Type 0
 AtLine IsForm line_of n text r = AtPart IsForm line_of text (RefusedLine IsForm line_of n text r)
 
--- one of the lines of a stamp, from line 2 on, is refused
+-- one of the lines of a fingerprint, from line 2 on, is rejected
 abbrev pub RefusedStamp : List ℕ → LineRefusal → Type 0
 RefusedStamp text r =
     AtLine IsDigest scan_line 2 text r (λ _ a.
     AtNumber unit_word 1 UNIT_LIMIT 3 a r (λ _ b.
     RefusedLine IsFixed fixed_line 4 b r))
 
--- the first line is of neither version, or it is of the second and its stamp is refused
+-- the first line is of neither version, or of the second and its fingerprint is rejected
 abbrev pub RefusedVersion : List ℕ → LineRefusal → Type 0
 RefusedVersion text r = ((rest : List ℕ) → ¬ (text ≡ title ++ rest)) × AtWord stamped_title 1 text r (λ a. RefusedStamp a r)
 
--- the line of the first count: a stamp has three lines
+-- the number of the line of the first count: a fingerprint has three lines
 abbrev pub counts_line : Option StampView → ℕ
 counts_line None = 2
 counts_line (Some s) = 5
 
--- one of the six lines of numbers, from line n on, is refused
+-- one of the six lines of numbers, from line n on, is rejected
 abbrev pub RefusedCounts : ℕ → List ℕ → LineRefusal → Type 0
 RefusedCounts n text r =
     AtNumber points_word 0 (2 ^ 32 - 1) n text r (λ _ b.
@@ -73,11 +73,11 @@ RefusedCounts n text r =
     AtNumber smooth_word 0 (2 ^ 32 - 1) (n + 4) e r (λ _ f.
     RefusedNumber cost_word 0 (2 ^ 64 - 1) (n + 5) f r)))))
 
--- line n and what follows: the last line, and nothing behind it
+-- line n and the rest: the last line, and nothing after it
 abbrev pub AtEnd : ℕ → List ℕ → LineRefusal → Type 0
 AtEnd n text r = AtWord end_line n text r (λ rest. IsBehindEnd (line_after n 1) rest r)
 
--- line n and what follows, from one list on
+-- line n and the rest, from one list on
 abbrev pub AtSink : ℕ → List ℕ → LineRefusal → Type 0
 AtSink n text r = AtList IsSinkRow sink_line sink_order sink_word n text r (λ m rest. AtEnd m rest r)
 
@@ -87,15 +87,15 @@ AtFlow n text r = AtList IsFlowRow flow_line flow_order flow_word n text r (λ m
 abbrev pub AtInside : ℕ → List ℕ → LineRefusal → Type 0
 AtInside n text r = AtList IsCellRow cell_line cell_order inside_word n text r (λ m rest. AtFlow m rest r)
 
--- line n and what follows, from the first count on
+-- line n and the rest, from the first count on
 abbrev pub AtCounts : ℕ → List ℕ → LineRefusal → Type 0
 AtCounts n text r = AtPart FitCounts counts_text text (RefusedCounts n text r) (λ _ rest. AtInside (n + 6) rest r)
 
--- the whole text: the version and its stamp, the lines of numbers, the three lists, the last line
+-- the whole text: the version and its fingerprint, the lines of numbers, the three lists, the last line
 abbrev pub AtCertificate : List ℕ → LineRefusal → Type 0
 AtCertificate text r =
     AtPart IsVersion version_text text (RefusedVersion text r) (λ stamp rest. AtCounts (counts_line stamp) rest r)
 
--- the text is refused so: the first line, in order, that is cut, not of its form, out of order, or behind the end
+-- the text is rejected with this error: the first line, in order, that is truncated, invalid, out of order, or after the end
 abbrev pub IsRefusedCertificate : List ℕ → CertRefusal → Type 0
 IsRefusedCertificate text r = (l : LineRefusal) × AtCertificate text l × (r ≡ cert_refusal l)

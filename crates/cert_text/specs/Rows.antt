@@ -1,17 +1,17 @@
 -- The rows of a certificate.
 --
---   IsCellRow c                         four vertex numbers that rise
+--   IsCellRow c                         four ascending vertex numbers
 --   IsAmount n                          an amount of at least 1
 --   IsFlowRow r                         a facet, and an amount of at least 1
 --   IsSinkRow r                         a cell, and an amount of at least 1
---   cell_order, flow_order, sink_order  by what the rows of the three lists rise
+--   cell_order, flow_order, sink_order  the keys by which the rows of the three lists ascend
 use Rattle.std.specs.Prelude.{ℕ, ◌-◌, ◌<◌, ◌≤◌, ◌^◌, Option, Some, List, [], ◌∷◌}
 use Rattle.line_text.specs.Numbers.{IsBetween}
 use Rattle.line_text.specs.Facets.{IsFacetRow}
 use Rattle.cert_text.specs.declared.certificate.FlowRow.{FlowRow}
 use Rattle.cert_text.specs.declared.certificate.SinkRow.{SinkRow}
 
--- four vertex numbers that rise
+-- four ascending vertex numbers
 abbrev pub IsCellRow : List ℕ → Type 0
 IsCellRow (a ∷ b ∷ c ∷ d ∷ []) = (a < b) × (b < c) × (c < d) × (d < 2 ^ 32)
 IsCellRow _ = ⊥
@@ -32,7 +32,7 @@ pub record IsSinkRow (r : SinkRow) : Type 0 where
   pub some : 1 ≤ r.amount
   pub fits : r.amount < 2 ^ 64
 
--- cells rise as they are, rows of the flow by their facets, rows of sinks by their cells
+-- cells are sorted by themselves, rows of the flow by their facets, rows of sinks by their cells
 abbrev pub cell_order : Option (List ℕ → List ℕ)
 cell_order = Some (λ c. c)
 

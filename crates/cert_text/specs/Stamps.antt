@@ -1,11 +1,11 @@
--- What says which scan a certificate belongs to.
+-- The fingerprint of the input, which identifies the scan of a certificate.
 --
---   StampView     the digest of a scan's file, the unit and the fixed scanner that it is read with
+--   StampView     the digest of a scan's file, the scale and the fixed scanner with which it is read
 --   IsDigest d    32 bytes
---   IsUnit n      1 to the greatest unit
+--   IsUnit n      1 to the greatest scale
 --   IsFixed p     a data point, or no fixed scanner
---   IsStamp s     the three are so
---   IsVersion s   the same of a stamp, or there is none
+--   IsStamp s     the three are valid
+--   IsVersion s   the fingerprint is valid, or there is none
 use Rattle.std.specs.Prelude.{ℕ, ◌≡◌, List, Option, Some, None, length}
 use Rattle.std.specs.Option.{ForSome}
 use Rattle.geo_sign.specs.Point.{Point, IsWithin}
@@ -14,7 +14,8 @@ use Rattle.line_text.specs.Numbers.{IsBetween}
 use Rattle.num_text.specs.declared.decimal.TheConstants.{UNIT_LIMIT}
 use Rattle.geo_sign.specs.declared.point.TheConstants.{DATA_LIMIT}
 
--- the digest of a scan's file, the unit that it is read in, and where all its points were seen from, if that is fixed
+-- the digest of a scan's file, the scale with which it is read, and the position from which all its points were seen, if that
+-- is fixed
 pub record StampView : Type 0 where
   pub digest : List ℕ
   pub unit : ℕ
@@ -24,7 +25,7 @@ pub record StampView : Type 0 where
 abbrev pub IsDigest : List ℕ → Type 0
 IsDigest digest = (length digest ≡ 32) × IsBytes digest
 
--- how many scaled units make one of the scan's
+-- the scale: scaled units in one unit of the scan
 abbrev pub IsUnit : ℕ → Type 0
 IsUnit unit = IsBetween 1 UNIT_LIMIT unit
 
@@ -32,13 +33,13 @@ IsUnit unit = IsBetween 1 UNIT_LIMIT unit
 abbrev pub IsFixed : Option Point → Type 0
 IsFixed fixed = ForSome fixed (IsWithin DATA_LIMIT)
 
--- the digest, the unit and the fixed scanner are so
+-- the digest, the scale and the fixed scanner are valid
 pub record IsStamp (s : StampView) : Type 0 where
   pub digest : IsDigest s.digest
   pub unit : IsUnit s.unit
   pub fixed : IsFixed s.fixed
 
--- a stamp that is so, or none
+-- a valid fingerprint, or none
 abbrev pub IsVersion : Option StampView → Type 0
 IsVersion None = Unit {0}
 IsVersion (Some s) = IsStamp s

@@ -1,11 +1,11 @@
 -- The text of a certificate, in its two versions.
 --
---   title, stamped_title              the first line of a certificate without a stamp, and of one with a stamp
---   scan_word, .., end_line           the fixed words of the other lines
+--   title, stamped_title              the first line of a certificate without a fingerprint, and of one with a fingerprint
+--   scan_word, .., end_line           the first words of the other lines, and the last line
 --   scan_line d                       the line of the digest of a scan's file
 --   fixed_line p                      the line of the fixed scanner
---   stamp_text s, version_text s      the lines of a stamp; the first line, and they where there is a stamp
---   cell_fields c end                 a cell's numbers, and the byte behind the last
+--   stamp_text s, version_text s      the lines of a fingerprint; the first line, and these if there is a fingerprint
+--   cell_fields c end                 a cell's numbers, and the byte after the last
 --   cell_line, flow_line, sink_line   the lines of the rows
 --   counts_text c                     the lines between these and the lists
 --   cert_text c                       the text
@@ -21,11 +21,11 @@ use Rattle.cert_text.specs.declared.certificate.SinkRow.{SinkRow}
 use Rattle.cert_text.specs.Stamps.{StampView}
 use Rattle.cert_text.specs.Certificates.{Counts, Claim}
 
--- the first version says nothing of which scan it belongs to
+-- the first version does not identify its scan
 unfoldable pub title : List ℕ
 title = codes "recon certificate 1\n"
 
--- the second version has a stamp behind this line
+-- the second version has a fingerprint after this line
 unfoldable pub stamped_title : List ℕ
 stamped_title = codes "recon certificate 2\n"
 
@@ -33,59 +33,59 @@ stamped_title = codes "recon certificate 2\n"
 unfoldable pub scan_word : List ℕ
 scan_word = codes "scan "
 
--- by how much the scan's numbers were multiplied
+-- the scale by which the scan's numbers were multiplied
 unfoldable pub unit_word : List ℕ
 unit_word = codes "unit "
 
--- the place follows from which all points were seen, if the words of the command gave one
+-- the position follows from which all points were seen, if an option gave one
 unfoldable pub scanner_word : List ℕ
 scanner_word = codes "scanner "
 
--- they gave none
+-- no option gave one
 unfoldable pub none_line : List ℕ
 none_line = codes "none\n"
 
--- how many distinct points the scan has
+-- the number of distinct points of the scan
 unfoldable pub points_word : List ℕ
 points_word = codes "points "
 
--- how many scanners
+-- the number of scanners
 unfoldable pub scanners_word : List ℕ
 scanners_word = codes "scanners "
 
--- how many sights, whatever they weigh
+-- the number of sights, of any weight
 unfoldable pub sights_word : List ℕ
 sights_word = codes "sights "
 
--- the weight of a vote
+-- the visibility weight
 unfoldable pub vote_word : List ℕ
 vote_word = codes "vote "
 
--- the weight of smoothing
+-- the area weight
 unfoldable pub smooth_word : List ℕ
 smooth_word = codes "smooth "
 
--- what the labels cost, which the flow is worth
+-- the cost of the labels, which is the value of the flow
 unfoldable pub cost_word : List ℕ
 cost_word = codes "cost "
 
--- how many cells are inside; their lines follow
+-- the number of inside cells; their lines follow
 unfoldable pub inside_word : List ℕ
 inside_word = codes "inside "
 
--- how many facets something flows over; their lines follow
+-- the number of facets with a flow over them; their lines follow
 unfoldable pub flow_word : List ℕ
 flow_word = codes "flow "
 
--- from how many cells something flows into their sinks; their lines follow
+-- the number of cells with a flow into their sinks; their lines follow
 unfoldable pub sink_word : List ℕ
 sink_word = codes "sink "
 
--- by which a text that was cut is told from a whole one
+-- the last line, by which a truncated text is recognised
 unfoldable pub end_line : List ℕ
 end_line = codes "end\n"
 
--- a b c d, and the byte behind d
+-- a b c d, and the byte after d
 abbrev pub cell_fields : List ℕ → ℕ → List ℕ
 cell_fields (a ∷ b ∷ c ∷ d ∷ []) end = ended a space ++ (ended b space ++ (ended c space ++ ended d end))
 cell_fields _ end = []
@@ -106,20 +106,20 @@ sink_line r = cell_fields r.cell space ++ ended r.amount line_feed
 abbrev pub scan_line : List ℕ → List ℕ
 scan_line digest = scan_word ++ (encode_lower digest ++ line_feed ∷ [])
 
--- x y z, or a word that says that there is none
+-- x y z, or a word for none
 abbrev pub place_line : Option Point → List ℕ
 place_line None = none_line
 place_line (Some p) = point_line p
 
--- where all points were seen from
+-- the position from which all points were seen
 abbrev pub fixed_line : Option Point → List ℕ
 fixed_line fixed = scanner_word ++ place_line fixed
 
--- the lines of the digest, the unit and the fixed scanner
+-- the lines of the digest, the scale and the fixed scanner
 abbrev pub stamp_text : StampView → List ℕ
 stamp_text s = scan_line s.digest ++ (counted unit_word s.unit ++ fixed_line s.fixed)
 
--- the first line, which says which version it is, and the stamp where there is one
+-- the first line with the version, and the fingerprint if there is one
 abbrev pub version_text : Option StampView → List ℕ
 version_text None = title
 version_text (Some s) = stamped_title ++ stamp_text s
@@ -132,7 +132,7 @@ counts_text c =
     ++ (counted sights_word c.sights
     ++ (counted vote_word c.vote ++ (counted smooth_word c.smooth ++ counted cost_word c.cost))))
 
--- the lines before the lists, those of the three lists, each with its length before it, and the last line
+-- the lines before the lists, those of the three lists, each after its length, and the last line
 abbrev pub cert_text : Claim → List ℕ
 cert_text c =
     version_text c.stamp

@@ -1,12 +1,12 @@
-//! What a certificate is.
+//! The type of certificates.
 
 use crate::Stamp;
 use std::alloc::AllocError;
 
-/// Want of memory.
+/// Out of memory.
 pub type NoMemory = AllocError;
 
-/// How much flows over a directed facet, from its own cell to the cell across.
+/// The flow over a directed facet, from its own cell to the adjacent cell.
 ///
 /// In a well-formed certificate the facet's three vertex numbers are distinct with the
 /// smallest first, and the amount is at least 1.
@@ -14,44 +14,42 @@ pub type NoMemory = AllocError;
 pub struct FlowRow {
     /// The facet, by its three vertex numbers.
     pub facet: [u32; 3],
-    /// What flows over it.
+    /// The flow over the facet.
     pub amount: u64,
 }
 
-/// How much flows from a cell into its sink.
+/// The flow from a cell into its sink.
 ///
-/// In a well-formed certificate the cell's four vertex numbers rise, and the amount is at
-/// least 1.
+/// In a well-formed certificate the cell's four vertex numbers ascend, and the amount is at least 1.
 #[derive(Clone, Copy, Debug, PartialEq, Eq)]
 pub struct SinkRow {
     /// The cell, by its four vertex numbers.
     pub cell: [u32; 4],
-    /// What flows into its sink.
+    /// The flow into its sink.
     pub amount: u64,
 }
 
-/// Labels and a flow, with the stamp, the counts and the weights of the scan that they belong to.
+/// Labels and a flow, with the fingerprint, the counts and the weights of their scan.
 ///
-/// A cell is its four vertex numbers, a directed facet its three. What has no row is 0, and
-/// a cell without a row in `inside` is outside. A certificate is *well formed* where the
-/// rows are as [`FlowRow`] and [`SinkRow`] say, the four numbers of each inside cell rise,
-/// and each of the three lists rises strictly by its cells or facets, compared number by
-/// number.
+/// A cell is given by its four vertex numbers, a directed facet by its three. An amount without a row is 0, and a cell without
+/// a row in `inside` is outside. A certificate is *well formed* if the rows are as described at [`FlowRow`] and [`SinkRow`],
+/// the four numbers of each inside cell ascend, and each of the three lists is strictly ascending by its cells or facets,
+/// compared lexicographically.
 #[derive(Debug, Drop)]
 pub struct Certificate {
-    /// Which scan it belongs to. A certificate of the first version does not say.
+    /// The scan that it belongs to; `None` in a certificate of the first version.
     pub stamp: Option<Stamp>,
-    /// How many distinct points the scan has.
+    /// The number of distinct points of the scan.
     pub points: u32,
-    /// How many scanners.
+    /// The number of scanners.
     pub scanners: u32,
-    /// How many lines of sight.
+    /// The number of lines of sight.
     pub sights: u32,
-    /// What a sight of weight 1 weighs.
+    /// The visibility weight: the weight of a sight of weight 1.
     pub vote: u32,
-    /// The weight of one facet of the surface.
+    /// The area weight: the weight of one facet of the surface.
     pub smooth: u32,
-    /// What the labels cost.
+    /// The cost of the labels.
     pub cost: u64,
     /// The cells that are inside.
     pub inside: Vec<[u32; 4]>,

@@ -1,14 +1,12 @@
-//! Certificates of a best surface, and their text.
+//! Certificates of optimality, and their text format.
 //!
-//! A certificate states which cells are inside and a flow, so that a reader who has the
-//! scan can check by the theorem of the largest flow and the smallest cut that no labels
-//! cost less. The text is this project's own format, in two versions: a few lines that state
-//! a number each, and three lists of rows; the second says first which scan it belongs to.
-//! Each well-formed certificate has exactly one text, and exactly these texts are read; of
-//! any other text the first refusal in line order is answered.
+//! A certificate states the inside cells and a flow, so that a reader with the scan can verify by the max-flow min-cut theorem
+//! that no labels cost less. The text is this project's own format, in two versions: lines that state one number each, and
+//! three lists of rows; the second version first identifies the scan. Each well-formed certificate has exactly one text, and
+//! exactly these texts are accepted; any other text gives its first error in line order.
 //!
-//! The crate stands on `line_text` (numbers in lines, printed and read), on `mesh_ply` (the
-//! line of a point) and on `hex` (the digits of a digest).
+//! The crate depends on `line_text` (numbers in lines, printed and read), on `mesh_ply` (the line of a point) and on `hex` (the
+//! digits of a digest).
 #![tactic(auto)]
 
 mod certificate;

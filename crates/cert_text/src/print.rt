@@ -1,4 +1,4 @@
-//! The text of a certificate, printed. It stands on `line_text`.
+//! Prints the text of a certificate. Depends on `line_text`.
 
 ghost use Rattle.std.specs.Prelude.{◌≡◌, ◌++◌, OnOk, OnErr, length, take};
 ghost use Rattle.std.specs.List.{flat_map};
@@ -12,7 +12,7 @@ use crate::words::{cost, end_mark, points, scanners, sights, smooth, vote};
 use crate::{Certificate, NoMemory};
 use line_text::push_counted;
 
-/// The lines of the counts, the weights and the cost.
+/// Appends the lines of the counts, the weights and the cost.
 fn push_counts(out: &mut Vec<u8>, cert: &Certificate) -> Result<(), NoMemory>
     ensures ok { OnOk result (out.new.items ≡ out.old.items ++ counts_text (claim_of cert.now).counts) }
     ensures kept { OnErr result (take (length out.old.items) out.new.items ≡ out.old.items) }
@@ -26,7 +26,7 @@ fn push_counts(out: &mut Vec<u8>, cert: &Certificate) -> Result<(), NoMemory>
     Ok(())
 }
 
-/// The lines of rows.
+/// Appends the lines of rows.
 fn push_rows<R: Row>(out: &mut Vec<u8>, rows: &[R]) -> Result<(), NoMemory>
     ensures ok { OnOk result (out.new.items ≡ out.old.items ++ flat_map R.line rows.now) }
     ensures kept { OnErr result (take (length out.old.items) out.new.items ≡ out.old.items) }
@@ -37,7 +37,7 @@ fn push_rows<R: Row>(out: &mut Vec<u8>, rows: &[R]) -> Result<(), NoMemory>
     Ok(())
 }
 
-/// A list with its length before it.
+/// Appends a list after its length.
 fn push_list<R: Row>(out: &mut Vec<u8>, rows: &[R]) -> Result<(), NoMemory>
     ensures ok { OnOk result (out.new.items ≡ out.old.items ++ list_text R.line R.word rows.now) }
     ensures kept { OnErr result (take (length out.old.items) out.new.items ≡ out.old.items) }
@@ -60,14 +60,12 @@ fn push_parts(out: &mut Vec<u8>, cert: &Certificate) -> Result<(), NoMemory>
     Ok(())
 }
 
-/// Adds the text of a well-formed certificate at the end of `out`: a line that names the
-/// format and its version, the three lines of the stamp where there is one, six lines of a
-/// word and a number, then the inside cells, the flow over facets
-/// and the flow into sinks, each list with its length before it, and the line `end`. Each
-/// line is ended by LF, one space stands between words, and numbers are decimal without
-/// leading zeros.
+/// Appends the text of a well-formed certificate to `out`: a line with the format and its version, the three lines of the
+/// fingerprint if there is one, six lines of a word and a number, then the inside cells, the flow over facets and the flow into
+/// sinks, each list after its length, and the line `end`. Each line is ended by LF, single spaces separate tokens, and numbers
+/// are decimal without leading zeros.
 ///
-/// After `NoMemory`, `out` is as it was.
+/// After `NoMemory`, `out` is unchanged.
 pub fn push_cert(out: &mut Vec<u8>, cert: &Certificate) -> Result<(), NoMemory>
     requires { IsWellFormed (claim_of cert.now) }
     ensures printed { OnOk result (out.new.items ≡ out.old.items ++ cert_text (claim_of cert.now)) }

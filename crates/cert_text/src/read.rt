@@ -1,6 +1,5 @@
-//! A certificate read from its text. Exactly the texts that are printed are read; of any
-//! other text the first refusal in line order is answered. Nothing is reserved by a stated
-//! count, so time and memory are linear in the bytes. It stands on `line_text`.
+//! Reads a certificate from its text. Accepts exactly the texts that are printed; any other text gives its first error in line
+//! order. No memory is reserved by a stated count, so time and memory are linear in the bytes. Depends on `line_text`.
 
 ghost use Rattle.std.specs.Prelude.{◌≡◌, ◌<◌, ◌+◌, ◌++◌, IfOk, IfErr, IsErr, MatchResult, List, Some, length};
 ghost use Rattle.std.specs.Bool.{OnTrue, OnFalse};
@@ -34,7 +33,7 @@ struct Heading {
     cost: u64,
 }
 
-/// A line of a word and a number of 32 bits.
+/// Reads a line of a word and a 32-bit number.
 fn small_line<'a>(text: &'a [u8], word: &[u8], line: u64) -> Result<(u32, &'a [u8]), LineRefusal>
     ensures ok { IfOk result (λ read. IsBetween 0 4294967295 read.0 × (text.now ≡ counted word.now read.0 ++ read.1.now)) }
     ensures refused { IfErr result (RefusedNumber word.now 0 4294967295 line text.now) }
@@ -43,7 +42,7 @@ fn small_line<'a>(text: &'a [u8], word: &[u8], line: u64) -> Result<(u32, &'a [u
     Ok((n as u32, rest))
 }
 
-/// The six lines of numbers, which begin at this line.
+/// Reads the six lines of numbers, from this line on.
 fn read_counts(text: &[u8], line: u64) -> Result<(Heading, &[u8]), LineRefusal>
     requires { line < 6 }
     ensures ok { IfOk result (λ read. FitCounts (counts_of read.0) × (text.now ≡ counts_text (counts_of read.0) ++ read.1.now)) }
@@ -66,7 +65,7 @@ fn read_counts(text: &[u8], line: u64) -> Result<(Heading, &[u8]), LineRefusal>
     Ok((heading, rest))
 }
 
-/// Whether a row comes before another one, compared number by number.
+/// Returns whether a row comes before another one, compared lexicographically.
 #[tactic(auto, using(line_text::proofs::Rows::before_nil))]
 fn is_before(before: &[u32], row: &[u32]) -> bool
     ensures yes { OnTrue result (IsBefore before.now row.now) }
@@ -81,7 +80,7 @@ fn is_before(before: &[u32], row: &[u32]) -> bool
     }
 }
 
-/// Whether the row rises above the last of these.
+/// Returns whether the row is above the last of these.
 fn rises<R: Row>(rows: &[R], row: R) -> bool
     ensures yes { OnTrue result (RisesAbove (Some R.key) rows.now row) }
     ensures no { OnFalse result (¬ RisesAbove (Some R.key) rows.now row) }
@@ -92,7 +91,7 @@ fn rises<R: Row>(rows: &[R], row: R) -> bool
     }
 }
 
-/// The lines of so many rows, which begin at this line.
+/// Reads the lines of this number of rows, from this line on.
 fn read_rows<R: Row>(
     alloc: Global,
     text: &[u8],
@@ -122,7 +121,7 @@ fn read_rows<R: Row>(
     Ok((rows, rest))
 }
 
-/// A list with its length before it, and the number of the line behind it.
+/// Reads a list after its length, and returns it with the number of the line after it.
 fn read_list<R: Row>(
     alloc: Global,
     text: &[u8],
@@ -137,7 +136,7 @@ fn read_list<R: Row>(
     Ok((rows, rest, first.saturating_add(count)))
 }
 
-/// The certificate, or the first refusal.
+/// Returns the certificate, or the first error.
 fn read_lines(alloc: Global, bytes: &[u8]) -> Result<Certificate, LineRefusal>
     ensures ok { IfOk result (λ cert. IsWellFormed (claim_of cert) × (bytes.now ≡ cert_text (claim_of cert))) }
     ensures refused { IfErr result (λ r. WithMemory r (AtCertificate bytes.now r)) }
@@ -169,7 +168,7 @@ fn read_lines(alloc: Global, bytes: &[u8]) -> Result<Certificate, LineRefusal>
     })
 }
 
-/// The certificate, or the first refusal as one of a certificate.
+/// Returns the certificate, or the first error as one of a certificate.
 fn read_or_refuse(alloc: Global, bytes: &[u8]) -> Result<Certificate, CertRefusal>
     ensures ok { IfOk result (λ cert. IsWellFormed (claim_of cert) × (bytes.now ≡ cert_text (claim_of cert))) }
     ensures refused { IfErr result (λ r. OrNoMemory r (IsRefusedCertificate bytes.now r)) }
@@ -180,14 +179,12 @@ fn read_or_refuse(alloc: Global, bytes: &[u8]) -> Result<Certificate, CertRefusa
     }
 }
 
-/// The certificate whose text the bytes are.
+/// Returns the certificate whose text the bytes are.
 ///
-/// Ok exactly for the texts that [`push_cert`](crate::push_cert) writes. Otherwise the first
-/// refusal, line by line: `CertCut` where the bytes end before the line feed of an expected
-/// line, `BadLine` where the line is not of the form that stands there, which includes any
-/// byte behind the last line, as a line of its own, and `Order` where the row of the line
-/// does not rise above the row before it in its list. Lines are counted from 1, and a number
-/// that would pass the end of 64 bits stays there. `NoMemory` says nothing of the text.
+/// Succeeds exactly for the texts that [`push_cert`](crate::push_cert) writes. Any other text gives its first error, line by
+/// line: `CertCut` if the bytes end before the line feed of an expected line, `BadLine` if the line is invalid, which includes
+/// any byte after the last line, as a line of its own, and `Order` if the row of the line is not above the row before it in its
+/// list. Lines are counted from 1, and a line number stops at the maximum of 64 bits. `NoMemory` says nothing about the text.
 pub fn read_cert(alloc: Global, bytes: &[u8]) -> Result<Certificate, CertRefusal>
     ensures ok { IfOk result (λ cert. IsWellFormed (claim_of cert) × (bytes.now ≡ cert_text (claim_of cert))) }
     ensures printed { (c : Claim) → IsWellFormed c → bytes.now ≡ cert_text c → MatchResult result (λ cert. claim_of cert ≡ c) (λ r. r ≡ CertRefusal.NoMemory) }

@@ -1,4 +1,4 @@
-//! Why a text is no certificate.
+//! Why a text is not a certificate.
 
 ghost use Rattle.std.specs.Prelude.{◌≡◌};
 ghost use Rattle.cert_text.specs.Refusals.{cert_refusal};
@@ -9,21 +9,21 @@ use thiserror::Error;
 /// Why bytes are not the text of a certificate. Lines are counted from 1.
 #[derive(Clone, Copy, Debug, PartialEq, Eq, Drop, Error)]
 pub enum CertRefusal {
-    /// The line is not of the form that stands there, or it begins behind the last line.
+    /// The line is invalid, or it begins after the last line.
     #[error("line {0} is not of its form")]
     BadLine(u64),
-    /// The line is of its form, but its row does not rise above the row before it.
+    /// The line is valid, but its row is not above the row before it.
     #[error("line {0} is out of order")]
     Order(u64),
     /// The bytes end before the end of an expected line.
     #[error("the certificate is cut")]
     CertCut,
-    /// Want of memory.
+    /// Out of memory.
     #[error("out of memory")]
     NoMemory,
 }
 
-/// The refusal of a line as one of a certificate.
+/// Converts the error of a line to one of a certificate.
 pub fn refusal_of_cert(refusal: LineRefusal) -> CertRefusal
     ensures { result ≡ cert_refusal refusal }
 {

@@ -1,4 +1,4 @@
-//! What a row of a certificate is, and its three kinds. Lists are printed and read over it, whatever their rows.
+//! The rows of a certificate, of three kinds. Lists of any kind are printed and read by this trait.
 
 ghost use Rattle.std.specs.Prelude.{◌≡◌, ◌++◌, List, ℕ, IfSome, IfNone, OnOk, OnErr, length, take};
 ghost use Rattle.line_text.specs.Numbers.{BeginsWithNone};
@@ -12,33 +12,33 @@ use line_text::{facet_first, push_number};
 
 /// A row of one of a certificate's three lists: an inside cell, a [`FlowRow`] or a [`SinkRow`].
 pub trait Row: Copy {
-    // What holds of the row in a well-formed certificate.
+    // The invariant of the row in a well-formed certificate.
     ghost is_row: { Self → Type 0 };
 
     // Its line.
     ghost line: { Self → List ℕ };
 
-    // The numbers by which the rows of its list rise.
+    // The numbers by which the rows of its list ascend.
     ghost key: { Self → List ℕ };
 
-    // The word before the length of its list.
+    // The text before the length of its list.
     ghost word: { List ℕ };
 
-    /// That word.
+    /// Returns that text.
     fn word() -> &'static [u8]
         ensures { result.now ≡ word };
 
-    /// The row whose line stands at the front of a text, and what stands behind. None where no such line stands there.
+    /// Returns the row whose line is at the start of a text, and the text after it, or `None` if there is no such line.
     fn first(text: &[u8]) -> Option<(Self, &[u8])>
         ensures some { IfSome result (λ read. is_row read.0 × (text.now ≡ line read.0 ++ read.1.now)) }
         ensures none { IfNone result (BeginsWithNone is_row line text.now) };
 
-    /// Adds its line. After `NoMemory` the bytes that `out` held are still at its front, and more may follow.
+    /// Appends its line. After `NoMemory` the previous bytes of `out` are still at its start, and more may follow.
     fn push(self, out: &mut Vec<u8>) -> Result<(), NoMemory>
         ensures ok { OnOk result (out.new.items ≡ out.old.items ++ line self) }
         ensures kept { OnErr result (take (length out.old.items) out.new.items ≡ out.old.items) };
 
-    /// The numbers by which it rises.
+    /// Returns the numbers by which it is sorted.
     fn key(&self) -> &[u32]
         ensures { result.now ≡ key self.now };
 }

@@ -1,19 +1,19 @@
-//! What says which scan a certificate belongs to.
+//! The fingerprint of the input, which identifies the scan of a certificate.
 
 ghost use Rattle.cert_text.specs.Stamps.{IsDigest, IsUnit, IsFixed};
 
 use geo_sign::Point;
 
-/// The file of a scan and how it was read: what the numbers of a certificate were found from.
+/// The file of a scan and the options with which it was read: the input that a certificate belongs to.
 ///
-/// The unit is 1 to 1,000,000, and a fixed scanner is a data point.
+/// The scale is 1 to 1,000,000, and a fixed scanner is a data point.
 #[derive(Clone, Copy, Debug, PartialEq, Eq)]
 pub struct Stamp {
     /// The SHA-256 of the file's bytes.
     pub digest: [u8; 32],
-    /// How many scaled units make one of the file's.
+    /// The scale: scaled units in one unit of the file.
     pub unit: u32,
-    /// Where all points were seen from, in scaled units, if that was told beside the file.
+    /// The position from which all points were seen, in scaled units, if it was given as an option.
     pub fixed: Option<Point>,
     pub ghost digest_is: { IsDigest digest },
     pub ghost unit_is: { IsUnit unit },

@@ -1,5 +1,4 @@
-//! The first line of a certificate and its stamp, printed. It stands on `line_text` and on
-//! `mesh_ply`, which prints points.
+//! Prints the first line of a certificate and its fingerprint. Depends on `line_text` and on `mesh_ply`, which prints points.
 
 ghost use Rattle.std.specs.Prelude.{◌≡◌, ◌++◌, OnOk, OnErr, length, take};
 ghost use Rattle.std.specs.Option.{option_map};
@@ -13,7 +12,7 @@ use geo_sign::Point;
 use line_text::push_counted;
 use mesh_ply::push_point;
 
-/// The line of a digest.
+/// Appends the line of a digest.
 fn push_digest(out: &mut Vec<u8>, digest: &[u8; 32]) -> Result<(), NoMemory>
     ensures ok { OnOk result (out.new.items ≡ out.old.items ++ scan_line digest.now) }
     ensures kept { OnErr result (take (length out.old.items) out.new.items ≡ out.old.items) }
@@ -25,7 +24,7 @@ fn push_digest(out: &mut Vec<u8>, digest: &[u8; 32]) -> Result<(), NoMemory>
     Ok(())
 }
 
-/// A point, or the word that there is none, and the end of the line.
+/// Appends a point, or `none`, and the end of the line.
 fn push_place(out: &mut Vec<u8>, place: Option<Point>) -> Result<(), NoMemory>
     ensures ok { OnOk result (out.new.items ≡ out.old.items ++ place_line place) }
     ensures kept { OnErr result (take (length out.old.items) out.new.items ≡ out.old.items) }
@@ -36,7 +35,7 @@ fn push_place(out: &mut Vec<u8>, place: Option<Point>) -> Result<(), NoMemory>
     }
 }
 
-/// The line of the fixed scanner.
+/// Appends the line of the fixed scanner.
 fn push_fixed(out: &mut Vec<u8>, fixed: Option<Point>) -> Result<(), NoMemory>
     ensures ok { OnOk result (out.new.items ≡ out.old.items ++ fixed_line fixed) }
     ensures kept { OnErr result (take (length out.old.items) out.new.items ≡ out.old.items) }
@@ -46,7 +45,7 @@ fn push_fixed(out: &mut Vec<u8>, fixed: Option<Point>) -> Result<(), NoMemory>
     Ok(())
 }
 
-/// The three lines of a stamp.
+/// Appends the three lines of a fingerprint.
 fn push_stamp(out: &mut Vec<u8>, stamp: &Stamp) -> Result<(), NoMemory>
     ensures ok { OnOk result (out.new.items ≡ out.old.items ++ stamp_text (stamp_view stamp.now)) }
     ensures kept { OnErr result (take (length out.old.items) out.new.items ≡ out.old.items) }
@@ -57,7 +56,7 @@ fn push_stamp(out: &mut Vec<u8>, stamp: &Stamp) -> Result<(), NoMemory>
     Ok(())
 }
 
-/// The first line, and the stamp where there is one.
+/// Appends the first line, and the fingerprint if there is one.
 pub fn push_version(out: &mut Vec<u8>, stamp: Option<Stamp>) -> Result<(), NoMemory>
     ensures ok { OnOk result (out.new.items ≡ out.old.items ++ version_text (option_map stamp_view stamp)) }
     ensures kept { OnErr result (take (length out.old.items) out.new.items ≡ out.old.items) }

@@ -1,4 +1,4 @@
-//! The first line of a certificate and its stamp, read. It stands on `line_text`.
+//! Reads the first line of a certificate and its fingerprint. Depends on `line_text`.
 
 ghost use Rattle.std.specs.Prelude.{◌≡◌, ◌<◌, ◌++◌, IfOk, IfErr, IfSome, IfNone};
 ghost use Rattle.std.specs.Option.{option_map};
@@ -18,7 +18,7 @@ use geo_sign::{BOX_LIMIT, Point};
 use line_text::{LineRefusal, behind, cut_at, number_line, refusal_of, signed_first, word_line};
 use num_text::UNIT_LIMIT;
 
-/// A coordinate of the box, and what stands behind its end.
+/// Returns a coordinate of the box, and the text after its end.
 fn coordinate_first(text: &[u8], end: u8) -> Option<(i64, &[u8])>
     requires { end < 45 }
     ensures some { IfSome result (λ read. IsCoordinate read.0 × (text.now ≡ signed_ended read.0 end ++ read.1.now)) }
@@ -27,7 +27,7 @@ fn coordinate_first(text: &[u8], end: u8) -> Option<(i64, &[u8])>
     signed_first(text, end, -(BOX_LIMIT as i64), BOX_LIMIT as i64)
 }
 
-/// The line of a data point.
+/// Returns the line of a data point.
 fn data_first(text: &[u8]) -> Option<(Point, &[u8])>
     ensures some { IfSome result (λ read. IsWithin DATA_LIMIT read.0 × (text.now ≡ point_line read.0 ++ read.1.now)) }
     ensures none { IfNone result (BeginsWithNone (IsWithin DATA_LIMIT) point_line text.now) }
@@ -39,7 +39,7 @@ fn data_first(text: &[u8]) -> Option<(Point, &[u8])>
     Some((point, rest))
 }
 
-/// A data point, or the word that there is none, and the end of the line.
+/// Returns a data point, or `None` for `none`, and the text after the end of the line.
 fn place_first(text: &[u8]) -> Option<(Option<Point>, &[u8])>
     ensures some { IfSome result (λ read. IsFixed read.0 × (text.now ≡ place_line read.0 ++ read.1.now)) }
     ensures none { IfNone result (BeginsWithNone IsFixed place_line text.now) }
@@ -53,7 +53,7 @@ fn place_first(text: &[u8]) -> Option<(Option<Point>, &[u8])>
     }
 }
 
-/// The line of the fixed scanner.
+/// Returns the line of the fixed scanner.
 fn fixed_first(text: &[u8]) -> Option<(Option<Point>, &[u8])>
     ensures some { IfSome result (λ read. IsFixed read.0 × (text.now ≡ fixed_line read.0 ++ read.1.now)) }
     ensures none { IfNone result (BeginsWithNone IsFixed fixed_line text.now) }
@@ -62,7 +62,7 @@ fn fixed_first(text: &[u8]) -> Option<(Option<Point>, &[u8])>
     place_first(rest)
 }
 
-/// The line of the digest.
+/// Returns the line of the digest.
 fn digest_first(text: &[u8]) -> Option<([u8; 32], &[u8])>
     ensures some { IfSome result (λ read. IsDigest read.0 × (text.now ≡ scan_line read.0 ++ read.1.now)) }
     ensures none { IfNone result (BeginsWithNone IsDigest scan_line text.now) }
@@ -73,7 +73,7 @@ fn digest_first(text: &[u8]) -> Option<([u8; 32], &[u8])>
     Some((digest, rest))
 }
 
-/// The same, as line 2.
+/// Returns the same, as line 2.
 fn read_digest(text: &[u8]) -> Result<([u8; 32], &[u8]), LineRefusal>
     ensures ok { IfOk result (λ read. IsDigest read.0 × (text.now ≡ scan_line read.0 ++ read.1.now)) }
     ensures refused { IfErr result (RefusedLine IsDigest scan_line 2 text.now) }
@@ -84,7 +84,7 @@ fn read_digest(text: &[u8]) -> Result<([u8; 32], &[u8]), LineRefusal>
     }
 }
 
-/// The line of the fixed scanner, as line 4.
+/// Returns the line of the fixed scanner, as line 4.
 fn read_fixed(text: &[u8]) -> Result<(Option<Point>, &[u8]), LineRefusal>
     ensures ok { IfOk result (λ read. IsFixed read.0 × (text.now ≡ fixed_line read.0 ++ read.1.now)) }
     ensures refused { IfErr result (RefusedLine IsFixed fixed_line 4 text.now) }
@@ -95,7 +95,7 @@ fn read_fixed(text: &[u8]) -> Result<(Option<Point>, &[u8]), LineRefusal>
     }
 }
 
-/// The three lines of a stamp.
+/// Returns the three lines of a fingerprint.
 fn read_stamp(text: &[u8]) -> Result<(Stamp, &[u8]), LineRefusal>
     ensures ok { IfOk result (λ read. IsStamp (stamp_view read.0) × (text.now ≡ stamp_text (stamp_view read.0) ++ read.1.now)) }
     ensures refused { IfErr result (RefusedStamp text.now) }
@@ -115,7 +115,7 @@ fn read_stamp(text: &[u8]) -> Result<(Stamp, &[u8]), LineRefusal>
     }
 }
 
-/// The first line, and the stamp where the line says that there is one.
+/// Returns the first line, and the fingerprint if the line announces one.
 pub fn read_version(text: &[u8]) -> Result<(Option<Stamp>, &[u8]), LineRefusal>
     ensures ok { IfOk result (λ read. IsVersion (option_map stamp_view read.0) × (text.now ≡ version_text (option_map stamp_view read.0) ++ read.1.now)) }
     ensures refused { IfErr result (RefusedVersion text.now) }
@@ -130,7 +130,7 @@ pub fn read_version(text: &[u8]) -> Result<(Option<Stamp>, &[u8]), LineRefusal>
     }
 }
 
-/// The line of the first count.
+/// Returns the number of the line of the first count.
 pub fn counts_line(stamp: &Option<Stamp>) -> u64
     ensures value { result ≡ line_of_counts (option_map stamp_view stamp.now) }
     ensures bound { result < 6 }

@@ -1,7 +1,7 @@
--- Keys of points along a space-filling curve: the Morton order, by the bits of the three coordinates in turn.
+-- Keys of points along a space-filling curve: the Morton order, which interleaves the bits of the three coordinates.
 --
---   interleave n x y z     the lowest n bits of three numbers in turn: bit j of x counts 2 ^ (3 j + 2), of y 2 ^ (3 j + 1),
---                          of z 2 ^ (3 j)
+--   interleave n x y z     the lowest n bits of three numbers, interleaved: bit j of x has the value 2 ^ (3 j + 2), of y 2 ^ (3
+--                          j + 1), of z 2 ^ (3 j)
 --   curve_key p            the key of a data point, each coordinate counted from -DATA_LIMIT
 --   key_in points i        the key of point i of a list
 use Rattle.std.specs.Prelude.{ℕ, zero, suc, ◌+◌, ◌*◌, ◌/◌, ◌%◌, pos, ◌+ℤ◌, unsigned_abs, List, get_or}

@@ -1,8 +1,8 @@
 -- Points with their ranks, by which they are sorted.
 --
---   rank_of key number         by key, and points of one key by their numbers
+--   rank_of key number         by key, and points with equal keys by their numbers
 --   rank_in points i           the rank of point i of a list
---   the_rank, the_number       what stands in an entry
+--   the_rank, the_number       the two parts of an entry
 --   AreRanked points list n    the first n points, each with its rank
 use Rattle.std.specs.Prelude.{ℕ, ◌≡◌, ◌<◌, ◌+◌, ◌*◌, List, length, map, slice_index, All}
 use Rattle.geo_sign.specs.Point.{Point}

@@ -7,20 +7,20 @@ ghost use Rattle.curve_order.specs.Curve.{interleave, curve_key};
 
 use geo_sign::{DATA_LIMIT, Point};
 
-/// How many bits of each coordinate are in a key: a coordinate counted from the least one is below 2^22.
+/// The number of bits of each coordinate in a key: a coordinate counted from the least one is below 2^22.
 const BITS: u32 = 22;
 
-/// What a coordinate is counted from, turned round.
+/// The negated origin of coordinates.
 const SHIFT: i32 = DATA_LIMIT as i32;
 
-/// The lowest bit of each of three numbers.
+/// Returns the lowest bit of each of three numbers, interleaved.
 fn lowest(x: u32, y: u32, z: u32) -> u32
     ensures { result ≡ x % 2 * 4 + y % 2 * 2 + z % 2 }
 {
     x % 2 * 4 + y % 2 * 2 + z % 2
 }
 
-/// Fewer than `BITS` of the lowest bits of three numbers in turn. They fit 64 bits, in which it is faster.
+/// Interleaves fewer than `BITS` of the lowest bits of three numbers. They fit 64 bits, which is faster.
 fn interleaved(bits: u32, x: u32, y: u32, z: u32) -> u64
     requires { bits ≤ 21 }
     ensures value { result ≡ interleave bits x y z }
@@ -33,7 +33,7 @@ fn interleaved(bits: u32, x: u32, y: u32, z: u32) -> u64
     high * 8 + u64::from(lowest(x, y, z))
 }
 
-/// The `BITS` lowest bits of three numbers in turn.
+/// Interleaves the `BITS` lowest bits of three numbers.
 fn all_interleaved(x: u32, y: u32, z: u32) -> u128
     ensures value { result ≡ interleave 22 x y z }
     ensures bound { result < 2 ^ 66 }
@@ -42,7 +42,7 @@ fn all_interleaved(x: u32, y: u32, z: u32) -> u128
     u128::from(high) * 8 + u128::from(lowest(x, y, z))
 }
 
-/// The key of a data point.
+/// Returns the key of a data point.
 pub(crate) fn key_of(p: Point) -> u128
     requires { IsWithin DATA_LIMIT p }
     ensures value { result ≡ curve_key p }

@@ -1,15 +1,15 @@
-//! Orders in which points are near those before them: along a space-filling curve, and the same in rounds.
+//! Orders in which points are near their predecessors: along a space-filling curve, and the same in rounds.
 //!
-//! The curve is that of Morton (1966): the key of a point has the bits of its three coordinates in turn, from the highest to the
-//! lowest, each coordinate counted from the least that a data point may have. Points that follow each other by rising key are mostly
-//! near each other, so that a walk from one to the next is short.
+//! The curve is that of Morton (1966): the key of a point interleaves the bits of its three coordinates, from the highest to
+//! the lowest, each coordinate counted from the least of a data point. Points with successive keys are mostly near each other,
+//! so that a walk from one to the next is short.
 //!
-//! Along the curve alone, an insertion of all points makes many cells that do not last, where the points lie in the plane or in the
-//! space: each new point is at the border of those before it. Rounds mend that, as in the biased randomized insertion order of Amenta,
-//! Choi and Rote (2003): each round has about fifteen times as many points as all rounds before it, from everywhere, along the curve.
+//! Insertion along the curve alone creates many short-lived cells: each new point is on the border of those before it. Rounds
+//! avoid this, as in the biased randomized insertion order of Amenta, Choi and Rote (2003): each round has about fifteen times
+//! as many points as all rounds before it, from everywhere, along the curve.
 //!
-//! Nothing but speed hangs on an order: what is promised is that each number comes once, along the curve by rising key. The crate stands
-//! on `geo_sign` (points) alone.
+//! An order affects only speed. The contract states that each number occurs once, along the curve by ascending key. The crate
+//! depends on `geo_sign` (points) alone.
 #![tactic(auto)]
 
 mod curve;
@@ -20,5 +20,5 @@ pub use rounds::in_rounds;
 pub use sorting::order;
 use std::alloc::AllocError;
 
-/// Want of memory: the one answer that any input may get.
+/// Out of memory: the one error that any input may cause.
 pub type NoMemory = AllocError;

@@ -1,4 +1,4 @@
-//! An order cut into rounds.
+//! An order divided into rounds.
 
 ghost use Rattle.std.specs.Prelude.{ℕ, IfOk};
 ghost use Rattle.std.specs.List.Sorted.{IsPermutation};
@@ -9,13 +9,13 @@ use crate::NoMemory;
 /// The last round. About one number in 16^5, a million, is in the first, which is round 0.
 const LAST_ROUND: u32 = 5;
 
-/// In how many parts a round leaves one to the rounds before it.
+/// A round has all but one of this number of parts; the rounds before it share that one.
 const PARTS: u32 = 16;
 
-/// The round of a number. A fixed scramble of the number's bits decides it, so that a round has numbers from everywhere, whatever the
-/// numbers mean: 15 of 16 are in the last round, 15 of 16 of the others in the round before it, and so on. So nearly all cells are made
-/// in the last round, along the curve, and those that are near each other mostly have numbers near each other, which is worth more to
-/// whoever goes through the cells than the cells that fewer, larger rounds make in vain.
+/// Returns the round of a number. A fixed hash of the number decides it, so that a round has numbers from everywhere, whatever
+/// the numbers mean: 15 of 16 are in the last round, 15 of 16 of the others in the round before it, and so on. So nearly all
+/// cells are made in the last round, along the curve, and those that are near each other mostly have numbers near each other.
+/// For traversals of the cells this locality saves more than fewer, larger rounds would save in short-lived cells.
 fn round_of(number: u32) -> u32 {
     let mixed = number.wrapping_mul(0x9e37_79b9);
     let scrambled = (mixed ^ (mixed >> 15)).wrapping_mul(0x85eb_ca6b);
@@ -29,9 +29,10 @@ fn round_of(number: u32) -> u32 {
     0
 }
 
-/// The same numbers in rounds, by rising round, and in each round in the order that they had. The only error is want of memory.
+/// Returns the same numbers in rounds, by ascending round, and within each round in their original order. The only error is out
+/// of memory.
 ///
-/// Which number is in which round is a choice for speed alone, and no clause says it.
+/// The choice of rounds affects only speed, and no contract states it.
 pub fn in_rounds(mut order: Vec<u32>) -> Result<Vec<u32>, NoMemory>
     ensures moved { IfOk result (λ rounds. IsPermutation order.items rounds.items) }
     ensures order { IfOk result (λ rounds. (n : ℕ) → IsOrder n order.items → IsOrder n rounds.items) }

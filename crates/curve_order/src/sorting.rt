@@ -20,7 +20,7 @@ struct Ranked {
     number: u32,
 }
 
-/// The rank of a data point with a number: its key, and below it 32 bits of the number.
+/// Returns the rank of a data point with a number: its key, and below it 32 bits of the number.
 fn rank_at(p: Point, number: u32) -> u128
     requires { IsWithin DATA_LIMIT p }
     ensures { result ≡ rank_of (curve_key p) number }
@@ -28,7 +28,7 @@ fn rank_at(p: Point, number: u32) -> u128
     key_of(p) * 4_294_967_296 + u128::from(number)
 }
 
-/// The points with their ranks.
+/// Returns the points with their ranks.
 fn with_ranks(alloc: Global, points: &[Point]) -> Result<Vec<Ranked>, NoMemory>
     requires few { length points.now < 2 ^ 32 }
     requires within { (k : ℕ) → k < length points.now → IsWithin DATA_LIMIT (get_or points.now k origin) }
@@ -45,7 +45,7 @@ fn with_ranks(alloc: Global, points: &[Point]) -> Result<Vec<Ranked>, NoMemory>
     Ok(list)
 }
 
-/// Puts points in the order of their ranks.
+/// Sorts points by their ranks.
 fn sort(list: &mut [Ranked])
     ensures moved { IsPermutation list.old list.new }
     ensures sorted { IsNonDecreasingBy the_rank list.new }
@@ -53,7 +53,7 @@ fn sort(list: &mut [Ranked])
     list.sort_unstable_by_key(|ranked| ranked.rank);
 }
 
-/// Their numbers.
+/// Returns their numbers.
 fn numbers(alloc: Global, list: &[Ranked]) -> Result<Vec<u32>, NoMemory>
     ensures { IfOk result (λ numbers. numbers.items ≡ map the_number list.now) }
 {
@@ -64,8 +64,8 @@ fn numbers(alloc: Global, list: &[Ranked]) -> Result<Vec<u32>, NoMemory>
     Ok(numbers)
 }
 
-/// The numbers of data points along the curve: each number below the count once, by rising key, and those of one key by rising number.
-/// The only error is want of memory.
+/// Returns the numbers of data points along the curve: each number below the count once, by ascending key, and numbers with
+/// equal keys in ascending order. The only error is out of memory.
 pub fn order(alloc: Global, points: &[Point]) -> Result<Vec<u32>, NoMemory>
     requires few { length points.now < 2 ^ 32 }
     requires within { (k : ℕ) → k < length points.now → IsWithin DATA_LIMIT (get_or points.now k origin) }

@@ -21,10 +21,12 @@ use std::alloc::Global;
 use tetra_store::Tetra;
 use watch::{Silent, Stage, Watch, tell};
 
-/// The Delaunay cells of the box's corners and these distinct data points, of which point i is vertex 8 + i; all are inserted.
+/// Returns the Delaunay cells of the box's corners and these distinct data points, all of them inserted; point i is vertex 8 +
+/// i.
 ///
-/// The points are inserted in rounds along a curve, so that each is near the one before it and few cells are made that do not last, and
-/// in the end the cells get their numbers along it. The cells do not depend on that, and the time does. The only error is want of memory.
+/// The points are inserted in rounds along a curve, so that each is near its predecessor and few short-lived cells are created.
+/// In the end the cells are numbered along the curve. This affects the time, but not the set of cells. The only error is out of
+/// memory.
 pub fn build(alloc: Global, points: &[Point]) -> Result<Tetra, NoMemory>
     requires within { (k : ℕ) → k < length points.now → IsWithin DATA_LIMIT (get_or points.now k origin) }
     requires distinct { (j k : ℕ) → j < length points.now → k < length points.now → get_or points.now j origin ≡ get_or points.now k origin → j ≡ k }
@@ -38,7 +40,7 @@ pub fn build(alloc: Global, points: &[Point]) -> Result<Tetra, NoMemory>
     build_watched(alloc, points, &mut Silent)
 }
 
-/// The same, where a watch is told of the stage and of how many points are inserted.
+/// Returns the same, and reports the stage and the number of inserted points to a progress callback.
 pub fn build_watched<W: Watch>(
     alloc: Global,
     points: &[Point],
@@ -64,10 +66,10 @@ pub fn build_watched<W: Watch>(
     Ok(t)
 }
 
-/// About how many cells there are for each point, where points lie anywhere in space. There are fewer where they lie on surfaces.
+/// The approximate number of cells for each point, if points are distributed in space. There are fewer if they lie on surfaces.
 const CELLS_PER_POINT: usize = 7;
 
-/// The box with these points, of which none is inserted, and room for about as many cells as there will be.
+/// Returns the box with these points, none of them inserted, and capacity for about the expected number of cells.
 fn box_with(alloc: Global, points: &[Point]) -> Result<Tetra, NoMemory>
     requires within { (k : ℕ) → k < length points.now → IsWithin DATA_LIMIT (get_or points.now k origin) }
     requires distinct { (j k : ℕ) → j < length points.now → k < length points.now → get_or points.now j origin ≡ get_or points.now k origin → j ≡ k }
@@ -81,7 +83,7 @@ fn box_with(alloc: Global, points: &[Point]) -> Result<Tetra, NoMemory>
     Ok(t)
 }
 
-/// The same, where the points are inserted in this order. Each walk begins at the cell that the insertion before it answered.
+/// Returns the same, with the points inserted in this order. Each walk begins at the cell that the previous insertion returned.
 fn build_in_order<W: Watch>(
     alloc: Global,
     points: &[Point],

@@ -14,11 +14,12 @@ use std::alloc::Global;
 use tetra_store::{CellId, Tetra};
 use tetra_walk::locate;
 
-/// Inserts a vertex that is not inserted yet, whatever its number: afterwards the cells are the Delaunay cells of the vertices of
-/// before and this one, and all vertices are where they were. It begins its walk at the cell `from`, best one near the vertex, and
-/// answers a cell that has the vertex.
+/// Inserts a vertex of any number that is not inserted yet: afterwards the cells are the Delaunay cells of the previous
+/// vertices and this one, and no vertex has moved. The walk begins at the cell `from`, which should be near the vertex. Returns
+/// a cell that has the vertex.
 ///
-/// The only error is want of memory. After it cells and inserted vertices are as they were: memory is taken before any cell goes.
+/// The only error is out of memory. After it cells and inserted vertices are unchanged: memory is allocated before any cell is
+/// removed.
 pub fn insert(alloc: Global, t: &mut Tetra, p: u32, from: CellId) -> Result<CellId, NoMemory>
     requires delaunay { IsDelaunay (vertices_of t.old) (links_of t.old.slots) }
     requires below { p < length t.old.points }
@@ -36,8 +37,9 @@ pub fn insert(alloc: Global, t: &mut Tetra, p: u32, from: CellId) -> Result<Cell
     insert_with(t, p, from, &mut Cavity::new(alloc))
 }
 
-/// The same over a cavity of the caller's, which is filled anew at each call and keeps its memory. So whoever inserts many vertices takes
-/// none for most of them. Afterwards it holds the cells that went and the facets round them; after want of memory those, or nothing.
+/// Does the same over a cavity that the caller passes. The cavity is filled anew at each call and keeps its memory, so most
+/// insertions of a series allocate none. Afterwards it holds the removed cells and the boundary facets; after out of memory
+/// those, or nothing.
 pub fn insert_with(
     t: &mut Tetra,
     p: u32,

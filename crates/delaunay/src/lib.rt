@@ -1,18 +1,18 @@
-//! Delaunay cells of points, by inserting one vertex after another.
+//! Builds the Delaunay cells of points by incremental insertion.
 //!
-//! An insertion is that of Bowyer and Watson (1981): a walk to a cell in which the vertex lies, a flood from there over all cells in
-//! conflict with it, and cells with it over the facets round these, in place of them. `insert` does it for one vertex, and `build` for
-//! all points, in rounds along a space-filling curve, so that the walks are short.
+//! An insertion follows Bowyer and Watson (1981): a walk to a cell that contains the vertex, a flood fill from there over all
+//! cells in conflict with it, and new cells over the boundary of this region in their place. `insert` does it for one vertex,
+//! and `build` for all points, in rounds along a space-filling curve, so that the walks are short.
 //!
-//! In the end `build` numbers the cells along the curve, so that whoever goes through them finds those which are near each other in
-//! space mostly near each other in memory.
+//! In the end `build` numbers the cells along the curve, so that cells with near numbers are mostly near in space and in
+//! memory.
 //!
-//! What both promise is of the cells alone: they are exactly the Delaunay cells of the vertices that are inserted, and with the links
-//! between them they part the box. The order of insertion is not promised, and no cell depends on it.
+//! Both contracts describe the cells alone: they are exactly the Delaunay cells of the inserted vertices, and with the links
+//! between them they partition the box. The order of insertion is not specified, and no cell depends on it.
 //!
 //! # Example
 //!
-//! Of four points (`geo_sign::Point`) and one between them, the cells that have no corner of the box. Point i is vertex 8 + i:
+//! The cells of four points (`geo_sign::Point`) and one between them that have no corner of the box. Point i is vertex 8 + i:
 //!
 //! ```rust
 //! let points = [
@@ -45,5 +45,5 @@ pub use insertion::{insert, insert_with};
 pub use laws::partition_law;
 use std::alloc::AllocError;
 
-/// Want of memory: the one answer that any input may get.
+/// Out of memory: the one error that any input may cause.
 pub type NoMemory = AllocError;

@@ -23,7 +23,7 @@ use Rattle.flow_net.specs.Flows.{network_of, amount_in, value_of, cost_of, IsVal
 use Rattle.flow_check.specs.declared.verdict.Verdict.{Verdict}
 use Rattle.flow_check.specs.declared.verdict.Verdict.TheVariants.{Yes, FixedInside, OverCapacity, OverSink, Unbalanced}
 use Rattle.flow_check.specs.declared.verdict.Verdict.TheVariants.{NotEqual, NotLeast}
-use Rattle.flow_check.specs.Firsts.{IsFirst, NoneBelow}
+use Rattle.flow_net.specs.Firsts.{IsFirst, NoneBelow}
 
 -- node v is fixed and inside
 abbrev pub IsFixedInside : Net → Labels → ℕ → Type 0

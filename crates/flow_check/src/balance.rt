@@ -1,8 +1,8 @@
-//! Nodes at which a flow is not balanced. It stands on the totals of `flow_valid`.
+//! Nodes at which a flow is not balanced. It depends on the totals of `flow_valid`.
 
 ghost use Rattle.std.specs.Prelude.{◌≡◌, length, IfSome, IfNone};
 ghost use Rattle.flow_net.specs.Flows.{amount_in};
-ghost use Rattle.flow_check.specs.Firsts.{IsFirst, NoneBelow};
+ghost use Rattle.flow_net.specs.Firsts.{IsFirst, NoneBelow};
 ghost use Rattle.flow_valid.specs.Totals.{AreTotals};
 ghost use Rattle.flow_net.specs.Flows.{numbered_of};
 ghost use Rattle.flow_check.specs.Verdicts.{IsUnbalanced, total_out};

@@ -1,14 +1,14 @@
-//! Amounts by number, in few bits where these are enough. It stands on nothing else.
+//! Arrays of amounts that use 32 bits each if these are enough. Depends on nothing else.
 
 use crate::NoMemory;
 use std::alloc::Global;
 
-/// The most that 32 bits hold.
+/// The largest 32-bit number.
 const MOST_OF_FEW: u64 = 4_294_967_295;
 
-/// Amounts by number, all in 32 bits or all in 64.
+/// Amounts by index, all in 32 bits or all in 64.
 ///
-/// One that is too large for its bits becomes the largest, which gives a wrong hint and nothing worse. Past the end there is
+/// An amount that is too large for its bits becomes the largest; the worst result is a wrong hint. Past the end there is
 /// nothing.
 #[derive(Debug, Drop)]
 pub struct Amounts {
@@ -17,7 +17,7 @@ pub struct Amounts {
 }
 
 impl Amounts {
-    /// Nothing at each of so many places.
+    /// Returns zero amounts, of this number.
     pub fn new(alloc: Global, count: usize, is_narrow: bool) -> Result<Amounts, NoMemory> {
         let (narrow, wide) = if is_narrow { (count, 0) } else { (0, count) };
         Ok(Amounts {
@@ -26,7 +26,7 @@ impl Amounts {
         })
     }
 
-    /// The same amounts once more.
+    /// Returns a copy of the amounts.
     pub fn copied(&self, alloc: Global) -> Result<Amounts, NoMemory> {
         Ok(Amounts {
             narrow: Vec::from_slice(alloc, self.narrow.as_slice())?,
@@ -34,7 +34,7 @@ impl Amounts {
         })
     }
 
-    /// The same amounts, in 64 bits unless 32 are enough for what they become.
+    /// Returns the same amounts, in 64 bits unless 32 are enough for their future values.
     pub fn widened(self, alloc: Global, is_narrow: bool) -> Result<Amounts, NoMemory> {
         if is_narrow || self.narrow.is_empty() {
             return Ok(self);
@@ -46,12 +46,12 @@ impl Amounts {
         Ok(amounts)
     }
 
-    /// How many places there are.
+    /// Returns the number of amounts.
     pub fn len(&self) -> usize {
         self.narrow.len().max(self.wide.len())
     }
 
-    /// The amount at a place.
+    /// Returns the amount at an index.
     #[inline]
     pub fn get(&self, place: usize) -> u64 {
         if place < self.narrow.len() {
@@ -63,7 +63,7 @@ impl Amounts {
         }
     }
 
-    /// Writes the amount at a place.
+    /// Writes the amount at an index.
     #[inline]
     pub fn set(&mut self, place: usize, amount: u64) {
         if place < self.narrow.len() {

@@ -1,9 +1,9 @@
-//! A forest that grows from nodes with excess, and sends along its branches to each sink with room that it meets. It
-//! stands on preflows.
+//! Grows a forest from nodes with excess, and sends along its branches to each sink with residual capacity that it meets.
+//! Depends on preflows.
 //!
-//! It is half of the two trees of Boykov and Kolmogorov (2004): what a full branch has cut off leaves the forest, and then each
-//! of these nodes joins it again by the neighbor nearest to a root, if one is still in it. The work is bounded by fuel; where
-//! it ends, the amounts are as good a start for another method as any.
+//! This is half of the two-tree algorithm of Boykov and Kolmogorov (2004): nodes that are cut off by a full branch leave the
+//! forest, and then each joins it again through the neighbour nearest to a root, if one is still in it. The work is bounded by
+//! fuel; when it ends, the amounts are as good a start for another method as any.
 
 ghost use Rattle.std.specs.Prelude.{◌≡◌, ◌<◌, length, slice_index, EachIndex, IfOk, IfSome};
 
@@ -20,15 +20,15 @@ const FREE: u32 = u32::MAX;
 /// The parent of a root.
 const ROOT: u32 = u32::MAX - 1;
 
-/// How many arcs may be looked at for each arc that there is.
+/// The number of arcs that may be examined for each arc of the network.
 const FUEL: usize = 8;
 
-/// The place of a node in the forest.
+/// The position of a node in the forest.
 #[derive(Clone, Copy, Debug, PartialEq, Eq)]
 struct Branch {
     /// The arc of the node towards its parent, or one of the constants.
     parent: u32,
-    /// How far the node is from its root, at most.
+    /// An upper bound of the distance of the node from its root.
     distance: u32,
 }
 
@@ -39,21 +39,22 @@ pub struct Forest<'a, N: FlowNetwork> {
     pub preflow: Preflow<'a, N>,
     /// The branch of each node.
     branch: Vec<Branch>,
-    /// Whether each node is outside the forest, beside its branch, since a node asks that of each head: a byte a node.
+    /// Whether each node is outside the forest, stored separately from its branch because it is tested for each head: a byte a
+    /// node.
     is_free: Vec<bool>,
-    /// Whether each node waits to grow.
+    /// Whether each node is active.
     is_waiting: Vec<bool>,
-    /// The nodes that wait, in a ring.
+    /// The active nodes, in a ring buffer.
     ring: Vec<u32>,
-    /// The place in the ring of the node that has waited longest.
+    /// The index in the ring of the node that has been active longest.
     first: usize,
-    /// How many nodes wait.
+    /// The number of active nodes.
     waiting: usize,
-    /// The nodes that full branches have cut off, in the order in which they were.
+    /// The nodes that full branches have cut off, in order.
     orphans: Vec<u32>,
-    /// How many of them there are.
+    /// The number of these.
     orphaned: usize,
-    /// How many more arcs may be looked at.
+    /// The number of arcs that may still be examined.
     fuel: usize,
     ghost branch_count: { length branch.items ≡ preflow.wiring.nodes },
     ghost free_count: { length is_free.items ≡ preflow.wiring.nodes },
@@ -66,7 +67,7 @@ pub struct Forest<'a, N: FlowNetwork> {
 }
 
 impl<'a, N: FlowNetwork> Forest<'a, N> {
-    /// No node is in the forest.
+    /// Returns an empty forest.
     pub fn new(alloc: Global, preflow: Preflow<'a, N>) -> Result<Forest<'a, N>, NoMemory>
         ensures { IfOk result (λ forest. forest.preflow ≡ preflow.entry) }
     {
@@ -102,7 +103,7 @@ impl<'a, N: FlowNetwork> Forest<'a, N> {
         self.fuel = self.fuel.saturating_sub(arcs);
     }
 
-    /// Lets a node wait to grow.
+    /// Makes a node active.
     fn enqueue(&mut self, node: usize)
         requires { node < self.old.preflow.wiring.nodes }
         ensures { self.new.preflow ≡ self.old.preflow }
@@ -121,7 +122,7 @@ impl<'a, N: FlowNetwork> Forest<'a, N> {
         self.waiting += 1;
     }
 
-    /// The node that has waited longest. It waits no longer.
+    /// Removes and returns the node that has been active longest.
     fn dequeue(&mut self) -> Option<usize>
         ensures preflow { self.new.preflow ≡ self.old.preflow }
         ensures node { IfSome result (λ node. node < self.old.preflow.wiring.nodes) }
@@ -139,7 +140,7 @@ impl<'a, N: FlowNetwork> Forest<'a, N> {
         Some(node)
     }
 
-    /// Takes a node that is cut off out of the forest.
+    /// Removes a node that is cut off from the forest.
     fn orphan(&mut self, node: usize)
         requires { node < self.old.preflow.wiring.nodes }
         ensures { self.new.preflow ≡ self.old.preflow }
@@ -152,7 +153,7 @@ impl<'a, N: FlowNetwork> Forest<'a, N> {
         }
     }
 
-    /// How much can come to a node of the forest along its branch.
+    /// Returns the maximal amount that can flow to a node of the forest along its branch.
     fn most_along(&self, node: usize) -> u64
         requires { node < self.now.preflow.wiring.nodes }
     {
@@ -170,7 +171,7 @@ impl<'a, N: FlowNetwork> Forest<'a, N> {
         0
     }
 
-    /// Takes an amount from a root. A root with no excess left is cut off.
+    /// Takes an amount from a root, and cuts it off if no excess is left.
     fn take_from(&mut self, root: usize, amount: u64)
         requires { root < self.old.preflow.wiring.nodes }
         ensures { self.new.preflow.wiring ≡ self.old.preflow.wiring }
@@ -183,7 +184,7 @@ impl<'a, N: FlowNetwork> Forest<'a, N> {
         }
     }
 
-    /// Sends an amount to a node along its branch, which cuts off what is below a full arc.
+    /// Sends an amount to a node along its branch, and cuts off what is below a full arc.
     fn send_along(&mut self, node: usize, amount: u64)
         requires { node < self.old.preflow.wiring.nodes }
         ensures { self.new.preflow.wiring ≡ self.old.preflow.wiring }
@@ -205,7 +206,7 @@ impl<'a, N: FlowNetwork> Forest<'a, N> {
         }
     }
 
-    /// The branch of a node by the parent nearest to a root.
+    /// Returns the branch of a node through the parent nearest to a root.
     fn best_branch(&self, node: usize) -> Branch
         requires { node < self.now.preflow.wiring.nodes }
     {
@@ -246,7 +247,7 @@ impl<'a, N: FlowNetwork> Forest<'a, N> {
         }
     }
 
-    /// Cuts off all that is below the nodes that are cut off.
+    /// Cuts off everything below the nodes that are cut off.
     fn release_all(&mut self)
         ensures { self.new.preflow ≡ self.old.preflow }
     {
@@ -259,7 +260,7 @@ impl<'a, N: FlowNetwork> Forest<'a, N> {
         }
     }
 
-    /// Lets each node that is cut off join the forest again, if it can.
+    /// Rejoins each node that is cut off, if possible.
     fn adopt_all(&mut self)
         ensures { self.new.preflow ≡ self.old.preflow }
     {
@@ -286,8 +287,8 @@ impl<'a, N: FlowNetwork> Forest<'a, N> {
         self.enqueue(node);
     }
 
-    /// Sends along an arc, from a node of the forest into the sink of its head, as much as goes there. Nodes that this cuts
-    /// off join the forest again or leave it.
+    /// Sends the maximal amount along an arc from a node of the forest into the sink of its head. Nodes that this cuts off join
+    /// the forest again or leave it.
     fn feed(&mut self, node: usize, arc: usize, ends: Ends)
         requires node { node < self.old.preflow.wiring.nodes }
         requires head { ends.head < self.old.preflow.wiring.nodes }
@@ -304,8 +305,9 @@ impl<'a, N: FlowNetwork> Forest<'a, N> {
         self.adopt_all();
     }
 
-    /// Goes along an arc from a node of the forest, while there is room, to a head outside: into its sink, and once that is full
-    /// the head joins the forest. A head whose last arc is full would leave the forest at once, so it does not join before.
+    /// Uses an arc from a node of the forest to a head outside, while the arc has residual capacity: it sends into the head's
+    /// sink, and once that is full the head joins the forest. A head whose last arc is full would leave the forest at once, so
+    /// it does not join.
     fn reach(&mut self, node: usize, arc: usize, ends: Ends)
         requires node { node < self.old.preflow.wiring.nodes }
         requires head { ends.head < self.old.preflow.wiring.nodes }
@@ -329,7 +331,7 @@ impl<'a, N: FlowNetwork> Forest<'a, N> {
         }
     }
 
-    /// Goes from a node along its arcs to those outside the forest.
+    /// Grows from a node along its arcs to nodes outside the forest.
     fn grow(&mut self, node: usize)
         requires { node < self.old.preflow.wiring.nodes }
         ensures { self.new.preflow.wiring ≡ self.old.preflow.wiring }
@@ -365,7 +367,7 @@ impl<'a, N: FlowNetwork> Forest<'a, N> {
         }
     }
 
-    /// Grows until nothing grows, or the fuel is used. A watch is told from how many nodes.
+    /// Grows until nothing grows, or the fuel is used. Reports the number of nodes to a progress callback.
     pub fn run<W: Watch>(&mut self, watch: &mut W)
         ensures { self.new.preflow.wiring ≡ self.old.preflow.wiring }
     {

@@ -1,4 +1,4 @@
-//! The hint. It stands on the forest and the rounds, and on the sweep and the walks.
+//! The hint. Depends on the forest and the rounds, and on the sweep and the walks.
 
 ghost use Rattle.std.specs.Prelude.{◌≡◌, length, IfOk, IfSome};
 
@@ -14,19 +14,19 @@ use flow_net::{Flow, FlowNetwork};
 use std::alloc::Global;
 use watch::{Silent, Watch};
 
-/// Amounts that mostly are a largest flow, and levels of nodes in its residual network, which mostly show it. Whoever asks tests
-/// both.
+/// Amounts that usually are a maximum flow, and levels of nodes in its residual network, which usually prove it. Callers must
+/// validate both.
 #[derive(Debug, Drop)]
 pub struct Hint {
-    /// An amount an arc, and an amount a node.
+    /// An amount for each arc, and an amount for each node.
     pub flow: Flow,
-    /// The nodes from which a sink with room can be reached. What is given back flows between other nodes alone, so it changes no
-    /// level.
+    /// The nodes from which a sink with residual capacity can be reached. Amounts that go back flow only between other nodes, so no
+    /// level changes.
     pub levels: Levels,
 }
 
-/// The amounts after those that can have come to sinks, and the levels of the nodes from which a sink could still be reached. A watch
-/// is told from how many nodes amounts were moved on.
+/// Returns the amounts after flow has reached sinks, and the levels of the nodes from which a sink could still be reached.
+/// Reports the number of nodes to a progress callback.
 fn sent<'a, N: FlowNetwork, W: Watch>(
     alloc: Global,
     preflow: Preflow<'a, N>,
@@ -46,7 +46,8 @@ fn sent<'a, N: FlowNetwork, W: Watch>(
     rounds.into_levels(alloc)
 }
 
-/// The amounts after sinks have taken what is listed, as far as it can come, with the sinks open to their whole size.
+/// Returns the amounts after sinks have first taken the listed amounts, as far as flow can reach them, and are then opened to
+/// their whole size.
 fn filled_first<'a, N: FlowNetwork, W: Watch>(
     alloc: Global,
     preflow: Preflow<'a, N>,
@@ -63,7 +64,7 @@ fn filled_first<'a, N: FlowNetwork, W: Watch>(
     Ok(preflow)
 }
 
-/// The amounts after those that have come to no sink have gone back.
+/// Returns the amounts after flow that has reached no sink has gone back.
 fn given_back<'a, N: FlowNetwork>(
     alloc: Global,
     preflow: Preflow<'a, N>,
@@ -82,9 +83,9 @@ fn given_back<'a, N: FlowNetwork>(
     Ok(preflow)
 }
 
-/// The amounts by one way to start, after those that can have come to sinks, and the levels. None where there is no hint.
+/// Returns the amounts from one way to start, after flow has reached sinks, and the levels, or `None` if there is no hint.
 ///
-/// Where amounts are listed, sinks first take no more than these, so that mostly no less comes to any.
+/// If amounts are listed, sinks first take no more than these, so that usually no less flows into any.
 fn sent_from<'a, N: FlowNetwork, W: Watch>(
     alloc: Global,
     net: &'a N,
@@ -101,7 +102,7 @@ fn sent_from<'a, N: FlowNetwork, W: Watch>(
     Ok(Some(sent(alloc, preflow, watch)?))
 }
 
-/// The hint that amounts are after what has come to no sink has gone back, or None where not all of it has.
+/// Returns the hint after flow that has reached no sink has gone back, or `None` if some of it remains.
 fn settled<N: FlowNetwork>(
     alloc: Global,
     preflow: Preflow<'_, N>,
@@ -120,7 +121,7 @@ fn settled<N: FlowNetwork>(
     Ok(Some(Hint { flow, levels }))
 }
 
-/// That hint, and the amounts as they were before.
+/// Returns that hint, and a copy of the amounts before.
 fn settled_and_kept<N: FlowNetwork>(
     alloc: Global,
     preflow: Preflow<'_, N>,
@@ -136,12 +137,11 @@ fn settled_and_kept<N: FlowNetwork>(
     }
 }
 
-/// A hint at a largest flow, or None where there is none: where capacities come to more than 2^62, or there are no arcs
-/// between free nodes, or more arcs than fit in 32 bits, or giving back took too long.
+/// Returns a hint at a maximum flow, or `None` if there is none: the capacities sum to more than 2^62, or there are no arcs
+/// between free nodes, or more arcs than fit in 32 bits, or sending the excess back took too long.
 ///
-/// Nothing is promised of its time, which on the networks of scans is about linear in the network. Beside its answer it
-/// takes 8 bytes an arc, or 12 where capacities are large, 4 more where the arcs of a node do not stand side by side in the
-/// network, and at most 48 a node.
+/// Run time is not specified; on the networks of scans it is about linear in the network. Beside its result it takes 8 bytes an
+/// arc, or 12 if capacities are large, 4 more if the arcs of a node are not adjacent in the network, and at most 48 a node.
 pub fn find_hint<N: FlowNetwork>(alloc: Global, net: &N) -> Result<Option<Hint>, NoMemory>
     ensures arcs { IfOk result (λ found. IfSome found (λ hint. length hint.flow.on_arc ≡ (N.numbered net.now).arc_count)) }
     ensures sinks { IfOk result (λ found. IfSome found (λ hint. length hint.flow.on_sink ≡ (N.numbered net.now).node_count)) }
@@ -149,7 +149,8 @@ pub fn find_hint<N: FlowNetwork>(alloc: Global, net: &N) -> Result<Option<Hint>,
     find_hint_watched(alloc, net, &mut Silent)
 }
 
-/// The same, where a watch is told from how many nodes amounts were moved on. The count begins anew where a first try gives no hint.
+/// Returns the same, and reports to a progress callback from how many nodes amounts were moved on. The count starts again if a
+/// first try gives no hint.
 pub fn find_hint_watched<N: FlowNetwork, W: Watch>(
     alloc: Global,
     net: &N,
@@ -169,8 +170,8 @@ pub fn find_hint_watched<N: FlowNetwork, W: Watch>(
     Ok(None)
 }
 
-/// A hint by which mostly no less comes to each sink than is listed, where a valid flow brings so much there, and the preflow
-/// that it was made of. Nothing is listed past the end of the list.
+/// Returns a hint by which usually no less flows into each sink than is listed, if a valid flow achieves this, and the preflow
+/// of the hint. Nothing is listed past the end of the list.
 ///
 /// The preflow takes 4 bytes an arc, or 8 where capacities are large, and 24 a node.
 pub fn find_hint_above<N: FlowNetwork>(
@@ -184,7 +185,7 @@ pub fn find_hint_above<N: FlowNetwork>(
     find_hint_above_watched(alloc, net, first, &mut Silent)
 }
 
-/// The same, where a watch is told as by `find_hint_watched`.
+/// Returns the same, with a progress callback as for `find_hint_watched`.
 pub fn find_hint_above_watched<N: FlowNetwork, W: Watch>(
     alloc: Global,
     net: &N,
@@ -205,11 +206,10 @@ pub fn find_hint_above_watched<N: FlowNetwork, W: Watch>(
     Ok(None)
 }
 
-/// A hint that goes on from the preflow of an earlier one, and its own preflow.
+/// Returns a hint that resumes from the preflow of an earlier one, and its own preflow.
 ///
-/// Mostly it is a flow where the network is the earlier one at capacities that are larger, by the same for both arcs of a
-/// pair, and no less comes to any sink than by the earlier hint. There is none where the network has not as many nodes and
-/// arcs.
+/// Usually it is a flow if the network is the earlier one with larger capacities, increased equally for both arcs of a pair,
+/// and no less flows into any sink than by the earlier hint. Returns no hint if the numbers of nodes and arcs differ.
 pub fn find_hint_on<N: FlowNetwork>(
     alloc: Global,
     net: &N,

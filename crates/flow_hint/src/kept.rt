@@ -1,4 +1,4 @@
-//! A preflow that is kept, so that a later hint goes on from it where capacities have risen. It stands on preflows.
+//! A preflow that is kept, so that a later hint can resume from it after capacities have increased. Depends on preflows.
 
 ghost use Rattle.std.specs.Prelude.{◌≡◌, length, true, IfOk, IfSome};
 
@@ -10,24 +10,24 @@ use crate::wiring::Wiring;
 use flow_net::FlowNetwork;
 use std::alloc::Global;
 
-/// The amounts that a hint was made of, before what had come to no sink went back: it stays where it got stuck, so that a later
-/// hint need not bring it there again.
+/// The amounts before flow that had reached no sink went back: it stays where it was stuck, so that a later hint need not bring
+/// it there again.
 ///
-/// Nothing is promised of it. In another network it gives a wrong hint or none.
+/// Nothing is verified. In another network it gives a wrong hint or none.
 #[derive(Debug, Drop)]
 pub struct KeptPreflow {
-    /// How much more could flow along each arc between free nodes.
+    /// The residual capacity of each arc between free nodes.
     rooms: Amounts,
-    /// What had entered each node and not left it.
+    /// The excess of each node.
     excess: Vec<u64>,
-    /// How much more could leave at each node.
+    /// The residual capacity of each node's sink.
     sink: Vec<u64>,
-    /// How much had come to each node from fixed nodes.
+    /// The amount that entered each node from fixed nodes.
     source: Vec<u64>,
 }
 
 impl KeptPreflow {
-    /// The amounts of a preflow.
+    /// Returns the amounts of a preflow.
     pub fn of<N: FlowNetwork>(
         alloc: Global,
         preflow: &Preflow<'_, N>,
@@ -40,7 +40,7 @@ impl KeptPreflow {
         })
     }
 
-    /// Whether there is an amount for each of so many arcs, and one of each kind for each of so many nodes.
+    /// Returns whether there is an amount for each arc, and one of each kind for each node.
     fn has_lengths(&self, arcs: usize, nodes: usize) -> bool
         ensures excess { result ≡ true → length self.now.excess.items ≡ nodes }
         ensures sink { result ≡ true → length self.now.sink.items ≡ nodes }
@@ -54,8 +54,9 @@ impl KeptPreflow {
 }
 
 impl<'a, N: FlowNetwork> Preflow<'a, N> {
-    /// The amounts of a kept preflow, and what more comes from fixed nodes where capacities have risen. None where the preflow
-    /// is not of so many nodes and arcs, the sums of capacities are too large or there are no arcs between free nodes.
+    /// Returns the amounts of a kept preflow, and the further amounts from fixed nodes after capacities have increased, or
+    /// `None` if the numbers of nodes and arcs differ, the sums of capacities are too large or there are no arcs between free
+    /// nodes.
     pub fn on(
         alloc: Global,
         net: &'a N,
@@ -100,8 +101,8 @@ impl<'a, N: FlowNetwork> Preflow<'a, N> {
         Ok(Some(preflow))
     }
 
-    /// Lets more flow along both arcs of each pair, by half of what their capacities together have risen by. So each amount stays
-    /// what it was where both have risen by the same.
+    /// Increases the residual capacity of both arcs of each pair by half of the increase of their capacities together. So each
+    /// amount is unchanged if both have increased equally.
     fn open_arcs(&mut self)
         ensures { self.new.wiring ≡ self.old.wiring }
     {
@@ -118,7 +119,7 @@ impl<'a, N: FlowNetwork> Preflow<'a, N> {
         }
     }
 
-    /// Lets come to each node what fixed nodes can send there beyond what they have sent.
+    /// Adds to each node the further amounts that fixed nodes can send there.
     fn send_more(&mut self, sends: &[u64])
         ensures { self.new.wiring ≡ self.old.wiring }
     {

@@ -1,15 +1,15 @@
-//! A hint at a largest flow through a network, with levels that show it. It mostly is one, and nothing but its lengths is
-//! proved of it: whoever asks tests it.
+//! Heuristic maximum flow, with levels that prove it. It usually is maximal, but only the lengths of its lists are verified:
+//! callers must validate it.
 //!
-//! It starts with every arc full, as far as that goes, and moves the excess that this leaves at nodes into sinks with room:
-//! first along a forest that grows from the nodes with excess (half of the two trees of Boykov and Kolmogorov 2004), for a
-//! bounded time, and then by levels, the node nearest to a sink first (Goldberg and Tarjan 1988). What reaches no sink
-//! goes back to the fixed nodes. The amounts before that can be kept, and a hint at larger capacities goes on from them.
+//! It starts with every arc full, as far as possible, and moves the resulting excess into sinks with residual capacity: first
+//! along a forest that grows from the nodes with excess (half of the two-tree algorithm of Boykov and Kolmogorov 2004), for a
+//! bounded time, and then by levels, the node nearest to a sink first (Goldberg and Tarjan 1988). Flow that reaches no sink
+//! goes back to the fixed nodes. The amounts before that can be kept, and a hint at larger capacities resumes from them.
 //!
-//! `survey` adds up capacities, `wiring` says which arcs leave a node, `amounts` holds numbers in few bits, `preflow` holds what
-//! is where, `kept` goes on from where an earlier one stood, `forest` and `rounds` move excess into sinks, `refund` says what can
-//! go back, `sweep` and `walk` give it back, and `hinting` puts them together. `levels` finds the levels of nodes in the residual
-//! network of a flow. The crate stands on `flow_net` alone, and tells a `watch` how far it is.
+//! `survey` adds up capacities, `wiring` lists the arcs that leave a node, `amounts` stores numbers in few bits, `preflow`
+//! holds the amounts and excesses, `kept` resumes from an earlier preflow, `forest` and `rounds` move excess into sinks,
+//! `refund` computes what can go back, `sweep` and `walk` send it back, and `hinting` combines them. `levels` finds the levels of
+//! nodes in the residual network of a flow. The crate depends on `flow_net`, and reports its progress to a callback of `watch`.
 #![tactic(auto)]
 
 mod amounts;
@@ -31,5 +31,5 @@ pub use hinting::{
 pub use kept::KeptPreflow;
 pub use levels::{Levels, find_levels};
 
-/// The error of a call for which there was no memory.
+/// The error of a call that ran out of memory.
 pub type NoMemory = std::alloc::AllocError;

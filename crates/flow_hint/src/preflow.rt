@@ -1,6 +1,6 @@
-//! Amounts on their way into sinks: more may have entered a node than has left it. It stands on the wiring.
+//! Preflows: amounts on their way into sinks; more may have entered a node than has left it. Depends on the wiring.
 //!
-//! Sums saturate, so that an amount that is too large for its type gives a wrong hint and nothing worse.
+//! Sums saturate, so that an amount that is too large for its type at worst gives a wrong hint.
 
 ghost use Rattle.std.specs.Prelude.{◌≡◌, ◌<◌, length, IfOk, IfSome};
 
@@ -12,36 +12,37 @@ use flow_net::FlowNetwork;
 use std::alloc::Global;
 use watch::{Watch, tell};
 
-/// How a hint starts.
+/// The initial amounts of a hint.
 #[derive(Clone, Copy, Debug, PartialEq, Eq)]
 pub enum Start {
-    /// With every arc full, which mostly is near the end.
+    /// Every arc full, which usually is near the maximum.
     Full,
-    /// With every arc between free nodes empty, from which less has to be given back.
+    /// Every arc between free nodes empty, which leaves less to send back.
     Plain,
 }
 
-/// Amounts on the arcs of a network, and what has entered each node and not left it.
+/// Amounts on the arcs of a network, and the excess of each node.
 #[derive(Debug, Drop)]
 pub struct Preflow<'a, N: FlowNetwork> {
     /// The arcs.
     pub wiring: Wiring<'a, N>,
-    /// How much more can flow along each arc between free nodes: what is left of its capacity, and what flows on its reverse.
+    /// The residual capacity of each arc between free nodes: what is left of its capacity, and the flow on its reverse.
     pub rooms: Amounts,
-    /// What has entered each node and not left it.
+    /// The excess of each node.
     pub excess: Vec<u64>,
-    /// How much more can leave at each node.
+    /// The residual capacity of each node's sink.
     pub sink: Vec<u64>,
-    /// How much has come to each node from fixed nodes.
+    /// The amount that entered each node from fixed nodes.
     pub source: Vec<u64>,
-    /// From how many nodes amounts were moved on, a node as often as that was.
+    /// The number of times that amounts were moved on from a node.
     pub moves: usize,
     pub ghost excess_count: { length excess.items ≡ wiring.nodes },
     pub ghost sink_count: { length sink.items ≡ wiring.nodes },
     pub ghost source_count: { length source.items ≡ wiring.nodes },
 }
 
-/// How much can leave at each node at first: as much as is listed, its sink where nothing is listed, and nothing where it is fixed.
+/// Returns the initial capacity of each node's sink: the listed amount, the whole sink if nothing is listed, and nothing for a
+/// fixed node.
 fn free_sinks<N: FlowNetwork>(alloc: Global, net: &N, first: &[u64]) -> Result<Vec<u64>, NoMemory>
     ensures { IfOk result (λ sinks. length sinks.items ≡ (N.numbered net.now).node_count) }
 {
@@ -57,7 +58,7 @@ fn free_sinks<N: FlowNetwork>(alloc: Global, net: &N, first: &[u64]) -> Result<V
     Ok(sinks)
 }
 
-/// How much more can flow along each arc, where every arc between free nodes is full or all are empty. It is nothing along other
+/// Returns the residual capacity of each arc, if every arc between free nodes is full or all are empty. It is zero for other
 /// arcs.
 fn all_rooms<N: FlowNetwork>(
     alloc: Global,
@@ -69,7 +70,7 @@ fn all_rooms<N: FlowNetwork>(
     for arc in 0..wiring.arcs {
         let twin = wiring.twin(arc);
         if twin != arc {
-            // A pair of full arcs is the pair with its two rooms exchanged.
+            // A pair of full arcs is the pair with its two residual capacities exchanged.
             rooms.set(if is_full { twin } else { arc }, wiring.cap(arc));
         }
     }
@@ -77,11 +78,11 @@ fn all_rooms<N: FlowNetwork>(
 }
 
 impl<'a, N: FlowNetwork> Preflow<'a, N> {
-    /// The amounts at the start: fixed nodes send all that they can, other arcs are full or empty, and sinks have taken
-    /// what they can, but no more than is listed. None where the sums of capacities are too large or there are no arcs between free
-    /// nodes.
+    /// Returns the initial amounts: fixed nodes send their maximum, other arcs are full or empty, and sinks have taken their
+    /// maximum, but no more than is listed. Returns `None` if the sums of capacities are too large or there are no arcs between
+    /// free nodes.
     ///
-    /// Where a node would owe an amount if every arc were full, these arcs are empty.
+    /// If a node would have a negative balance with every arc full, these arcs are empty.
     pub fn new(
         alloc: Global,
         net: &'a N,
@@ -124,7 +125,7 @@ impl<'a, N: FlowNetwork> Preflow<'a, N> {
         Ok(Some(preflow))
     }
 
-    /// Opens each sink to its whole size, where no more of it was open than is listed, and lets leave there what can.
+    /// Opens each sink to its whole size, if it was limited by the list, and fills it as far as possible.
     pub fn open_sinks(&mut self, first: &[u64])
         ensures { self.new.wiring ≡ self.old.wiring }
     {
@@ -138,12 +139,12 @@ impl<'a, N: FlowNetwork> Preflow<'a, N> {
         self.settle();
     }
 
-    /// Whether more can leave at a node.
+    /// Returns whether a node's sink has residual capacity.
     pub fn has_room(&self) -> bool {
         self.sink.iter().any(|amount| *amount > 0)
     }
 
-    /// Lets what is at each node leave there, as far as there is room.
+    /// Moves the excess of each node into its sink, as far as that has residual capacity.
     pub fn settle(&mut self)
         ensures { self.new.wiring ≡ self.old.wiring }
     {
@@ -154,7 +155,7 @@ impl<'a, N: FlowNetwork> Preflow<'a, N> {
         }
     }
 
-    /// Lets an amount come to a node, and leave there as far as there is room. Answers what the node has then.
+    /// Adds an amount to a node, and moves it into the sink as far as that has residual capacity. Returns the remaining excess.
     pub fn arrive(&mut self, node: usize, amount: u64) -> u64
         requires { node < self.old.wiring.nodes }
         ensures { self.new.wiring ≡ self.old.wiring }
@@ -166,7 +167,7 @@ impl<'a, N: FlowNetwork> Preflow<'a, N> {
         arrived - leaves
     }
 
-    /// Amounts are moved on from one more node. A watch is told of every 4,096th.
+    /// Counts one more node from which amounts are moved on, and reports every 4,096th to a progress callback.
     pub fn tell_next<W: Watch>(&mut self, watch: &mut W)
         ensures { self.new.wiring ≡ self.old.wiring }
     {
@@ -174,7 +175,7 @@ impl<'a, N: FlowNetwork> Preflow<'a, N> {
         tell(watch, self.moves);
     }
 
-    /// Sends an amount along an arc, so that as much more can go along its reverse.
+    /// Sends an amount along an arc, and increases the residual capacity of its reverse.
     #[inline]
     pub fn shift(&mut self, arc: usize, twin: usize, amount: u64)
         ensures { self.new.wiring ≡ self.old.wiring }

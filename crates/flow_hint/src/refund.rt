@@ -1,4 +1,4 @@
-//! Amounts that go back to the fixed nodes, as far as they have come to no sink. It stands on preflows.
+//! Sends amounts that have reached no sink back to the fixed nodes. Depends on preflows.
 
 ghost use Rattle.std.specs.Prelude.{◌≡◌, ◌<◌, length, IfOk};
 
@@ -9,7 +9,7 @@ use flow_net::{Flow, FlowNetwork, Sequence};
 use std::alloc::Global;
 
 impl<'a, N: FlowNetwork> Preflow<'a, N> {
-    /// Gives what is at each node back to the fixed nodes beside it, as far as it came from there.
+    /// Sends the excess of each node back to the adjacent fixed nodes, as far as it came from there.
     pub fn give_beside(&mut self)
         ensures { self.new.wiring ≡ self.old.wiring }
     {
@@ -20,12 +20,13 @@ impl<'a, N: FlowNetwork> Preflow<'a, N> {
         }
     }
 
-    /// Whether nothing is left to be given back.
+    /// Returns whether nothing is left to send back.
     pub fn is_settled(&self) -> bool {
         self.excess.iter().all(|amount| *amount == 0)
     }
 
-    /// How much can go back along an arc: what flows on its reverse, which is the room that is there beside its capacity.
+    /// Returns the amount that can go back along an arc: the flow on its reverse, which is the residual capacity in excess of
+    /// the capacity.
     #[inline]
     pub fn most_back(&self, arc: usize) -> u64
         requires { arc < self.now.wiring.arcs }
@@ -37,7 +38,7 @@ impl<'a, N: FlowNetwork> Preflow<'a, N> {
         room.saturating_sub(self.wiring.cap(arc))
     }
 
-    /// Lets an amount come to a node, and go to fixed nodes as far as it came from there.
+    /// Adds an amount to a node, and sends it back to fixed nodes as far as it came from there.
     pub fn return_to(&mut self, node: usize, amount: u64)
         requires { node < self.old.wiring.nodes }
         ensures { self.new.wiring ≡ self.old.wiring }
@@ -48,12 +49,12 @@ impl<'a, N: FlowNetwork> Preflow<'a, N> {
         self.excess[node] = arrived - goes;
     }
 
-    /// The amounts as a flow.
+    /// Returns the amounts as a flow.
     pub fn into_flow(self, alloc: Global) -> Result<Flow, NoMemory>
         ensures arcs { IfOk result (λ flow. length flow.on_arc ≡ (N.numbered self.entry.wiring.net.now).arc_count) }
         ensures sinks { IfOk result (λ flow. length flow.on_sink ≡ (N.numbered self.entry.wiring.net.now).node_count) }
     {
-        // The answer takes the most memory of all, so what it is not made of is let go of before.
+        // The result takes the most memory of all, so the fields that it does not need are freed before.
         let (net, rooms, sink, source) = {
             let Preflow {
                 wiring,
@@ -74,8 +75,8 @@ impl<'a, N: FlowNetwork> Preflow<'a, N> {
     }
 }
 
-/// The amount on each arc, by how much more can flow along it. From a fixed node goes what came to the free node, by one arc after
-/// the other.
+/// Returns the amount on each arc, from its residual capacity. The amount that entered a free node from fixed ones is assigned
+/// to the arcs in order.
 fn on_arcs<N: FlowNetwork>(
     alloc: Global,
     net: &N,
@@ -100,7 +101,7 @@ fn on_arcs<N: FlowNetwork>(
     Ok(amounts)
 }
 
-/// The amount at each sink: its capacity less what it still takes, and nothing where the node is fixed.
+/// Returns the amount at each sink: its capacity less its residual capacity, and zero for a fixed node.
 fn on_sinks<N: FlowNetwork>(alloc: Global, net: &N, room: &[u64]) -> Result<Vec<u64>, NoMemory>
     requires { length room.now ≡ (N.numbered net.now).node_count }
     ensures { IfOk result (λ amounts. length amounts.items ≡ (N.numbered net.now).node_count) }

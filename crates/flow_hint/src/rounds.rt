@@ -1,7 +1,7 @@
-//! Rounds that move excess to sinks. It stands on preflows.
+//! Rounds that move excess to sinks. Depends on preflows.
 //!
-//! A round gives each node its level, how many arcs with room lie between it and a sink with room, and then moves excess
-//! down by levels, from the node of the lowest level first, and lifts a node that keeps some.
+//! A round gives each node its level, the number of arcs with residual capacity on a path to a sink with residual capacity, and
+//! then moves excess down by levels, from the node of the lowest level first, and lifts a node that keeps some.
 
 ghost use Rattle.std.specs.Prelude.{◌≡◌, ◌<◌, ◌^◌, length, slice_index, EachIndex, IfSome, IfOk};
 
@@ -13,16 +13,16 @@ use flow_net::FlowNetwork;
 use std::alloc::Global;
 use watch::Watch;
 
-/// The level of a node from which no sink is known to be reached, and the end of a list of nodes.
+/// The level of a node without a known path to a sink, and the end of a list of nodes.
 const NONE: u32 = u32::MAX;
 
-/// How many levels above the highest a node may be lifted in a round.
+/// The number of levels above the highest that a node may be lifted in a round.
 const SPARE_LEVELS: usize = 8;
 
-/// How many arcs may be looked at in a round for each node.
+/// The number of arcs that may be examined in a round for each node.
 const FUEL: usize = 3;
 
-/// How many rounds there are at most. Networks of cells took fewer than twenty.
+/// The maximal number of rounds. Networks of cells took fewer than twenty.
 const MOST_ROUNDS: usize = 100;
 
 /// A preflow, with the levels of its nodes and lists of nodes with excess.
@@ -34,17 +34,17 @@ pub struct Rounds<'a, N: FlowNetwork> {
     level: Vec<u32>,
     /// The nodes in the order in which they got their levels.
     queue: Vec<u32>,
-    /// How many nodes have got one.
+    /// The number of nodes with a level.
     found: usize,
-    /// For each level the first node that waits there.
+    /// For each level the first active node there.
     bucket: Vec<u32>,
-    /// For each node that waits the next one at its level.
+    /// For each active node the next one at its level.
     after: Vec<u32>,
-    /// Whether each node waits.
+    /// Whether each node is active.
     is_waiting: Vec<bool>,
-    /// No node waits at a lower level.
+    /// No node is active at a lower level.
     low: usize,
-    /// How many more arcs may be looked at in this round.
+    /// The number of arcs that may still be examined in this round.
     fuel: usize,
     ghost level_count: { length level.items ≡ preflow.wiring.nodes },
     ghost queue_count: { length queue.items ≡ preflow.wiring.nodes },
@@ -54,7 +54,7 @@ pub struct Rounds<'a, N: FlowNetwork> {
 }
 
 impl<'a, N: FlowNetwork> Rounds<'a, N> {
-    /// No node has a level yet.
+    /// Returns a state in which no node has a level.
     pub fn new(alloc: Global, preflow: Preflow<'a, N>) -> Result<Rounds<'a, N>, NoMemory>
         ensures { IfOk result (λ rounds. rounds.preflow ≡ preflow.entry) }
     {
@@ -76,7 +76,7 @@ impl<'a, N: FlowNetwork> Rounds<'a, N> {
         })
     }
 
-    /// Gives a node its level.
+    /// Sets the level of a node.
     fn mark(&mut self, node: usize, level: u32)
         requires { node < self.old.preflow.wiring.nodes }
         ensures { self.new.preflow ≡ self.old.preflow }
@@ -88,7 +88,7 @@ impl<'a, N: FlowNetwork> Rounds<'a, N> {
         }
     }
 
-    /// Gives level 0 to each node whose sink has room, and none to others.
+    /// Gives level 0 to each node whose sink has residual capacity, and none to others.
     fn mark_sinks(&mut self)
         ensures { self.new.preflow ≡ self.old.preflow }
     {
@@ -102,7 +102,7 @@ impl<'a, N: FlowNetwork> Rounds<'a, N> {
         }
     }
 
-    /// Gives a level to each node from which an arc with room leads to a node.
+    /// Sets the level of each node from which an arc with residual capacity leads to a node.
     fn reach(&mut self, node: usize)
         requires { node < self.old.preflow.wiring.nodes }
         ensures { self.new.preflow ≡ self.old.preflow }
@@ -118,7 +118,7 @@ impl<'a, N: FlowNetwork> Rounds<'a, N> {
         }
     }
 
-    /// Gives each node its level, and says whether a node with excess has one above 0.
+    /// Computes the level of each node, and returns whether a node with excess has one above 0.
     fn find_levels(&mut self) -> bool
         ensures { self.new.preflow ≡ self.old.preflow }
     {
@@ -135,7 +135,7 @@ impl<'a, N: FlowNetwork> Rounds<'a, N> {
         any
     }
 
-    /// The highest level of a node.
+    /// Returns the highest level of a node.
     fn highest(&self) -> usize
         ensures { result < 2 ^ 32 }
     {
@@ -145,7 +145,7 @@ impl<'a, N: FlowNetwork> Rounds<'a, N> {
         self.level[self.queue[self.found - 1] as usize] as usize
     }
 
-    /// Lets a node wait at its level, or takes its level away where that is too high.
+    /// Makes a node active at its level, or removes its level if that is too high.
     fn put(&mut self, node: usize)
         requires { node < self.old.preflow.wiring.nodes }
         ensures { self.new.preflow ≡ self.old.preflow }
@@ -161,7 +161,7 @@ impl<'a, N: FlowNetwork> Rounds<'a, N> {
         }
     }
 
-    /// Lets each node with excess and a level above 0 wait there.
+    /// Makes each node with excess and a level above 0 active.
     fn put_all(&mut self, alloc: Global) -> Result<(), NoMemory>
         ensures { self.new.preflow ≡ self.old.preflow }
     {
@@ -180,7 +180,7 @@ impl<'a, N: FlowNetwork> Rounds<'a, N> {
         Ok(())
     }
 
-    /// The node that came last to the lowest level at which one waits. It waits no longer.
+    /// Removes and returns the node that came last to the lowest level with an active node.
     fn take(&mut self) -> Option<usize>
         ensures preflow { self.new.preflow ≡ self.old.preflow }
         ensures node { IfSome result (λ node. node < self.old.preflow.wiring.nodes) }
@@ -197,7 +197,7 @@ impl<'a, N: FlowNetwork> Rounds<'a, N> {
         None
     }
 
-    /// Sends along an arc to its head, which then waits if it keeps some.
+    /// Sends along an arc to its head, which becomes active if it keeps some.
     fn send(&mut self, arc: usize, ends: Ends, amount: u64)
         requires { ends.head < self.old.preflow.wiring.nodes }
         ensures { self.new.preflow.wiring ≡ self.old.preflow.wiring }
@@ -209,9 +209,9 @@ impl<'a, N: FlowNetwork> Rounds<'a, N> {
         }
     }
 
-    /// Moves an amount from a node down along its arcs as far as it goes, and answers what is left.
+    /// Moves an amount from a node down along its arcs as far as possible, and returns the rest.
     ///
-    /// The level of the node becomes one more than the least to which an arc with room leads.
+    /// The level of the node becomes one more than the least to which an arc with residual capacity leads.
     fn send_down(&mut self, node: usize, amount: u64) -> u64
         requires { node < self.old.preflow.wiring.nodes }
         ensures { self.new.preflow.wiring ≡ self.old.preflow.wiring }
@@ -240,7 +240,7 @@ impl<'a, N: FlowNetwork> Rounds<'a, N> {
         left
     }
 
-    /// Moves the excess of a node down as far as it goes, and lifts the node if it keeps some.
+    /// Moves the excess of a node down as far as possible, and lifts the node if it keeps some.
     fn discharge(&mut self, node: usize)
         requires { node < self.old.preflow.wiring.nodes }
         ensures { self.new.preflow.wiring ≡ self.old.preflow.wiring }
@@ -254,7 +254,7 @@ impl<'a, N: FlowNetwork> Rounds<'a, N> {
         }
     }
 
-    /// Moves the excess of nodes that wait, until the fuel is used. A watch is told from how many nodes.
+    /// Moves the excess of active nodes, until the fuel is used. Reports the number of nodes to a progress callback.
     fn drain<W: Watch>(&mut self, watch: &mut W)
         ensures { self.new.preflow.wiring ≡ self.old.preflow.wiring }
     {
@@ -285,8 +285,8 @@ impl<'a, N: FlowNetwork> Rounds<'a, N> {
         Ok(())
     }
 
-    /// The amounts, and which nodes reached a sink with room when levels were last found, with their levels. Where no excess was
-    /// among them, they are the inside of labels that cost what the flow is worth.
+    /// Returns the amounts, and which nodes reached a sink with residual capacity when levels were last found, with their
+    /// levels. If none of these had excess, they are the inside of a cut whose cost is the value of the flow.
     pub fn into_levels(self, alloc: Global) -> Result<(Preflow<'a, N>, Levels), NoMemory>
         ensures { IfOk result (λ made. made.0.wiring ≡ self.entry.preflow.wiring) }
     {

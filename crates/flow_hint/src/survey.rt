@@ -1,4 +1,4 @@
-//! What one pass over the arcs of a network adds up. It stands on the network alone.
+//! Sums over the arcs of a network, in one pass. Depends on the network alone.
 
 ghost use Rattle.std.specs.Prelude.{◌≡◌, ◌+◌, length, IfOk};
 
@@ -6,36 +6,36 @@ use crate::NoMemory;
 use flow_net::FlowNetwork;
 use std::alloc::Global;
 
-/// The most that all capacities come to where sums of them are right: 2^62.
+/// The largest total of all capacities for which sums are exact: 2^62.
 const MOST_IN_ALL: u64 = 4_611_686_018_427_387_904;
 
-/// The largest capacity of which two come to no more than 32 bits hold: 2^31 - 1.
+/// The largest capacity whose double fits in 32 bits: 2^31 - 1.
 const MOST_OF_FEW: u64 = 2_147_483_647;
 
-/// The sign of a number of 64 bits in two's complement.
+/// The sign bit of a 64-bit number in two's complement.
 const SIGN: u64 = 9_223_372_036_854_775_808;
 
-/// What the arcs of a network come to.
+/// Sums over the arcs of a network.
 #[derive(Debug, Drop)]
 pub struct Survey {
-    /// For each node how many arcs leave it, behind one more place.
+    /// For each node the number of arcs that leave it, after one extra entry.
     pub degree: Vec<u32>,
-    /// Whether the arcs of each node stand side by side, in the order of their nodes.
+    /// Whether the arcs of each node are adjacent, in the order of their nodes.
     pub is_by_node: bool,
     /// Whether there is an arc between free nodes.
     pub has_pairs: bool,
-    /// What comes to each node from fixed nodes where these send all that they can.
+    /// The amount that enters each node from fixed nodes if these send their maximum.
     pub source: Vec<u64>,
-    /// What is left at each node where every arc is full: what enters it less what leaves it, in two's complement.
+    /// The balance of each node if every arc is full: what enters it less what leaves it, in two's complement.
     pub balance: Vec<u64>,
-    /// The capacities of all arcs.
+    /// The sum of all capacities.
     pub total: u64,
     /// The largest capacity.
     pub most: u64,
 }
 
 impl Survey {
-    /// The sums over the arcs of a network.
+    /// Returns the sums over the arcs of a network.
     pub fn new<N: FlowNetwork>(alloc: Global, net: &N) -> Result<Survey, NoMemory>
         ensures degrees { IfOk result (λ survey. length survey.degree.items ≡ (N.numbered net.now).node_count + 1) }
         ensures sources { IfOk result (λ survey. length survey.source.items ≡ (N.numbered net.now).node_count) }
@@ -78,17 +78,17 @@ impl Survey {
         })
     }
 
-    /// Whether there are arcs between free nodes, and no sum of capacities is too large for its type.
+    /// Returns whether there are arcs between free nodes, and no sum of capacities is too large for its type.
     pub fn is_fit(&self) -> bool {
         self.has_pairs && self.total <= MOST_IN_ALL
     }
 
-    /// Whether what can flow along an arc beside what can flow back on its reverse fits in 32 bits.
+    /// Returns whether the residual capacity of each arc fits in 32 bits.
     pub fn is_narrow(&self) -> bool {
         self.most <= MOST_OF_FEW
     }
 
-    /// Whether a node would owe an amount where every arc is full.
+    /// Returns whether a node would have a negative balance if every arc were full.
     pub fn owes(&self) -> bool {
         self.balance.iter().any(|amount| *amount >= SIGN)
     }

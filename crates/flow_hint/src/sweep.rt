@@ -1,7 +1,7 @@
-//! One sweep that gives excess back along the arcs on which it came. It stands on what can go back.
+//! One sweep that sends excess back along the arcs on which it came. Depends on `refund`.
 //!
-//! A search in depth lists the nodes, each after those to which it can give back, but for cycles. In the other order each
-//! node gives back what it has, so a node comes when all that can come to it is there.
+//! A depth-first search lists the nodes, each after those to which it can send flow back, except for cycles. In reverse order each
+//! node sends its excess back, so that everything that can come back to a node is there before its turn.
 
 ghost use Rattle.std.specs.Prelude.{◌≡◌, ◌<◌, length, slice_index, EachIndex, IfOk};
 
@@ -10,23 +10,23 @@ use crate::preflow::Preflow;
 use flow_net::FlowNetwork;
 use std::alloc::Global;
 
-/// The cursor of a node that has given back, and the end of the list of nodes that the search is at.
+/// The cursor of a node that has sent its excess back, and the end of the stack of the search.
 const NONE: u32 = u32::MAX;
 
-/// Amounts, and a search in depth along arcs on which something can go back.
+/// Amounts, and a depth-first search along arcs on which flow can go back.
 #[derive(Debug, Drop)]
 pub struct Sweep<'a, N: FlowNetwork> {
     /// The amounts.
     pub preflow: Preflow<'a, N>,
-    /// For each node the place of the arc that is tried next.
+    /// For each node the index of the arc that is tried next.
     cursor: Vec<u32>,
-    /// Whether the search has come to each node.
+    /// Whether the search has reached each node.
     is_seen: Vec<bool>,
-    /// For each node that the search is at the node from which it came there.
+    /// For each node on the search path its predecessor.
     below: Vec<u32>,
     /// The nodes that the search has left, in order.
     order: Vec<u32>,
-    /// How many it has left.
+    /// The number of these.
     left: usize,
     ghost cursor_count: { length cursor.items ≡ preflow.wiring.nodes },
     ghost seen_count: { length is_seen.items ≡ preflow.wiring.nodes },
@@ -36,7 +36,7 @@ pub struct Sweep<'a, N: FlowNetwork> {
 }
 
 impl<'a, N: FlowNetwork> Sweep<'a, N> {
-    /// The search has come to no node.
+    /// Returns a search that has reached no node.
     pub fn new(alloc: Global, preflow: Preflow<'a, N>) -> Result<Sweep<'a, N>, NoMemory>
         ensures { IfOk result (λ sweep. sweep.preflow ≡ preflow.entry) }
     {
@@ -55,7 +55,7 @@ impl<'a, N: FlowNetwork> Sweep<'a, N> {
         })
     }
 
-    /// The search comes to a node.
+    /// Enters a node.
     fn enter(&mut self, node: usize, below: u32)
         requires { node < self.old.preflow.wiring.nodes }
         ensures { self.new.preflow ≡ self.old.preflow }
@@ -66,7 +66,7 @@ impl<'a, N: FlowNetwork> Sweep<'a, N> {
         self.cursor[node] = start.min(NONE as usize) as u32;
     }
 
-    /// The search leaves a node.
+    /// Leaves a node.
     fn leave(&mut self, node: usize)
         requires { node < self.old.preflow.wiring.nodes }
         ensures { self.new.preflow ≡ self.old.preflow }
@@ -77,7 +77,7 @@ impl<'a, N: FlowNetwork> Sweep<'a, N> {
         }
     }
 
-    /// The node to which the search goes next from a node, at which it stays while arcs are left.
+    /// Returns the node to which the search goes next from a node; it stays there while arcs are left.
     fn step(&mut self, node: usize) -> usize
         requires { node < self.old.preflow.wiring.nodes }
         ensures { self.new.preflow ≡ self.old.preflow }
@@ -125,7 +125,7 @@ impl<'a, N: FlowNetwork> Sweep<'a, N> {
         }
     }
 
-    /// Gives an amount back from a node to those that have not given back, and answers what is left.
+    /// Sends an amount from a node back to those that have not had their turn, and returns the rest.
     fn hand_on(&mut self, node: usize, amount: u64) -> u64
         requires { node < self.old.preflow.wiring.nodes }
         ensures { self.new.preflow.wiring ≡ self.old.preflow.wiring }
@@ -148,7 +148,7 @@ impl<'a, N: FlowNetwork> Sweep<'a, N> {
         left
     }
 
-    /// A node gives back what it has.
+    /// Sends the excess of a node back.
     fn give(&mut self, node: usize)
         requires { node < self.old.preflow.wiring.nodes }
         ensures { self.new.preflow.wiring ≡ self.old.preflow.wiring }
@@ -160,7 +160,7 @@ impl<'a, N: FlowNetwork> Sweep<'a, N> {
         preflow.excess[node] = left;
     }
 
-    /// Gives back what can be given in one sweep.
+    /// Sends back as much as possible in one sweep.
     pub fn run(&mut self)
         ensures { self.new.preflow.wiring ≡ self.old.preflow.wiring }
     {

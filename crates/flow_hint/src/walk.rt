@@ -1,9 +1,7 @@
-//! Walks that give the excess of one node after the other back along the arcs on which it came. It stands on
-//! what can go back.
+//! Walks that send the excess of one node after the other back along the arcs on which it came. Depends on `refund`.
 //!
-//! A walk goes on from a node along an arc on which something can go back, until it comes to a node beside fixed ones that
-//! take it. Where it comes to a node of its path again, as much as can go round that cycle is taken off it. The work is
-//! bounded by fuel.
+//! A walk goes on from a node along an arc on which flow can go back, until it reaches a node next to fixed ones that take
+//! it. If it reaches a node of its path again, the flow around that cycle is cancelled. The work is bounded by fuel.
 
 ghost use Rattle.std.specs.Prelude.{◌≡◌, ◌+◌, ◌<◌, ◌≤◌, length, slice_index, EachIndex, IfOk, IfSome};
 
@@ -15,23 +13,23 @@ use std::alloc::Global;
 /// The depth of a node that is not on the path.
 const NONE: u32 = u32::MAX;
 
-/// How many steps there may be for each arc.
+/// The number of steps allowed for each arc.
 const FUEL: usize = 6;
 
-/// Amounts, and a path along arcs on which something can go back.
+/// Amounts, and a path along arcs on which flow can go back.
 #[derive(Debug, Drop)]
 pub struct Walk<'a, N: FlowNetwork> {
     /// The amounts.
     pub preflow: Preflow<'a, N>,
-    /// For each node the place of the arc that is tried next. No arc before it can take anything back.
+    /// For each node the index of the arc that is tried next. No arc before it can take anything back.
     cursor: Vec<u32>,
-    /// For each node on the path how many arcs lead there.
+    /// For each node on the path the number of arcs before it.
     depth: Vec<u32>,
     /// The arcs of the path.
     path: Vec<u32>,
-    /// How many arcs the path has.
+    /// The number of arcs of the path.
     steps: usize,
-    /// How many more steps there may be.
+    /// The number of steps that are left.
     fuel: usize,
     ghost cursor_count: { length cursor.items ≡ preflow.wiring.nodes },
     ghost depth_count: { length depth.items ≡ preflow.wiring.nodes },
@@ -40,7 +38,7 @@ pub struct Walk<'a, N: FlowNetwork> {
 }
 
 impl<'a, N: FlowNetwork> Walk<'a, N> {
-    /// No node is on the path.
+    /// Returns an empty path.
     pub fn new(alloc: Global, preflow: Preflow<'a, N>) -> Result<Walk<'a, N>, NoMemory>
         ensures { IfOk result (λ walk. walk.preflow ≡ preflow.entry) }
     {
@@ -66,7 +64,7 @@ impl<'a, N: FlowNetwork> Walk<'a, N> {
         self.fuel = self.fuel.saturating_sub(steps);
     }
 
-    /// The node at the end of the path, which begins at `start`.
+    /// Returns the last node of the path, which begins at `start`.
     fn end(&self, start: usize) -> usize
         requires { start < self.now.preflow.wiring.nodes }
         ensures { result < self.now.preflow.wiring.nodes }
@@ -78,7 +76,7 @@ impl<'a, N: FlowNetwork> Walk<'a, N> {
         self.preflow.wiring.ends(arc).head
     }
 
-    /// The most that can go back along the path from a place on.
+    /// Returns the maximal amount that can go back along the path from an index on.
     fn most_from(&self, place: usize, amount: u64) -> u64 {
         let mut most = amount;
         for at in place..self.steps {
@@ -87,8 +85,8 @@ impl<'a, N: FlowNetwork> Walk<'a, N> {
         most
     }
 
-    /// Sends an amount back along the path from a place on, and answers the place of the first arc that can take no more,
-    /// or the end of the path.
+    /// Sends an amount back along the path from an index on, and returns the index of the first arc that can take no more, or
+    /// the end of the path.
     fn give_from(&mut self, place: usize, amount: u64) -> usize
         ensures { self.new.preflow.wiring ≡ self.old.preflow.wiring }
     {
@@ -105,7 +103,7 @@ impl<'a, N: FlowNetwork> Walk<'a, N> {
         cut
     }
 
-    /// Takes the arcs from a place on off the path, and the nodes to which they lead.
+    /// Removes the arcs from an index on from the path, with the nodes to which they lead.
     fn cut_to(&mut self, place: usize)
         ensures { self.new.preflow ≡ self.old.preflow }
     {
@@ -117,7 +115,7 @@ impl<'a, N: FlowNetwork> Walk<'a, N> {
         self.steps = self.steps.min(place);
     }
 
-    /// The next arc of a node along which something can go back.
+    /// Returns the next arc of a node along which flow can go back.
     fn next_arc(&mut self, node: usize) -> Option<usize>
         requires { node < self.old.preflow.wiring.nodes }
         ensures preflow { self.new.preflow ≡ self.old.preflow }
@@ -134,7 +132,7 @@ impl<'a, N: FlowNetwork> Walk<'a, N> {
         None
     }
 
-    /// Adds an arc to the path.
+    /// Appends an arc to the path.
     fn push(&mut self, arc: usize)
         requires { arc < self.old.preflow.wiring.arcs }
         ensures { self.new.preflow ≡ self.old.preflow }
@@ -145,7 +143,7 @@ impl<'a, N: FlowNetwork> Walk<'a, N> {
         }
     }
 
-    /// Takes as much as can go round it off a cycle, which the path has from a place on. It ends at that node.
+    /// Cancels the flow around a cycle, which is the path from an index on. The path then ends at that node.
     fn cancel(&mut self, place: usize)
         ensures { self.new.preflow.wiring ≡ self.old.preflow.wiring }
     {
@@ -156,7 +154,7 @@ impl<'a, N: FlowNetwork> Walk<'a, N> {
         self.cut_to(cut);
     }
 
-    /// Goes on from the end of the path, and says whether it could.
+    /// Extends the path from its end, and returns whether it could.
     fn extend(&mut self, node: usize) -> bool
         requires { node < self.old.preflow.wiring.nodes }
         ensures { self.new.preflow.wiring ≡ self.old.preflow.wiring }
@@ -175,7 +173,7 @@ impl<'a, N: FlowNetwork> Walk<'a, N> {
         true
     }
 
-    /// Gives back what can go along the path from a node with excess to a node beside fixed ones.
+    /// Sends back the maximal amount along the path from a node with excess to a node next to fixed ones.
     fn pay(&mut self, start: usize, end: usize)
         requires start { start < self.old.preflow.wiring.nodes }
         requires end { end < self.old.preflow.wiring.nodes }
@@ -190,7 +188,7 @@ impl<'a, N: FlowNetwork> Walk<'a, N> {
         self.cut_to(cut);
     }
 
-    /// Gives back the excess of a node, as far as the fuel goes.
+    /// Sends the excess of a node back, as far as the fuel goes.
     fn walk_from(&mut self, start: usize)
         requires { start < self.old.preflow.wiring.nodes }
         ensures { self.new.preflow.wiring ≡ self.old.preflow.wiring }
@@ -212,7 +210,7 @@ impl<'a, N: FlowNetwork> Walk<'a, N> {
         self.depth[start] = NONE;
     }
 
-    /// Gives back the excess of each node.
+    /// Sends the excess of each node back.
     pub fn run(&mut self)
         ensures { self.new.preflow.wiring ≡ self.old.preflow.wiring }
     {

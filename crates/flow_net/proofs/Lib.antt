@@ -2,6 +2,5 @@ pub mod BuilderLemmas
 pub mod SumLemmas
 pub mod Correspondences
 pub mod Duality
-pub mod Meets
 pub mod WeightLemmas
 pub mod PaddingLemmas

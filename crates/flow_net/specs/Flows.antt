@@ -5,12 +5,8 @@
 --   numbered_of     a Net as a network by numbers
 --   network_of      the network of a Net
 --   arcs_alone      arcs, whatever their nodes are
---   arc_cost        what an arc adds to the cost of labels
---   node_cost       what a node adds to it
 --   cost_of         the cost of labels
 --   amount_in       what enters a node over arcs
---   amount_out      what leaves a node over arcs
---   node_value      what a node adds to the value of a flow
 --   value_of        the value of a flow
 --   IsValidFlow     a flow keeps within capacities and sinks, and is balanced at free nodes
 --   IsLargest       a valid flow whose value no valid flow passes
@@ -76,14 +72,6 @@ network_of net = network_by (numbered_of net)
 abbrev pub arcs_alone : List Arc → Network ℕ ℕ
 arcs_alone = network_with [] []
 
--- what arc j costs
-abbrev pub arc_cost : List Arc → List Bool → ℕ → ℕ
-arc_cost arcs inside = networks.arc_cost (arcs_alone arcs) (flag_at inside)
-
--- what node v costs
-abbrev pub node_cost : List ℕ → List Bool → ℕ → ℕ
-node_cost sink inside = networks.node_cost (network_with [] sink []) (flag_at inside)
-
 -- the cost of labels
 abbrev pub cost_of : Net → Labels → ℕ
 cost_of net labels = networks.cost (network_of net) (flag_at labels.inside)
@@ -91,14 +79,6 @@ cost_of net labels = networks.cost (network_of net) (flag_at labels.inside)
 -- what enters node v over arcs
 abbrev pub amount_in : List Arc → List ℕ → ℕ → ℕ
 amount_in arcs on_arc = networks.amount_in (arcs_alone arcs) (slice_index on_arc)
-
--- what leaves node v over arcs
-abbrev pub amount_out : List Arc → List ℕ → ℕ → ℕ
-amount_out arcs on_arc = networks.amount_out (arcs_alone arcs) (slice_index on_arc)
-
--- what node v adds to the value of a flow
-abbrev pub node_value : List Bool → List ℕ → List ℕ → ℕ → ℕ
-node_value fixed sink on_sink = networks.node_value (network_with fixed sink []) (slice_index on_sink)
 
 -- the value of a flow
 abbrev pub value_of : Net → Flow → ℕ

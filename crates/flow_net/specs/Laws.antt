@@ -2,13 +2,11 @@
 --
 --   ValueIsAtMostCost     the value of a valid flow is at most the cost of any admissible labels
 --   EqualIsBest           a valid flow and admissible labels of equal value and cost are largest and least
---   HasLeastInside        there are least-inside labels
---   LeastInsideIsUnique   there are no two
 use Rattle.std.specs.Prelude.{◌≡◌, ◌≤◌}
 use Rattle.flow_net.specs.declared.Net.{Net}
 use Rattle.flow_net.specs.declared.Labels.{Labels}
 use Rattle.flow_net.specs.declared.Flow.{Flow}
-use Rattle.flow_net.specs.Flows.{IsValidFlow, IsAdmissible, IsLargest, IsLeastCost, IsLeastInside, value_of, cost_of}
+use Rattle.flow_net.specs.Flows.{IsValidFlow, IsAdmissible, IsLargest, IsLeastCost, value_of, cost_of}
 
 -- the value of a valid flow is at most the cost of any admissible labels
 abbrev pub ValueIsAtMostCost : Type 0
@@ -21,11 +19,3 @@ abbrev pub EqualIsBest : Type 0
 EqualIsBest =
     (net : Net) (flow : Flow) (labels : Labels) → IsValidFlow net flow → IsAdmissible net labels →
     value_of net flow ≡ cost_of net labels → IsLargest net flow × IsLeastCost net labels
-
--- there are least-inside labels
-abbrev pub HasLeastInside : Type 0
-HasLeastInside = (net : Net) → (labels : Labels) × IsLeastInside net labels
-
--- there are no two least-inside labels
-abbrev pub LeastInsideIsUnique : Type 0
-LeastInsideIsUnique = (net : Net) (a b : Labels) → IsLeastInside net a → IsLeastInside net b → a ≡ b

@@ -1,6 +1,7 @@
 pub mod Builders
 pub mod Compact
 pub mod Faults
+pub mod Firsts
 pub mod Flows
 pub mod Laws
 pub mod Nets

@@ -5,10 +5,9 @@
 --   kept net real there         the network without them
 --   IsJudgedAlike net far       least-inside labels and valid flows of the one are such of the other, at the same cost and value, and
 --                               in the other too no value is larger than a cost
---   PaddingLaw                  numbers that stand for nothing decide nothing
 use Rattle.std.specs.Prelude.{ℕ, ◌≡◌, ◌<◌, ◌≤◌, ◌==◌, Bool, true, false, if◌then◌else◌}
 use Rattle.flow_net.specs.Networks.{Network, cost, value, IsAdmissible, IsValidFlow, IsLeastInside}
-use Rattle.flow_net.specs.Numbered.{NumberedNetwork, network_by}
+use Rattle.flow_net.specs.Numbered.{NumberedNetwork}
 use Rattle.flow_net.specs.Sums.{sum_below}
 
 -- the others are fixed and take nothing, or have no capacity; arcs that are there join real nodes
@@ -43,9 +42,3 @@ pub record IsJudgedAlike (net far : Network ℕ ℕ) : Type 0 where
   pub valid : (on_arc on_node : ℕ → ℕ) → IsValidFlow net on_arc on_node → IsValidFlow far on_arc on_node
   pub at_most : (on_arc on_node : ℕ → ℕ) (inside : ℕ → Bool) → IsValidFlow far on_arc on_node → IsAdmissible far inside
       → value far on_node ≤ cost far inside
-
--- numbers that stand for nothing decide nothing
-abbrev pub PaddingLaw : Type 0
-PaddingLaw =
-    (net : NumberedNetwork) (real there : ℕ → Bool) → IsPadding net real there →
-    IsJudgedAlike (network_by net) (kept net real there)

@@ -1,4 +1,4 @@
-//! Hints and largest flows; `networks` is what they share.
+//! Hints and maximum flows; `networks` has their fixtures.
 
 mod hints;
 mod largest_flows;

@@ -1,10 +1,10 @@
--- The scan that a number makes: points on the six faces of a cube, each face seen from before it.
+-- The scan that a seed generates: points on the six faces of a cube, each face seen from before it.
 --
---   on_axis axis along u v        the place so far along an axis, at u and v on the other two axes
---   on_face face distance u v     the place on a face's side, so far from the middle
---   spread word                   the number from -1000 to 1000 that a word gives
---   generator seed                the generator of words that a seed starts
---   generated_row number first second   the row of this number, made of two words
+--   on_axis axis along u v        the point at a distance along an axis, at u and v on the other two axes
+--   on_face face distance u v     the point on a face's side, at a distance from the middle
+--   spread word                   the number from -1000 to 1000 that a word maps to
+--   generator seed                the generator with this seed
+--   generated_row number first second   the row with this number, made of two words
 --   rows_of_words number words    a row for each two words, from this number on
 --   generated count seed          the scan
 use Rattle.std.specs.Prelude.{ℕ, ◌+◌, ◌*◌, ◌/◌, ◌%◌, ◌==◌, List, [], ◌∷◌, ℤ, pos, neg_ℤ, ◌-ℤ◌, if◌then◌else◌}
@@ -14,7 +14,7 @@ use Rattle.rand_pcg.specs.Lcg.{Lcg, started, increment_of}
 use Rattle.rand_pcg.specs.Pcg.{multiplier_64, pcg32}
 use Rattle.scan.specs.ScanRows.{ScanRows, VertexRow}
 
--- the place so far along an axis; of the other two axes the earlier has u, and the later v
+-- the point at a distance along an axis; of the other two axes the earlier has u, and the later v
 abbrev pub on_axis : (axis : ℕ) → (along u v : ℤ) → Point
 on_axis axis along u v =
     if axis == 0 then point along u v
@@ -25,15 +25,15 @@ on_axis axis along u v =
 abbrev pub on_face : (face : ℕ) → (distance u v : ℤ) → Point
 on_face face distance u v = on_axis (face / 2) (if face % 2 == 0 then distance else neg_ℤ distance) u v
 
--- the number from -1000 to 1000 that a word gives
+-- the number from -1000 to 1000 that a word maps to
 abbrev pub spread : ℕ → ℤ
 spread word = pos (word % 2001) -ℤ pos 1000
 
--- the generator of words that a seed starts, on stream 1
+-- the generator with this seed, on stream 1
 abbrev pub generator : ℕ → Lcg
 generator seed = started 64 multiplier_64 seed (increment_of 64 1)
 
--- the row of this number: a point on the face whose turn it is, at two words, seen from before that face
+-- the row with this number: a point on the face whose turn it is, from two words, seen from before that face
 abbrev pub generated_row : (number first second : ℕ) → VertexRow
 generated_row number first second =
     record { point = on_face (number % 6) (pos 1000) (spread first) (spread second); weight = 1; seen_by = number % 6 ∷ [] }
@@ -51,7 +51,7 @@ scanners = before 0 ∷ before 1 ∷ before 2 ∷ before 3 ∷ before 4 ∷ befo
     before : ℕ → Point
     before face = on_face face (pos 5000) (pos 0) (pos 0)
 
--- the scan of so many rows, for which the generator gives two words each, in order
+-- the scan with this number of rows; the generator gives two words for each, in order
 abbrev pub generated : (count seed : ℕ) → ScanRows
 generated count seed =
     record { vertices = rows_of_words 0 (first_words pcg32 (count * 2) (generator seed)); scanners = scanners }

@@ -1,4 +1,4 @@
-//! Places on and before the faces of a cube about the middle of the box. It stands on the points of `geo_sign`.
+//! Points on and before the faces of a cube about the middle of the box. Depends on the points of `geo_sign`.
 
 ghost use Rattle.std.specs.Prelude.{◌≡◌, ◌<◌, ◌≤◌, IfOk, All, unsigned_abs};
 ghost use Rattle.geo_sign.specs.Point.{IsWithin, point};
@@ -9,13 +9,13 @@ use crate::NoMemory;
 use geo_sign::Point;
 use std::alloc::Global;
 
-/// How far the scanners are from the middle, in scaled whole units.
+/// The distance of the scanners from the middle, in scaled whole units.
 const SCANNER_DISTANCE: i64 = 5_000;
 
 /// The number of faces.
 pub const FACES: u32 = 6;
 
-/// The data point with these coordinates.
+/// Returns the data point with these coordinates.
 fn data_point(x: i64, y: i64, z: i64) -> Point
     requires { IsWithin DATA_LIMIT (point x y z) }
     ensures { result ≡ point x y z }
@@ -26,7 +26,7 @@ fn data_point(x: i64, y: i64, z: i64) -> Point
     }
 }
 
-/// The point on the side of a face, so far from the middle, at `u` and `v` on the other two axes.
+/// Returns the point on the side of a face at this distance from the middle, with `u` and `v` on the other two axes.
 pub fn point_on_face(face: u32, distance: i64, u: i64, v: i64) -> Point
     requires face { face < 6 }
     requires distance { unsigned_abs distance ≤ 5000 }
@@ -43,7 +43,7 @@ pub fn point_on_face(face: u32, distance: i64, u: i64, v: i64) -> Point
     }
 }
 
-/// A scanner before each face, on the axis through its middle.
+/// Returns a scanner before each face, on the axis through its middle.
 pub fn scanners(alloc: Global) -> Result<Vec<Point>, NoMemory>
     ensures value { IfOk result (λ places. places.items ≡ scanners_of_faces) }
     ensures data { IfOk result (λ places. All (IsWithin DATA_LIMIT) places.items) }

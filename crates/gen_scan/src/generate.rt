@@ -1,4 +1,4 @@
-//! The scan that a number makes. It stands on the faces of `cube` and on the kit's `rand_pcg`.
+//! The scan that a seed generates. Depends on the faces of `cube` and on the kit's `rand_pcg`.
 
 ghost use Rattle.std.specs.Prelude.{◌≡◌, ◌≤◌, IfOk, length, unsigned_abs};
 ghost use Rattle.scan.specs.ScanRows.{point_limit};
@@ -14,10 +14,10 @@ use rand_pcg::Pcg32;
 use scan::{Scan, Seen};
 use std::alloc::Global;
 
-/// How far the faces are from the middle, in scaled whole units.
+/// The distance of the faces from the middle, in scaled whole units.
 const FACE_DISTANCE: i64 = 1_000;
 
-/// The number from -1000 to 1000 that a word gives.
+/// Maps a word to a number from -1000 to 1000.
 fn spread(word: u32) -> i64
     ensures value { result ≡ spread_of word }
     ensures small { unsigned_abs result ≤ 1000 }
@@ -25,7 +25,7 @@ fn spread(word: u32) -> i64
     i64::from(word % 2_001) - 1_000
 }
 
-/// The points of so many rows, and the sight of each.
+/// Returns the points of this number of rows, and the sight of each.
 fn vertices(alloc: Global, count: u32, seed: u64) -> Result<(Vec<Point>, Vec<Seen>), NoMemory>
     ensures points { IfOk result (λ made. made.0.items ≡ (shown_by (generated count seed)).points) }
     ensures seen { IfOk result (λ made. made.1.items ≡ (shown_by (generated count seed)).seen) }
@@ -48,11 +48,11 @@ fn vertices(alloc: Global, count: u32, seed: u64) -> Result<(Vec<Point>, Vec<See
     Ok((points, seen))
 }
 
-/// The scan of `n` rows that a seed makes.
+/// Returns the scan of `n` rows that a seed generates.
 ///
-/// Six scanners stand 5,000 scaled units from the middle, two on each axis. Row `i` is a point of the face of a cube, 1,000 units
-/// from the middle, before which scanner `i % 6` stands, at two random numbers from -1,000 to 1,000 on the other two axes. The
-/// words come from `Pcg32` on stream 1, two a row.
+/// Six scanners stand 5,000 scaled units from the middle, two on each axis. Row `i` is a point of the face of a cube, 1,000
+/// units from the middle, before which scanner `i % 6` stands, at two random numbers from -1,000 to 1,000 on the other two
+/// axes. `Pcg32` on stream 1 gives two random words a row.
 pub fn gen_scan(alloc: Global, n: u32, seed: u64) -> Result<Scan, NoMemory>
     requires least { 1 ≤ n }
     requires most { n ≤ point_limit }

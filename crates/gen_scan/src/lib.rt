@@ -1,8 +1,7 @@
-//! A scan of any size from a number: points on the six faces of a cube, each face seen by a scanner before it.
+//! Generates a scan of any size from a seed: points on the six faces of a cube, each face seen by a scanner before it.
 //!
-//! Such a scan needs no file, and has a known outcome for each size and seed. The random words are those of `Pcg32`
-//! (O'Neill, the PCG generators), so that any program can make the same scan. The crate stands on `scan` and on the kit's
-//! `rand_pcg`.
+//! The scan needs no file, and has a known outcome for each size and seed. The random words are those of `Pcg32` (O'Neill, the
+//! PCG generators), so that any program can make the same scan. The crate depends on `scan` and on the kit's `rand_pcg`.
 #![tactic(auto)]
 
 mod cube;
@@ -11,5 +10,5 @@ mod generate;
 pub use generate::gen_scan;
 use std::alloc::AllocError;
 
-/// Want of memory: the one answer that any input may get.
+/// Out of memory: the one error that any input may cause.
 pub type NoMemory = AllocError;

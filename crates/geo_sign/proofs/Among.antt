@@ -1,9 +1,8 @@
 -- The test that a facet is one of the four of a tetrahedron says just that.
-use Rattle.std.proofs.Common.{ℕ, zero, suc, ◌<◌, ◌≡◌, refl, ap, ap₂, sym, ◌∙◌, ⊎_elim, arith, Bool, true, ◌&&◌, ◌||◌}
+use Rattle.std.proofs.Common.{ℕ, zero, suc, ◌<◌, ◌≡◌, refl, ap, ap₂, ◌∙◌, ⊎_elim, arith, Bool, true, ◌&&◌, ◌||◌}
 use Rattle.std.proofs.Common.{eqb}
 use Rattle.std.proofs.lemmas.Bool.{and_parts, or_cases, eq-eqb, eqb-true, or_right}
 use Rattle.geo_sign.specs.Tetrahedron.{Tetrahedron, DirectedFacet, facet, facet_of, is_same_facet, is_among}
-use Rattle.geo_sign.specs.FacetLaws.{AmongMeans}
 
 pub same_itself : (f : DirectedFacet) → is_same_facet f f ≡ true
 same_itself f = ap₂ (λ x y. x && y && eqb f.c f.c) (eq-eqb f.a f.a refl) (eq-eqb f.b f.b refl) ∙ eq-eqb f.c f.c refl
@@ -38,6 +37,3 @@ found t f h =
 
     at : (k : ℕ) → k < 4 → is k ≡ true → (j : ℕ) × (j < 4) × (facet_of t j ≡ f)
     at k l e = (k, l, same_means (facet_of t k) f e)
-
-pub among_means : AmongMeans
-among_means t f = (found t f, λ h. ap (is_among t) (sym h.2) ∙ own_facet t h.0)

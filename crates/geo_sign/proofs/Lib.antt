@@ -19,6 +19,5 @@ pub mod Rewritings
 pub mod Among
 pub mod CellRows
 pub mod RowLaws
-pub mod Agreements
 pub mod Determinants
 pub mod PowerBounds

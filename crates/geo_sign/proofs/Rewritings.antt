@@ -9,11 +9,10 @@ use Rattle.geo_sign.specs.Tetrahedron.{Tetrahedron, DirectedFacet, facet, facet_
 use Rattle.geo_sign.specs.Vertices.{Vertices, orientation_of, power_of}
 use Rattle.geo_sign.specs.Cells.{IsCell}
 use Rattle.geo_sign.specs.Sights.{side_of, is_positive, is_negative, has_vertex, all_facets, all_facets_at, is_behind}
-use Rattle.geo_sign.specs.Sights.{is_towards, is_cell_of}
+use Rattle.geo_sign.specs.Sights.{is_cell_of}
 use Rattle.geo_sign.specs.Places.{IsLyingIn, IsStrictlyIn}
 use Rattle.geo_sign.specs.Writings.{IsRewritten, IsVertexOf, after_steps, spin, swap}
 use Rattle.geo_sign.specs.FacetLaws.{FacetsAreRotated}
-use Rattle.geo_sign.specs.WritingLaws.{RewritingsAreAlike, IsRewrittenLaw}
 use Rattle.geo_sign.proofs.Exchanges.{spin_orientation, swap_orientation, spin_power, swap_power}
 use Rattle.geo_sign.proofs.Rotations.{rotated_after, side_rotated}
 
@@ -49,9 +48,6 @@ rewritten_back t r e =
     (λ x h. (h.0 ++ (true ∷ true ∷ []), moved_append h.0 (true ∷ true ∷ []) (spin x) ∙ h.1))
     (λ x h. (h.0 ++ (false ∷ []), moved_append h.0 (false ∷ []) (swap x) ∙ h.1))
     t r e ([], refl)
-
-pub rewritings : IsRewrittenLaw
-rewritings = record { itself = λ t. ([], refl); back = rewritten_back; after = rewritten_after }
 
 -- ---- orientation, power, cells and vertices
 abbrev pub orientation_at : Vertices → Tetrahedron → ℤ
@@ -270,29 +266,7 @@ same_behind v p s t r e =
     ap₂ (λ x y. x && y) (same_has_vertex p t r e)
     (same_all_facets_at p (λ f. is_negative (side_of v f s)) (blind_back v s) t r e)
 
-pub same_towards : (v : Vertices) (p : ℕ) (s : RationalPoint) (t r : Tetrahedron) → IsRewritten t r
-    → is_towards v p s r ≡ is_towards v p s t
-unfolding is_towards
-same_towards v p s t r e =
-    ap₂ (λ x y. x && y) (same_has_vertex p t r e)
-    (same_all_facets_at p (λ f. is_positive (side_of v f s)) (blind_ahead v s) t r e)
-
 pub same_cell_of : (v : Vertices) (s : RationalPoint) (t r : Tetrahedron) → IsRewritten t r
     → is_cell_of v s r ≡ is_cell_of v s t
 unfolding is_cell_of
 same_cell_of v s t r e = same_all_facets (λ f. is_positive (side_of v f s)) (blind_ahead v s) t r e
-
-pub rewritings_are_alike : RewritingsAreAlike
-rewritings_are_alike v t r e =
-    let b : IsRewritten r t = rewritten_back t r e in
-    record {
-      orientation_is = same_orientation v t r e;
-      power_is = λ p. same_power v p t r e;
-      cell = (same_cell v t r e, same_cell v r t b);
-      vertex = λ u. (same_vertex u t r e, same_vertex u r t b);
-      behind_is = λ p s. same_behind v p s t r e;
-      towards_is = λ p s. same_towards v p s t r e;
-      cell_of_is = λ s. same_cell_of v s t r e;
-      lying = λ q. (same_lying v q t r e, same_lying v q r t b);
-      strictly = λ q. (same_strictly v q t r e, same_strictly v q r t b);
-    }

@@ -10,7 +10,7 @@ use Rattle.geo_sign.specs.Rational.{RationalPoint, rational, side}
 use Rattle.geo_sign.specs.Tetrahedron.{DirectedFacet, facet, turned, IsRotated, IsTurned}
 use Rattle.geo_sign.specs.Vertices.{Vertices}
 use Rattle.geo_sign.specs.Sights.{side_of, is_positive, is_negative, is_crossed}
-use Rattle.geo_sign.specs.FacetLaws.{SidesAreRotated, SidesAreTurned, CrossingsAreRotated, IsRotatedLaw}
+use Rattle.geo_sign.specs.FacetLaws.{SidesAreRotated, SidesAreTurned, CrossingsAreRotated}
 use Rattle.geo_sign.proofs.Exchanges.{round_side, turned_side}
 
 abbrev pub round : DirectedFacet → DirectedFacet
@@ -59,19 +59,6 @@ turned_rotated f g h t r = turned_is f h (rotated_after (turned f) g h (turned_o
 
 pub turned_turned : (f g h : DirectedFacet) → IsTurned f g → IsTurned g h → IsRotated f h
 turned_turned f g h t u = rotated_after f (turned g) h (both_turned (turned f) g (turned_of f g t)) (turned_of g h u)
-
-pub rotations : IsRotatedLaw
-rotations =
-    record {
-      itself = λ f. inl refl;
-      back = rotated_back;
-      after = rotated_after;
-      turn = λ f. inl refl;
-      turn_back = turned_back;
-      rotated_turned = rotated_turned;
-      turned_rotated = turned_rotated;
-      turned_turned = turned_turned;
-    }
 
 -- ---- sides
 pub side_rotated : SidesAreRotated

@@ -7,16 +7,14 @@
 use Rattle.std.proofs.Common.{ℕ, zero, suc, ◌<◌, ◌≤◌, ◌≡◌, ◌<ℤ◌, refl, ap, ap₂, sym, subst, ◌∙◌, ◌⊎◌, inl, inr, ⊎_elim, arith}
 use Rattle.std.proofs.Common.{Bool, true, false, int_lt, ℤ, pos, neg_ℤ, List, [], ◌∷◌, if◌then◌else◌}
 use Rattle.std.proofs.lemmas.Int.{ints}
-use Rattle.geo_sign.specs.Tetrahedron.{Tetrahedron, tetrahedron, DirectedFacet, facet_of, IsRotated, is_among}
+use Rattle.geo_sign.specs.Tetrahedron.{Tetrahedron, tetrahedron, facet_of}
 use Rattle.geo_sign.specs.Vertices.{Vertices, orientation_of}
 use Rattle.geo_sign.specs.Cells.{IsCell, IsRisingCell, written}
 use Rattle.geo_sign.specs.Writings.{IsRewritten, IsVertexOf}
 use Rattle.geo_sign.specs.RowLaws.{IsRowOf, IsFirstLeast, RowsExist, RowsAreWritten, RowsAreKept, RowsTell, CellsAreRows}
-use Rattle.geo_sign.specs.RowLaws.{WrittenFacets, FacetsAreAmong}
+use Rattle.geo_sign.specs.RowLaws.{WrittenFacets}
 use Rattle.geo_sign.proofs.Exchanges.{exchanged_orientation}
-use Rattle.geo_sign.proofs.Rotations.{rotated_after}
-use Rattle.geo_sign.proofs.Rewritings.{IsCellOf, same_cell, same_facets, same_vertex, rewritten_after, rewritten_back}
-use Rattle.geo_sign.proofs.Among.{own_facet}
+use Rattle.geo_sign.proofs.Rewritings.{IsCellOf, same_cell, same_vertex, rewritten_after, rewritten_back}
 use Rattle.geo_sign.proofs.CellRows.{same_positive, row_there}
 use Rattle.geo_sign.proofs.SignTests.{above_is}
 
@@ -257,21 +255,3 @@ written_facets v t row h k = by_row t (λ row. IsFirstLeast (facet_of (written v
         (λ (e : written v (a ∷ b ∷ c ∷ d ∷ []) ≡ tetrahedron a b d c).
         subst (λ (x : Tetrahedron). IsFirstLeast (facet_of x k)) (sym e) (least_first a b d c ab ad ac bd bc k))
         (written_either v a b c d)
-
--- of the rotations of a facet one has its smallest number first
-pub one_least : (f g : DirectedFacet) → IsRotated f g → IsFirstLeast f → IsFirstLeast g → g ≡ f
-one_least f g (inl e) h k = e
-one_least f g (inr (inl e)) h k =
-    let l = (subst (λ (x : DirectedFacet). IsFirstLeast x) e k).1 in let m = h.0 in
-    absurd (omega (arith, l, m))
-one_least f g (inr (inr e)) h k =
-    let l = (subst (λ (x : DirectedFacet). IsFirstLeast x) e k).0 in let m = h.1 in
-    absurd (omega (arith, l, m))
-
-pub facets_are_among : FacetsAreAmong
-facets_are_among v t row p h k g r l =
-    let w : Tetrahedron = written v row in
-    let j = same_facets w t (rewritten_back t w (rows_are_written v t row p h)) k in
-    let e : g ≡ facet_of w j.0 =
-    one_least (facet_of w j.0) g (rotated_after (facet_of w j.0) (facet_of t k) g j.2 r) (written_facets v t row h j.0) l in
-    ap (is_among w) e ∙ own_facet w j.0

@@ -1,14 +1,13 @@
 -- Vertices of the box, of which some are in, and one vertex more.
 --
 --   inserted_vertices points flags   the box's corners and these points; those with a flag are in
---   IsTied v                         all have the heights of the tie rule
---   IsBoxed v                        the box's corners and data points, with the heights of the tie rule
+--   IsTied v                         all have the heights of the symbolic perturbation
+--   IsBoxed v                        the box's corners and data points, with the heights of the symbolic perturbation
 --   with_vertex v p                  the same vertices, and p is in too
 --   IsNew v p                        p is a data point that is not in yet
 --   IsInConflict v p t               p is in conflict with t
 --   IsClearOf v p t                  it is not
---   Agree v w                        the same vertices are in, at the same points and heights
-use Rattle.std.specs.Prelude.{ℕ, ◌<◌, ◌≤◌, ◌≡◌, ◌↔◌, ◌+◌, ◌==◌, ◌||◌, Bool, false, pos, ◌<ℤ◌, ◌≤ℤ◌, List, length, get_or}
+use Rattle.std.specs.Prelude.{ℕ, ◌<◌, ◌≤◌, ◌≡◌, ◌+◌, ◌==◌, ◌||◌, Bool, false, pos, ◌<ℤ◌, ◌≤ℤ◌, List, length, get_or}
 use Rattle.geo_sign.specs.declared.point.TheConstants.{CORNERS, DATA_LIMIT}
 use Rattle.geo_sign.specs.Point.{Point, IsWithin, corner_point}
 use Rattle.geo_sign.specs.Tetrahedron.{Tetrahedron}
@@ -25,12 +24,12 @@ inserted_vertices points flags =
       is_in = λ u. get_or flags u false;
     }
 
--- each height is that of the tie rule
+-- each height is that of the symbolic perturbation
 abbrev pub IsTied : Vertices → Type 0
 IsTied v = (u : ℕ) → v.high u ≡ height v.count u (v.at u)
 
 -- The corners are vertices 0 to 7 and are in, the other vertices are data points, no two are at one point, and all have
--- the heights of the tie rule. Which of the data points are in is left open.
+-- the heights of the symbolic perturbation. Which of the data points are in is left open.
 pub record IsBoxed (v : Vertices) : Type 0 where
   pub corner_in : (k : ℕ) → k < CORNERS → Has v k
   pub corner_at : (k : ℕ) → k < CORNERS → v.at k ≡ corner_point k
@@ -54,9 +53,3 @@ IsInConflict v p t = power_of v t.a t.b t.c t.d p <ℤ pos 0
 
 abbrev pub IsClearOf : Vertices → (p : ℕ) → Tetrahedron → Type 0
 IsClearOf v p t = pos 0 ≤ℤ power_of v t.a t.b t.c t.d p
-
--- The same vertices are in, at the same points and with the same heights. What the others are is left open.
-pub record Agree (v w : Vertices) : Type 0 where
-  pub in_is : (u : ℕ) → Has v u ↔ Has w u
-  pub at_is : (u : ℕ) → Has v u → v.at u ≡ w.at u
-  pub high_is : (u : ℕ) → Has v u → v.high u ≡ w.high u

@@ -3,12 +3,10 @@
 --   SidesAreRotated       a rotated facet has the same side of each place
 --   SidesAreTurned        a turned one has the opposite side
 --   CrossingsAreRotated   a sight crosses a rotated facet where it crosses the facet
---   IsRotatedLaw          how rotations and turns follow one another and are undone
 --   FacetsAreRotated      the facets of a tetrahedron written anew are its facets, rotated
---   AmongMeans            is_among says that a facet is one of the four
-use Rattle.std.specs.Prelude.{ℕ, ◌<◌, ◌≡◌, ◌↔◌, true, neg_ℤ}
+use Rattle.std.specs.Prelude.{ℕ, ◌<◌, ◌≡◌, neg_ℤ}
 use Rattle.geo_sign.specs.Rational.{RationalPoint}
-use Rattle.geo_sign.specs.Tetrahedron.{Tetrahedron, DirectedFacet, facet_of, turned, IsRotated, IsTurned, is_among}
+use Rattle.geo_sign.specs.Tetrahedron.{Tetrahedron, DirectedFacet, facet_of, IsRotated, IsTurned}
 use Rattle.geo_sign.specs.Vertices.{Vertices}
 use Rattle.geo_sign.specs.Sights.{side_of, is_crossed}
 use Rattle.geo_sign.specs.Writings.{IsRewritten}
@@ -26,21 +24,6 @@ abbrev pub CrossingsAreRotated : Type 0
 CrossingsAreRotated =
     (v : Vertices) (p : ℕ) (s : RationalPoint) (f g : DirectedFacet) → IsRotated f g → is_crossed v p s g ≡ is_crossed v p s f
 
--- two turns are a rotation, and a turn and a rotation are a turn
-pub record IsRotatedLaw : Type 0 where
-  pub itself : (f : DirectedFacet) → IsRotated f f
-  pub back : (f g : DirectedFacet) → IsRotated f g → IsRotated g f
-  pub after : (f g h : DirectedFacet) → IsRotated f g → IsRotated g h → IsRotated f h
-  pub turn : (f : DirectedFacet) → IsTurned f (turned f)
-  pub turn_back : (f g : DirectedFacet) → IsTurned f g → IsTurned g f
-  pub rotated_turned : (f g h : DirectedFacet) → IsRotated f g → IsTurned g h → IsTurned f h
-  pub turned_rotated : (f g h : DirectedFacet) → IsTurned f g → IsRotated g h → IsTurned f h
-  pub turned_turned : (f g h : DirectedFacet) → IsTurned f g → IsTurned g h → IsRotated f h
-
 -- facet k of the one is some facet j of the other, rotated
 abbrev pub FacetsAreRotated : Type 0
 FacetsAreRotated = (t r : Tetrahedron) → IsRewritten t r → (k : ℕ) → (j : ℕ) × (j < 4) × IsRotated (facet_of t j) (facet_of r k)
-
--- as it stands, from the same vertex on
-abbrev pub AmongMeans : Type 0
-AmongMeans = (t : Tetrahedron) (f : DirectedFacet) → (is_among t f ≡ true) ↔ ((k : ℕ) × (k < 4) × (facet_of t k ≡ f))

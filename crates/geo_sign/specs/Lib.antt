@@ -20,9 +20,7 @@ pub mod Places
 pub mod NearPlaces
 pub mod Boxes
 pub mod RisingLaws
-pub mod WritingLaws
 pub mod FacetLaws
 pub mod RowLaws
-pub mod AgreementLaws
 pub mod SizeLaws
 pub mod DeterminantLaws

@@ -3,7 +3,7 @@
 --
 --   IsRowOf t row        the row's numbers rise, and are those of t, in an even order or with the last two exchanged
 --   IsOneRow t row       a row of t, and no other list is one
---   IsPositive v t       t is written positively
+--   IsPositive v t       t is positively oriented
 --   IsFirstLeast f       the facet's smallest number comes first
 --   RowsExist            a positive tetrahedron has one row
 --   RowsAreWritten       what `written` makes of the row is t written anew
@@ -11,9 +11,8 @@
 --   RowsTell             two positive tetrahedra with one row are one, written anew
 --   CellsAreRows         a cell's row is a rising cell, and a rising cell is the row of the cell that `written` makes of it
 --   WrittenFacets        the facets of what `written` makes of a rising row have their smallest number first
---   FacetsAreAmong       a facet of t from its smallest number on is one of these, as it stands
-use Rattle.std.specs.Prelude.{ℕ, ◌<◌, ◌≡◌, ◌⊎◌, true, pos, ◌<ℤ◌, List, [], ◌∷◌}
-use Rattle.geo_sign.specs.Tetrahedron.{Tetrahedron, tetrahedron, DirectedFacet, facet_of, IsRotated, is_among}
+use Rattle.std.specs.Prelude.{ℕ, ◌<◌, ◌≡◌, ◌⊎◌, pos, ◌<ℤ◌, List, [], ◌∷◌}
+use Rattle.geo_sign.specs.Tetrahedron.{Tetrahedron, tetrahedron, DirectedFacet, facet_of}
 use Rattle.geo_sign.specs.Vertices.{Vertices, orientation_of}
 use Rattle.geo_sign.specs.Cells.{IsCell, IsRisingCell, written}
 use Rattle.geo_sign.specs.Writings.{IsRewritten}
@@ -29,7 +28,7 @@ pub record IsOneRow (t : Tetrahedron) (row : List ℕ) : Type 0 where
   pub is : IsRowOf t row
   pub one : (other : List ℕ) → IsRowOf t other → other ≡ row
 
--- written positively
+-- positively oriented
 abbrev pub IsPositive : Vertices → Tetrahedron → Type 0
 IsPositive v t = pos 0 <ℤ orientation_of v t.a t.b t.c t.d
 
@@ -67,10 +66,3 @@ pub record CellsAreRows : Type 0 where
 abbrev pub WrittenFacets : Type 0
 WrittenFacets =
     (v : Vertices) (t : Tetrahedron) (row : List ℕ) → IsRowOf t row → (k : ℕ) → IsFirstLeast (facet_of (written v row) k)
-
--- a facet of t in any rotation that has its smallest number first
-abbrev pub FacetsAreAmong : Type 0
-FacetsAreAmong =
-    (v : Vertices) (t : Tetrahedron) (row : List ℕ) → IsPositive v t → IsRowOf t row → (k : ℕ) (g : DirectedFacet)
-    → IsRotated (facet_of t k) g → IsFirstLeast g
-    → is_among (written v row) g ≡ true

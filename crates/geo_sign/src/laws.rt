@@ -1,11 +1,9 @@
-//! Laws over the definitions, as the contracts of calls that do nothing.
+//! Theorems on the definitions, as the contracts of calls that do nothing.
 
 ghost use Rattle.std.specs.Prelude.{◌≡◌};
 ghost use Rattle.geo_sign.specs.RisingLaws.{RisingLaw, CellListLaw};
-ghost use Rattle.geo_sign.specs.WritingLaws.{RewritingsAreAlike, IsRewrittenLaw};
-ghost use Rattle.geo_sign.specs.FacetLaws.{SidesAreRotated, SidesAreTurned, CrossingsAreRotated, IsRotatedLaw, FacetsAreRotated, AmongMeans};
-ghost use Rattle.geo_sign.specs.RowLaws.{RowsExist, RowsAreWritten, RowsAreKept, RowsTell, CellsAreRows, WrittenFacets, FacetsAreAmong};
-ghost use Rattle.geo_sign.specs.AgreementLaws.{AgreeLaw, SignsAgree, CellsAgree, SightsAgree, AllInAgree};
+ghost use Rattle.geo_sign.specs.FacetLaws.{SidesAreRotated, SidesAreTurned, CrossingsAreRotated, FacetsAreRotated};
+ghost use Rattle.geo_sign.specs.RowLaws.{RowsExist, RowsAreWritten, RowsAreKept, RowsTell, CellsAreRows, WrittenFacets};
 ghost use Rattle.geo_sign.specs.DeterminantLaws.{CramerLaw, OrientationIsSum, PointIsSum, PowerIsSum};
 ghost use Rattle.geo_sign.specs.SizeLaws.{NormalsAreSmall, PowersAreSmall};
 ghost use Rattle.geo_sign.specs.declared.point.TheConstants.{BOX_LIMIT, CORNERS, DATA_LIMIT};
@@ -16,14 +14,6 @@ pub fn rising_list_law()
     ensures cells { CellListLaw }
 {}
 
-/// A tetrahedron written anew, in another even order of its four vertices, is the same to every definition: its orientation, its
-/// powers, whether it is a cell, its vertices, the tests of sights, and the places in it. To be written anew is an equivalence.
-/// It is for whoever has a cell in some order of its vertices and a promise of it in another.
-pub fn writing_law()
-    ensures alike { RewritingsAreAlike }
-    ensures equivalence { IsRewrittenLaw }
-{}
-
 /// A directed facet may be written from any of its vertices on: sides and crossings stay. In the other direction each side is the
 /// opposite number. The facets of a tetrahedron written anew are its facets, rotated.
 /// It is for whoever meets one facet from two cells.
@@ -31,13 +21,11 @@ pub fn rotated_facet_law()
     ensures sides { SidesAreRotated }
     ensures turned { SidesAreTurned }
     ensures crossings { CrossingsAreRotated }
-    ensures rotations { IsRotatedLaw }
     ensures facets { FacetsAreRotated }
-    ensures among { AmongMeans }
 {}
 
 /// Each positively written tetrahedron has one row, its four numbers as they rise. The row determines it up to its writing, cells
-/// in any writing are rising cells by their rows, and a facet from its smallest number on is a facet of what is written of the row.
+/// in any writing are rising cells by their rows, and the facets of what is written of a row have their smallest number first.
 /// It is for whoever names a cell by its four numbers as they rise.
 pub fn row_law()
     ensures exist { RowsExist }
@@ -46,17 +34,6 @@ pub fn row_law()
     ensures tell { RowsTell }
     ensures cells { CellsAreRows }
     ensures least_first { WrittenFacets }
-    ensures among { FacetsAreAmong }
-{}
-
-/// What the definitions say of vertices that are in depends on these alone.
-/// It is for whoever makes vertices of a store in which some points are not in yet.
-pub fn agreement_law()
-    ensures equivalence { AgreeLaw }
-    ensures signs { SignsAgree }
-    ensures cells { CellsAgree }
-    ensures sights { SightsAgree }
-    ensures all_in { AllInAgree }
 {}
 
 /// Four vectors have one linear relation, whose weights are determinants of three of them. So the orientation of four points is the

@@ -1,5 +1,5 @@
-//! The list of all cells of a few points, by trying each set of four vertices against each vertex. It is the plain program that
-//! the incremental tetrahedrization is compared with.
+//! Lists all cells of a few points by testing each set of four vertices against each vertex: the brute-force oracle for the
+//! incremental tetrahedralization.
 
 ghost use Rattle.std.specs.Prelude.{◌≡◌, ◌≢◌, ◌<◌, ◌≤◌, ◌+◌, ◌<ℤ◌, ◌≤ℤ◌, ◌↔◌, ◌++◌, ◌∷◌, [], pos, ℕ, IsTrue, IfOk, length};
 ghost use Rattle.geo_sign.specs.Vertices.{boxed_vertices, orientation_of, power_of, corners};
@@ -12,10 +12,10 @@ use crate::tie::is_in_conflict;
 use geo_sign::{CORNERS, Point, Sign, corner, orient};
 use std::alloc::Global;
 
-/// The most points of the plain program, which tries each four of them and the corners.
+/// The most points that the oracle accepts: it tries each four of them and the corners.
 pub const PLAIN_LIMIT: usize = 56;
 
-/// Vertex u with its number.
+/// Returns vertex u with its number.
 fn numbered(vertices: &[Point], u: usize) -> (u32, Point)
     requires few { length vertices.now ≤ 64 }
     requires inside { u < length vertices.now }
@@ -24,7 +24,7 @@ fn numbered(vertices: &[Point], u: usize) -> (u32, Point)
     (u as u32, vertices[u])
 }
 
-/// Whether vertex u is not in conflict with the cell a b c d. The cell's own vertices are not.
+/// Returns whether vertex u is not in conflict with the cell a b c d. The cell's own vertices are not.
 fn is_outside(vertices: &[Point], a: usize, b: usize, c: usize, d: usize, u: usize) -> bool
     requires few { length vertices.now ≤ 64 }
     requires distinct { (a ≢ b) × (a ≢ c) × (a ≢ d) × (b ≢ c) × (b ≢ d) × (c ≢ d) }
@@ -44,7 +44,7 @@ fn is_outside(vertices: &[Point], a: usize, b: usize, c: usize, d: usize, u: usi
     )
 }
 
-/// Whether no vertex is in conflict with the cell a b c d.
+/// Returns whether no vertex is in conflict with the cell a b c d.
 fn is_clear(vertices: &[Point], a: usize, b: usize, c: usize, d: usize) -> bool
     requires few { length vertices.now ≤ 64 }
     requires distinct { (a ≢ b) × (a ≢ c) × (a ≢ d) × (b ≢ c) × (b ≢ d) × (c ≢ d) }
@@ -60,7 +60,7 @@ fn is_clear(vertices: &[Point], a: usize, b: usize, c: usize, d: usize) -> bool
     true
 }
 
-/// Whether the four vertices are a cell. Flat ones are left out first.
+/// Returns whether the four vertices are a cell. Rejects flat ones first.
 fn are_cell(vertices: &[Point], a: usize, b: usize, c: usize, d: usize) -> bool
     requires few { length vertices.now ≤ 64 }
     requires rising { (a < b) × (b < c) × (c < d) × (d < length vertices.now) }
@@ -73,7 +73,7 @@ fn are_cell(vertices: &[Point], a: usize, b: usize, c: usize, d: usize) -> bool
     }
 }
 
-/// Goes on with the cells whose first three vertices are a, b, c.
+/// Appends the cells whose first three vertices are a, b, c.
 fn push_cells_of_three(
     cells: &mut Vec<[u32; 4]>,
     vertices: &[Point],
@@ -94,7 +94,7 @@ fn push_cells_of_three(
     Ok(())
 }
 
-/// Goes on with the cells whose first two vertices are a, b.
+/// Appends the cells whose first two vertices are a, b.
 fn push_cells_of_two(
     cells: &mut Vec<[u32; 4]>,
     vertices: &[Point],
@@ -112,7 +112,7 @@ fn push_cells_of_two(
     Ok(())
 }
 
-/// Goes on with the cells whose first vertex is a.
+/// Appends the cells whose first vertex is a.
 fn push_cells_of_one(
     cells: &mut Vec<[u32; 4]>,
     vertices: &[Point],
@@ -129,7 +129,7 @@ fn push_cells_of_one(
     Ok(())
 }
 
-/// The box's corners, and these points after them.
+/// Returns the box's corners, and these points after them.
 fn with_corners(alloc: Global, points: &[Point]) -> Result<Vec<Point>, NoMemory>
     requires few { length points.now ≤ PLAIN_LIMIT }
     ensures { IfOk result (λ vertices. vertices.items ≡ corners ++ points.now) }
@@ -149,8 +149,8 @@ fn with_corners(alloc: Global, points: &[Point]) -> Result<Vec<Point>, NoMemory>
     Ok(vertices)
 }
 
-/// The cells of the box's corners and these points: the corners have the numbers 0 to 7, and the points follow. Each cell is
-/// listed once, by the rising numbers of its four vertices, and the list rises. The only error is want of memory.
+/// Returns the cells of the box's corners and these points: the corners have the numbers 0 to 7, and the points follow. Each
+/// cell occurs once, as its sorted vertex tuple, and the list is sorted. The only error is out of memory.
 pub fn plain_cells(alloc: Global, points: &[Point]) -> Result<Vec<[u32; 4]>, NoMemory>
     requires few { length points.now ≤ PLAIN_LIMIT }
     ensures { IfOk result (λ cells. IsCellList (boxed_vertices points.now) cells.items) }

@@ -1,10 +1,10 @@
-//! The tie rule among vertices on one sphere, and the cells of a few points by trying each four of them.
+//! Symbolic perturbation for vertices on one sphere, and the Delaunay cells of a few points by brute force.
 //!
-//! A cell is a Delaunay tetrahedron by the empty-sphere definition: four vertices written positively with which no vertex is in
-//! conflict. Five vertices on one sphere are told apart by their numbers, so that the cells are never ambiguous.
+//! A cell is a Delaunay tetrahedron by the empty-sphere definition: four positively oriented vertices in conflict with no
+//! vertex. Ties among five vertices on one sphere are broken by their numbers, so the cells are unique.
 //!
-//! `tie` has the test for conflict, which insertions take. `cells` lists the cells of at most 56 points, and serves tests: it looks at
-//! all vertices for each four. The crate stands on `geo_sign` (signs) alone.
+//! `tie` has the conflict test, which insertions use. `cells` lists the cells of at most 56 points, for tests: it checks all
+//! vertices for each four. The crate depends on `geo_sign` (signs) alone.
 #![tactic(auto)]
 
 mod cells;
@@ -14,5 +14,5 @@ pub use cells::{PLAIN_LIMIT, plain_cells};
 use std::alloc::AllocError;
 pub use tie::conflict;
 
-/// Want of memory: the one answer that any input may get.
+/// Out of memory: the one error that any input may cause.
 pub type NoMemory = AllocError;

@@ -1,8 +1,9 @@
 //! Conflict of a vertex with a cell, ties broken by the vertices' numbers.
 //!
-//! A vertex with number i has the height (x^2 + y^2 + z^2) B^n + B^i with B = 2^80 and n above all numbers. So the power of p at a cell
-//! is B^n times the plain power, and five more terms: a power of B for each of the five numbers, times an orientation below 2^75. The
-//! plain power decides where it is not zero, and else the greatest number whose orientation is not zero. No large number is computed.
+//! A vertex with number i has the height (x^2 + y^2 + z^2) B^n + B^i with B = 2^80 and n above all numbers. So the power of p
+//! with respect to a cell is B^n times the unperturbed power, plus five terms: a power of B for each of the five numbers, times
+//! an orientation below 2^75. The unperturbed power decides unless it is zero; then the greatest number with a nonzero
+//! orientation does. No large number is computed.
 
 ghost use Rattle.std.specs.Prelude.{◌≡◌, ◌<ℤ◌, ◌↔◌, pos, ℕ, IsTrue, IsFalse};
 ghost use Rattle.geo_sign.specs.Orientation.{orientation};
@@ -30,8 +31,8 @@ impl Model for Term {
     ghost inverse = { λ t. record { number = t.number; sign = t.sign } };
 }
 
-/// The leading one of a term that is not zero and the term with this number, whose coefficient is the orientation of a, b, c, d. It is
-/// computed only where the number is the greater one.
+/// Returns the leading term: either this leader or the term with this number, whose coefficient is the orientation of a, b, c,
+/// d. Computes that orientation only if the number is the greater one.
 fn leading(leader: Term, number: u32, a: Point, b: Point, c: Point, d: Point) -> Term
     ensures { result ≡ leading_term leader (term number (orientation a b c d)) }
 {
@@ -60,8 +61,9 @@ fn is_below(sign: Sign) -> bool
     }
 }
 
-/// The sign of the term that decides a tie. The coefficient of the vertex p is the orientation of the cell, which is positive, and
-/// that of a vertex of the cell is the orientation with p in its place, turned. Large numbers first: most others are then left out.
+/// Returns the sign of the term that decides a tie. The coefficient of the vertex p is the orientation of the cell, which is
+/// positive, and that of a vertex of the cell is the negated orientation with p in its place. Tests large numbers first, so
+/// that most others are skipped.
 fn tie_sign(
     a: (u32, Point),
     b: (u32, Point),
@@ -81,7 +83,7 @@ fn tie_sign(
     leading(with_b, a.0, b.1, p.1, c.1, d.1).sign
 }
 
-/// Whether the vertex p is in conflict with the cell a b c d.
+/// Returns whether the vertex p is in conflict with the cell a b c d.
 pub(crate) fn is_in_conflict(
     a: (u32, Point),
     b: (u32, Point),
@@ -101,8 +103,8 @@ pub(crate) fn is_in_conflict(
     }
 }
 
-/// Whether the vertex p is in conflict with the cell c, each vertex given by its number and its point: whether the power of p at c is
-/// negative, whatever number above the five is the exponent of the heights. The power is never zero.
+/// Returns whether the vertex p is in conflict with the cell c, each vertex given by its number and its point: whether the
+/// power of p with respect to c is negative, for any exponent of the heights above the five numbers. The power is never zero.
 pub fn conflict(c: [(u32, Point); 4], p: (u32, Point)) -> bool
     requires positive { OfFour c (λ c0 c1 c2 c3. pos 0 <ℤ orientation c0.1 c1.1 c2.1 c3.1) }
     requires apart { OfFour c (λ c0 c1 c2 c3. AreApart c0 c1 c2 c3 p) }

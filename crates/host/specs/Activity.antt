@@ -1,10 +1,10 @@
--- What a host in memory does with its files at the moment.
+-- The current file activity of a host in memory.
 --
---     is_reading, is_writing    whether a file is open for reading, for writing
---     bytes_left files activity   the bytes left of the file that is being read, none where none is
---     target_of files activity  the name of the file that is being written, empty where none is
---     told_by files activity said    what is told
---     coherent                  the law of hosts: nothing is told of an open file where none is open
+--   is_reading, is_writing    whether a file is open for reading, for writing
+--   bytes_left files activity   the bytes left of the file that is open for reading, none if none is
+--   target_of files activity  the name of the file that is open for writing, empty if none is
+--   told_by files activity said    what is exposed
+--   coherent                  the invariant of hosts: what is exposed of an open file is empty if none is open
 use Rattle.std.specs.Prelude.{ℕ, List, [], drop, Bool, true, false, refl}
 use Rattle.host.specs.State.{Told, ClosedIsEmpty}
 use Rattle.host.specs.Files.{files_of, name_at, bytes_at}
@@ -18,30 +18,30 @@ is_reading Idle = false
 is_reading (Reading at start) = true
 is_reading (Writing at) = false
 
--- a file is being written
+-- a file is open for writing
 abbrev pub is_writing : Activity → Bool
 is_writing Idle = false
 is_writing (Reading at start) = false
 is_writing (Writing at) = true
 
--- the bytes left of the file that is being read
+-- the bytes left of the file that is open for reading
 abbrev pub bytes_left : List MemFile → Activity → List ℕ
 bytes_left files Idle = []
 bytes_left files (Reading at start) = drop start (bytes_at files at)
 bytes_left files (Writing at) = []
 
--- the name of the file that is being written
+-- the name of the file that is open for writing
 abbrev pub target_of : List MemFile → Activity → List ℕ
 target_of files Idle = []
 target_of files (Reading at start) = []
 target_of files (Writing at) = name_at files at
 
--- what is told
+-- what is exposed
 abbrev pub told_by : List MemFile → Activity → List ℕ → Told
 told_by files activity said =
     record { files = files_of files; left = bytes_left files activity; target = target_of files activity; said = said }
 
--- what is told of an open file is empty where none is open
+-- what is exposed of an open file is empty if none is open
 pub coherent : (files : List MemFile) (activity : Activity) (said : List ℕ)
     → ClosedIsEmpty (is_reading activity) (is_writing activity) (told_by files activity said)
 coherent files Idle said = record { left = λ _. refl; target = λ _. refl }

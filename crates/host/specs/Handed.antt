@@ -1,10 +1,10 @@
--- The files that a host in memory is made with.
+-- The initial files of a host in memory.
 --
---     Handed                       a name, and the bytes of its file if there is one
---     files_handed, names_handed   the files by name; the names, in their order
---     state_handed files           a host that has these files, with none open and nothing said
---     NamesApart files             no two names are one
---     IsMadeOf room file handed    a file was made of what was handed in
+--   Handed                       a name, and the bytes of its file if it exists
+--   files_handed, names_handed   the files by name; the names, in order
+--   state_handed files           a host that has these files, with none open and nothing printed
+--   NamesApart files             no two names are equal
+--   IsMadeOf room file handed    a file was made from what was passed
 use Rattle.std.specs.Prelude.{◌≡◌, ◌≢◌, ℕ, zero, suc, ◌<◌, List, [], ◌∷◌, length, map, Vec, String, Option, Some, None, string_bytes}
 use Rattle.std.specs.Prelude.{false, if◌then◌else◌}
 use Rattle.std.specs.Option.{option_map}
@@ -14,11 +14,11 @@ use Rattle.host.specs.State.{Files, State}
 use Rattle.host.specs.Files.{content}
 use Rattle.host.specs.declared.files.MemFile.{MemFile}
 
--- a name, and the bytes of its file if there is one
+-- a name, and the bytes of its file if it exists
 abbrev pub Handed : Type 0
 Handed = String Global × Option (Vec ℕ Global)
 
--- the files that are handed in, by name
+-- the files that are passed, by name
 abbrev pub files_handed : List Handed → Files
 files_handed [] name = None
 files_handed (file ∷ files) name =
@@ -34,21 +34,21 @@ state_handed files = record {
   writing = false;
 }
 
--- the names, in their order
+-- the names, in order
 abbrev pub names_handed : List Handed → List (List ℕ)
 names_handed files = map (λ file. string_bytes file.0) files
 
--- the name at a place
+-- the name at an index
 abbrev pub handed_name : List Handed → ℕ → List ℕ
 handed_name [] place = []
 handed_name (file ∷ files) zero = string_bytes file.0
 handed_name (file ∷ files) (suc place) = handed_name files place
 
--- no two names are one
+-- no two names are equal
 abbrev pub NamesApart : List Handed → Type 0
 NamesApart files = (i j : ℕ) → i < j → j < length files → handed_name files i ≢ handed_name files j
 
--- a file was made of what was handed in
+-- a file was made from what was passed
 pub record IsMadeOf (room : ℕ) (file : MemFile) (handed : Handed) : Type 0 where
   pub name : string_bytes file.name ≡ string_bytes handed.0
   pub bytes : content file ≡ option_map (λ bytes. bytes.items) handed.1

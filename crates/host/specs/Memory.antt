@@ -1,17 +1,17 @@
--- What a host in memory is seen as. It tells everything.
+-- The view of a host in memory. It exposes everything.
 --
---     told_of host, state_of host   what it tells; what it is as a host
---     names_of host                 the names that it was made with
---     pieces_of host                how many bytes the reads, appends and says move at most, one after another
---     turn_of host, next_turn host  whose turn it is among the pieces; whose it is after one more such call
---     piece_of host                 how many bytes the next such call moves at most
---     byte_room host                how many bytes a file can hold, and what is said
---     room_in_file, room_in_said    how many bytes the file that is being written, what is said, can still take
---     failing_of host               the calls that are to fail, each as (call, number)
---     calls_of host call            how many such calls there were
---     IsListed host call            the next such call is to fail
---     CountsCall old new call       one more such call was made, and the rest of the plan stays
---     AreNumbers failing            each number is one that a call's count comes to
+--   told_of host, state_of host   what it exposes; its state as a host
+--   names_of host                 the names that it was constructed with
+--   pieces_of host                the maximal numbers of bytes that the reads, appends and prints move, one after another
+--   turn_of host, next_turn host  the turn among the pieces; the turn after one more such call
+--   piece_of host                 the maximal number of bytes that the next such call moves
+--   byte_room host                the capacity of a file, and of the output, in bytes
+--   room_in_file, room_in_said    the capacity that is left in the file that is open for writing, and in the output
+--   failing_of host               the calls that fail, each as (call, number)
+--   calls_of host call            the number of calls of this kind
+--   IsListed host call            the next such call fails
+--   CountsCall old new call       one more such call was made, and the rest of the plan is unchanged
+--   AreNumbers failing            each number is one that a call's count reaches
 use Rattle.host.specs.Counts.{next, call_index}
 use Rattle.host.specs.declared.plan.HostCall.{HostCall}
 use Rattle.std.specs.Prelude.{All, ◌<◌, ◌^◌, ◌≡◌, ◌+◌, ◌-◌, ◌%◌, length, Contains, slice_index, slice_set, ℕ, List, Some}
@@ -20,11 +20,11 @@ use Rattle.host.specs.Files.{names_of_files}
 use Rattle.host.specs.Activity.{told_by, is_reading, is_writing}
 use Rattle.host.specs.declared.memory.MemHost.{MemHost}
 
--- what a host in memory tells
+-- what a host in memory exposes
 abbrev pub told_of : MemHost → Told
 told_of host = told_by host.files.items host.activity host.said.bytes.items
 
--- what a host in memory is as a host
+-- the state of a host in memory
 abbrev pub state_of : MemHost → State
 state_of host = record {
   told = Some (told_of host);
@@ -34,55 +34,55 @@ state_of host = record {
   writing = is_writing host.activity;
 }
 
--- the names that it was made with, of files that are there and that are not yet
+-- the names that it was constructed with, of files that exist and that do not exist yet
 abbrev pub names_of : MemHost → List (List ℕ)
 names_of host = names_of_files host.files.items
 
--- how many bytes the reads, appends and says move at most, one after another
+-- the maximal numbers of bytes that the reads, appends and prints move, one after another
 abbrev pub pieces_of : MemHost → List ℕ
 pieces_of host = host.pieces.items
 
--- whose turn it is among the pieces
+-- the turn among the pieces
 abbrev pub turn_of : MemHost → ℕ
 turn_of host = host.turn
 
--- whose turn it is after one more such call
+-- the turn after one more such call
 abbrev pub next_turn : MemHost → ℕ
 next_turn host = (turn_of host + 1) % length (pieces_of host)
 
--- how many bytes the next such call moves at most
+-- the maximal number of bytes that the next such call moves
 abbrev pub piece_of : MemHost → ℕ
 piece_of host = slice_index (pieces_of host) (turn_of host)
 
--- how many bytes each file can hold, and what is said
+-- the capacity of each file, and of the output, in bytes
 abbrev pub byte_room : MemHost → ℕ
 byte_room host = host.said.room
 
--- how many bytes the file that is being written can still take
+-- the capacity that is left in the file that is open for writing
 abbrev pub room_in_file : MemHost → ℕ
 room_in_file host = byte_room host - length (file_bytes (told_of host).files (told_of host).target)
 
--- how many bytes can still be said
+-- the capacity that is left in the output
 abbrev pub room_in_said : MemHost → ℕ
 room_in_said host = byte_room host - length (told_of host).said
 
--- the calls that are to fail: (Append, 2) is the second append
+-- the calls that fail: for example, (Append, 2) is the second append
 abbrev pub failing_of : MemHost → List (HostCall × ℕ)
 failing_of host = host.plan.failing.items
 
--- how many calls of each kind there were, in the order in which the calls are declared
+-- the number of calls of each kind, in the order in which the calls are declared
 abbrev pub call_counts : MemHost → List ℕ
 call_counts host = host.plan.counts
 
--- how many such calls there were
+-- the number of calls of this kind
 abbrev pub calls_of : MemHost → HostCall → ℕ
 calls_of host call = slice_index (call_counts host) (call_index call)
 
--- the next such call is to fail
+-- the next such call fails
 abbrev pub IsListed : MemHost → HostCall → Type 0
 IsListed host call = Contains (failing_of host) (call, next (calls_of host call))
 
--- one more such call was made, and what the host was made with stays
+-- one more such call was made, and the rest of the host is unchanged
 pub record CountsCall (old new : MemHost) (call : HostCall) : Type 0 where
   pub counts : call_counts new ≡ slice_set (call_counts old) (call_index call) (next (calls_of old call))
   pub failing : failing_of new ≡ failing_of old
@@ -90,6 +90,6 @@ pub record CountsCall (old new : MemHost) (call : HostCall) : Type 0 where
   pub pieces : pieces_of new ≡ pieces_of old
   pub room : byte_room new ≡ byte_room old
 
--- each listed call has a number that its count comes to
+-- each listed call has a number that its count reaches
 abbrev pub AreNumbers : List (HostCall × ℕ) → Type 0
 AreNumbers failing = All (λ listed. (0 < listed.1) × (listed.1 < 2 ^ 64 - 1)) failing

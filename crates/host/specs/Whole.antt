@@ -1,12 +1,11 @@
--- What the calls over any host do to it: a file read or written whole, all bytes appended or said.
+-- The effect of the calls over any host: a file read or written whole, all bytes appended or printed.
 --
---     SaysFront, AppendsFront, WritesFront    what stands after a failure: a front of the bytes went out
---     writes name bytes state                 the named file holds the bytes, and no file is open
---     reads_whole name state                  the named file was opened and read to its end
---     TakesFront, ReadFails                   what stands after a reading for which there was no memory, or in which a
---                                             call failed
---     OnlyReads before after                  what a reading leaves as it was, and that it opens one file
---     HasCause result before after            the count of faults, by the answer of a reading
+--   SaysFront, AppendsFront, WritesFront    the state after a failure: a prefix of the bytes was written
+--   writes name bytes state                 the named file contains the bytes, and no file is open
+--   reads_whole name state                  the named file was opened and read to its end
+--   TakesFront, ReadFails                   the state after a read that ran out of memory, or in which a call failed
+--   OnlyReads before after                  what a read does not change, and that it opens one file
+--   HasCause result before after            the fault count, by the result of a read
 use Rattle.std.specs.Prelude.{◌≡◌, ℕ, ◌≤◌, List, [], length, take, false, true, Option, Result, Ok, Err, ◌⊎◌}
 use Rattle.host.specs.Counts.{next, Rose}
 use Rattle.host.specs.State.{State, Told, after_change, FailedFrom, HasFile, with_file, opens_file, opens_none, takes}
@@ -14,15 +13,15 @@ use Rattle.host.specs.State.{stops_reading, appends, says}
 use Rattle.host.specs.declared.calls.ReadRefusal.{ReadRefusal}
 use Rattle.host.specs.declared.calls.ReadRefusal.TheVariants as refusals
 
--- a front of the bytes was said, and a call failed
+-- a prefix of the bytes was printed, and a call failed
 abbrev pub SaysFront : List ℕ → State → State → Type 0
 SaysFront bytes before after = (count : ℕ) × (count ≤ length bytes) × FailedFrom (says (take count bytes) before) after
 
--- a front of the bytes was added to the file that is being written, and a call failed
+-- a prefix of the bytes was appended to the file that is open for writing, and a call failed
 abbrev pub AppendsFront : List ℕ → State → State → Type 0
 AppendsFront bytes before after = (count : ℕ) × (count ≤ length bytes) × FailedFrom (appends (take count bytes) before) after
 
--- the named file holds these bytes, and no file is read or written
+-- the named file contains these bytes, and no file is open
 abbrev pub writes : List ℕ → List ℕ → State → State
 writes name bytes state = record state {
   reading = false;
@@ -30,13 +29,13 @@ writes name bytes state = record state {
   told = after_change (λ told. record told { files = with_file name bytes told.files; left = []; target = [] }) state.told;
 }
 
--- a call failed: the file is as it was, or holds a front of the bytes, the whole included
+-- a call failed: the file is unchanged, or contains a prefix of the bytes (possibly all)
 abbrev pub WritesFront : List ℕ → List ℕ → State → State → Type 0
 WritesFront name bytes before after =
     FailedFrom (stops_reading before) after
     ⊎ ((count : ℕ) × (count ≤ length bytes) × FailedFrom (writes name (take count bytes) before) after)
 
--- the named file was opened, and all its bytes were taken
+-- the named file was opened, and all its bytes were read
 abbrev pub reads_whole : List ℕ → State → State
 reads_whole name state = record state {
   opens = next state.opens;
@@ -44,29 +43,28 @@ reads_whole name state = record state {
   told = after_change (λ told. record told { left = [] }) state.told;
 }
 
--- some bytes of the named file were taken, at most as many as the limit
+-- some bytes of the named file were read, at most the limit
 abbrev pub TakesFront : ℕ → List ℕ → State → State → Type 0
 TakesFront limit name before after =
     HasFile name before × ((count : ℕ) × (count ≤ limit) × (after ≡ takes count (opens_file name before)))
 
--- a call failed: the file was not opened, or it was, and after some bytes no more came
+-- a call failed: the file was not opened, or it was, and after some bytes no more were read
 abbrev pub ReadFails : ℕ → List ℕ → State → State → Type 0
 ReadFails limit name before after =
     FailedFrom (opens_none before) after
     ⊎ (HasFile name before × ((count : ℕ) × (count ≤ limit) × FailedFrom (takes count (opens_file name before)) after))
 
--- what is told, but for the bytes left
+-- what is exposed, except the bytes left
 abbrev pub apart_from_left : Option Told → Option Told
 apart_from_left = after_change (λ told. record told { left = [] })
 
--- one file was opened, and nothing else changed but what a reading changes:
--- the bytes left, whether a file is read, and the count of faults
+-- one file was opened, and only the bytes left, whether a file is open for reading, and the fault count may have changed
 pub record OnlyReads (before after : State) : Type 0 where
   pub told : apart_from_left after.told ≡ apart_from_left before.told
   pub writing : after.writing ≡ before.writing
   pub opens : after.opens ≡ next before.opens
 
--- the count of faults rose where a host call failed, and is else as it was
+-- the fault count rose if a host call failed, and is else unchanged
 abbrev pub HasCause : {T : Type 0} → Result T ReadRefusal → ℕ → ℕ → Type 0
 HasCause (Err refusals.Failed) before after = Rose before after
 HasCause (Err refusals.TooLong) before after = after ≡ before

@@ -1,7 +1,7 @@
-//! Four calls over any host: a file is read or written whole, and bytes are appended or said to the last one.
+//! Four calls over any host: read or write a whole file, append bytes, print bytes.
 //!
-//! Each answers `Failed` only where a call of the host failed, so only where the host's count of faults rose, or
-//! stands at its end. Each stands on the contracts of `Host` alone.
+//! Each returns `Failed` only if a call of the host failed, so only if the host's fault count rose or is at its maximum. Each
+//! depends on the contracts of `Host` alone.
 ghost use Rattle.host.specs.declared.calls.ReadRefusal.TheVariants as refusals;
 ghost use Rattle.std.specs.Prelude.{Some, Err, ◌≡◌, ◌≤◌, ◌<◌, ◌+◌, length, false, IsTrue, IfOk, OnOk, OnErr, IfSome};
 ghost use Rattle.host.specs.State.{file_bytes, takes, opens_file, appends, says};
@@ -11,10 +11,10 @@ use crate::host::{Failed, Host};
 use std::alloc::{AllocError, AllocFailed, Global};
 use thiserror::Error;
 
-/// How many bytes of a file are read at a time.
+/// The number of bytes read at a time.
 const BUFFER_LENGTH: usize = 4096;
 
-/// Says all the bytes. After `Failed` a front of them was said. It takes no memory.
+/// Prints all bytes. After `Failed` a prefix of them was printed. Allocates no memory.
 pub fn say_all<H: Host>(host: &mut H, bytes: &[u8]) -> Result<(), Failed>
     ensures said { OnOk result (H.state host.new ≡ says bytes.now (H.state host.old)) }
     ensures failed { OnErr result (SaysFront bytes.now (H.state host.old) (H.state host.new)) }
@@ -26,8 +26,8 @@ pub fn say_all<H: Host>(host: &mut H, bytes: &[u8]) -> Result<(), Failed>
     Ok(())
 }
 
-/// Adds all the bytes to the file that is open for writing. After `Failed` a front of them was added. It takes no
-/// memory, and leaves the file open.
+/// Appends all bytes to the file that is open for writing. After `Failed` a prefix of them was appended. Allocates no memory,
+/// and leaves the file open.
 pub fn append_all<H: Host>(host: &mut H, bytes: &[u8]) -> Result<(), Failed>
     requires { IsTrue (H.state host.old).writing }
     ensures added { OnOk result (H.state host.new ≡ appends bytes.now (H.state host.old)) }
@@ -40,10 +40,10 @@ pub fn append_all<H: Host>(host: &mut H, bytes: &[u8]) -> Result<(), Failed>
     Ok(())
 }
 
-/// Writes a file of these bytes, and leaves no file open.
+/// Writes a file with these bytes, and leaves no file open.
 ///
-/// After `Failed` the file is as it was, or holds a front of the bytes, the whole included; it is closed even so. No
-/// other file changes, and it takes no memory.
+/// After `Failed` the file is unchanged, or contains a prefix of the bytes (possibly all); it is closed in any case. No other
+/// file changes. Allocates no memory.
 #[tactic(auto, using(crate::proofs::Changes::made_file))]
 pub fn write_file<H: Host>(host: &mut H, name: &str, bytes: &[u8]) -> Result<(), Failed>
     requires { (H.state host.old).writing ≡ false }
@@ -58,16 +58,16 @@ pub fn write_file<H: Host>(host: &mut H, name: &str, bytes: &[u8]) -> Result<(),
     finished
 }
 
-/// Why a file was not read whole.
+/// Why a file was not read completely.
 #[derive(Debug, Drop, Error)]
 pub enum ReadRefusal {
-    /// A call of the host failed, and the host's count of faults rose, or stands at its end.
+    /// A call of the host failed, and the host's fault count rose or is at its maximum.
     #[error("a host call failed")]
     Failed,
-    /// The file has more bytes than the limit: one more than the limit was taken.
+    /// The file has more bytes than the limit: one more than the limit was read.
     #[error("the file is longer than the limit")]
     TooLong,
-    /// There was no memory for the bytes.
+    /// Out of memory for the bytes.
     #[error("no memory is left")]
     NoMemory,
 }
@@ -88,11 +88,11 @@ impl From<AllocError> for ReadRefusal {
     }
 }
 
-/// All the bytes of a file of at most `limit` bytes.
+/// Returns all the bytes of a file of at most `limit` bytes.
 ///
-/// Where no call of the host fails and memory is found, the answer is the bytes if the file is no longer than the
-/// limit, and `TooLong` if it is. The file is opened once. A whole reading leaves it open at its end; after a refusal
-/// some of its bytes may be taken. No file changes.
+/// If no call of the host fails and there is enough memory, the result is the bytes if the file is no longer than the limit,
+/// else `TooLong`. The file is opened once. A complete read leaves it open at its end; after an error some of its bytes may
+/// have been read. No file changes.
 pub fn read_all<H: Host>(
     alloc: Global,
     host: &mut H,
@@ -105,7 +105,7 @@ pub fn read_all<H: Host>(
     ensures within { IfOk result (λ bytes. length bytes.items ≤ limit) }
     ensures read { OnOk result (H.state host.new ≡ reads_whole name.now (H.state host.old)) }
 
-    // One byte more than the limit was taken, so the file is longer.
+    // One byte more than the limit was read, so the file is longer.
     ensures too_long { result ≡ Err ReadRefusal.TooLong → H.state host.new ≡ takes (limit + 1) (opens_file name.now (H.state host.old)) }
     ensures longer { result ≡ Err ReadRefusal.TooLong → IfSome (H.state host.old).told (λ told. limit < length (file_bytes told.files name.now)) }
 
@@ -119,7 +119,7 @@ pub fn read_all<H: Host>(
     let mut bytes = Vec::new(alloc);
     let mut buffer = [0u8; BUFFER_LENGTH];
     loop {
-        // One byte past the limit tells a longer file from one that ends there.
+        // One byte past the limit distinguishes a longer file from one that ends there.
         let room = limit - bytes.len() as u64;
         let asked = room.min(BUFFER_LENGTH as u64 - 1) as usize + 1;
         let count = host.read(&mut buffer[..asked])?;

@@ -1,7 +1,7 @@
-//! The files of a host in memory: a list of names, each with memory for its bytes, whether or not there is a file yet.
+//! The files of a host in memory: a list of names, each with memory for its bytes, whether or not the file exists yet.
 use crate::store::Store;
 
-/// A name, and the file under it, if there is one.
+/// A name, and its file, if it exists.
 #[derive(Drop)]
 pub struct MemFile {
     pub name: String,

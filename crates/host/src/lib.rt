@@ -1,10 +1,10 @@
-//! What a program reaches outside itself: files by name, and what it says.
+//! The environment of a program: files by name, and output.
 //!
-//! `Host` is the outside as a trait that counts its faults, `MemHost` a host in memory for tests, which tells all its
-//! bytes and fails exactly where it was told to. `read_all`, `append_all`, `say_all` and `write_file` work over any
-//! host. Failures of a host are `Failed`; want of memory is `NoMemory`.
+//! `Host` is the environment as a trait that counts its faults, `MemHost` a host in memory for tests, which exposes all its
+//! bytes and fails exactly as configured. `read_all`, `append_all`, `say_all` and `write_file` work over any host. Failures of
+//! a host are `Failed`; out of memory is `NoMemory`.
 //!
-//! The system's files are no matter of this crate: whoever reaches them implements the trait. It stands on `thiserror` alone.
+//! The operating system's files are implemented elsewhere (`real_host`). Depends on `thiserror` alone.
 #![tactic(auto)]
 
 mod calls;
@@ -22,5 +22,5 @@ pub use memory::MemHost;
 pub use plan::HostCall;
 use std::alloc::AllocError;
 
-/// There was no memory.
+/// Out of memory.
 pub type NoMemory = AllocError;

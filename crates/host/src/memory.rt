@@ -1,8 +1,8 @@
-//! A host in memory, for tests: it tells all its bytes, and fails exactly where it was told to.
+//! A host in memory, for tests: it exposes all its bytes, and fails exactly as configured.
 //!
-//! It keeps a list of named files with memory for their bytes (`files`, `store`), the plan of its failures (`plan`),
-//! and which file is open. All its memory is taken when it is made. A call has the clauses of the trait, and others
-//! behind them that say exactly how far it moves, where it fails, and what it counts.
+//! It keeps a list of named files with memory for their bytes (`files`, `store`), the plan of its failures (`plan`), and which
+//! file is open. All its memory is allocated by the constructor. A call has the postconditions of the trait, then others that
+//! say exactly how far it moves, when it fails, and what it counts.
 ghost use Rattle.std.specs.Prelude.{◌≡◌, min, IsTrue, ◌+◌, ◌%◌, ◌≤◌, ◌<◌, ◌↔◌, ◌⊎◌, ℕ, true, false, None, IsErr, IfOk, OnOk, OnErr, All, Contains, length, take};
 ghost use Rattle.std.specs.Option.{option_map};
 ghost use Rattle.host.specs.State.{HasFile, IsFrontCount, IsNextPiece, FailedFrom, opens_file, opens_none, takes, creates, stops_reading, appends, finishes, says};
@@ -19,7 +19,7 @@ use crate::plan::{HostCall, Plan};
 use crate::store::Store;
 use std::alloc::Global;
 
-/// Which file is open: by its place in the list, and for reading also from which byte on.
+/// The open file: its index in the list, and for reading also the offset of the next byte.
 #[derive(Clone, Copy, Debug, PartialEq, Eq)]
 pub enum Activity {
     Idle,
@@ -27,7 +27,7 @@ pub enum Activity {
     Writing(usize),
 }
 
-/// Whose turn it is after that one, among so many.
+/// Returns the turn after that one, modulo this count.
 fn turn_after(turn: usize, count: usize) -> usize
     requires { turn < count }
     ensures next { result ≡ (turn + 1) % count }
@@ -38,11 +38,11 @@ fn turn_after(turn: usize, count: usize) -> usize
 
 /// A host in memory.
 ///
-/// A call fails exactly where it is listed, where it opens a name without a file, where it creates a name that the host
-/// was not made with, and where it is to append or say some bytes and no room is left. Each of these raises the count
-/// of faults by one. A successful read moves the least of a piece, the buffer's length and the bytes left; a successful
-/// append or say the least of a piece, the bytes handed in and the room left. The pieces come in turn: the k-th of these
-/// successful calls, counted from 0, has the one at k modulo their number. No host call takes memory.
+/// A call fails exactly if it is listed, if it opens a name without a file, if it creates a name that the host was not
+/// constructed with, or if it should append or print some bytes and no capacity is left. Each failure raises the fault count by
+/// one. A successful read moves the minimum of the piece, the buffer's length and the bytes left; a successful append or print
+/// the minimum of the piece, the bytes passed and the capacity left. The pieces are used in turn: the k-th of these successful
+/// calls, counted from 0, uses the one at k modulo their number. No host call allocates memory.
 #[derive(Drop)]
 pub struct MemHost {
     files: Vec<MemFile>,
@@ -220,11 +220,11 @@ impl MemHost {
     ghost use Rattle.host.specs.Memory.{state_of, told_of, names_of, pieces_of, turn_of, piece_of, byte_room, failing_of, calls_of, AreNumbers};
     ghost use Rattle.host.specs.declared.plan.HostCall.{HostCall};
 
-    /// A host with these files, where `None` stands for a name that has no file yet.
+    /// Returns a host with these files; `None` is a name that has no file yet.
     ///
-    /// Each read, append and say moves at most `piece` bytes. Each file, and what is said, can hold `room` bytes; a
-    /// file that is handed in longer than that keeps its bytes. The calls in `failing` fail, where (Append, 2) is the
-    /// second append. No file is open, nothing was said, and the counts are 0. All memory is taken here.
+    /// Each read, append and print moves at most `piece` bytes. Each file, and the output, can hold `room` bytes; a file that
+    /// is longer when passed keeps its bytes. The calls in `failing` fail; for example, (Append, 2) is the second append. No
+    /// file is open, nothing was printed, and the counts are 0. All memory is allocated here.
     pub fn new(
         alloc: Global,
         files: Vec<(String, Option<Vec<u8>>)>,
@@ -248,9 +248,9 @@ impl MemHost {
         MemHost::with_pieces(alloc, files, pieces, room, failing)
     }
 
-    /// A host as [`MemHost::new`] makes it, but that its pieces come in turn: of the successful reads, appends and
-    /// says, all counted together from 0, the k-th moves at most `pieces[k]` bytes, where k is taken modulo the number
-    /// of pieces. A call that fails takes no turn.
+    /// Returns a host like [`MemHost::new`], but with pieces used in turn: of the successful reads, appends and prints, all
+    /// counted together from 0, the k-th moves at most `pieces[k]` bytes, where k is taken modulo the number of pieces. A call
+    /// that fails takes no turn.
     pub fn with_pieces(
         alloc: Global,
         files: Vec<(String, Option<Vec<u8>>)>,
@@ -285,7 +285,7 @@ impl MemHost {
         })
     }
 
-    /// The bytes of a file. `None` exactly where no file has the name.
+    /// Returns the bytes of a file, or `None` exactly if no file has the name.
     #[tactic(auto, using(crate::proofs::FileList::at_place))]
     pub fn file(&self, name: &str) -> Option<&[u8]>
         ensures { option_map (λ bytes. bytes.now) result ≡ (told_of self.now).files name.now }
@@ -294,14 +294,14 @@ impl MemHost {
         Some(self.files[place].store.bytes.as_slice())
     }
 
-    /// All that was said.
+    /// Returns the whole output.
     pub fn said(&self) -> &[u8]
         ensures { result.now ≡ (told_of self.now).said }
     {
         self.said.bytes.as_slice()
     }
 
-    /// How many calls failed. The count stops at 2^64 - 1.
+    /// Returns the number of failed calls. The count stops at 2^64 - 1.
     pub fn fault_count(&self) -> u64
         ensures { result ≡ (state_of self.now).faults }
     {

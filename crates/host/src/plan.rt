@@ -1,25 +1,25 @@
-//! Which calls of a host in memory are to fail, and how many there were of each.
+//! Which calls of a host in memory fail, and the number of calls of each kind.
 ghost use Rattle.std.specs.Prelude.{◌≡◌, ◌↔◌, ◌<◌, IsTrue, Contains, slice_index, slice_set};
 ghost use Rattle.host.specs.Counts.{next, call_index};
 
-/// The calls of a host, as `MemHost::new` is told which of them fail.
+/// The calls of a host, by which `MemHost::new` is configured to fail.
 #[derive(Clone, Copy, Debug, PartialEq, Eq)]
 pub enum HostCall {
     /// A file is opened for reading.
     Open,
-    /// Bytes of the open file are taken.
+    /// Bytes of the open file are read.
     Read,
-    /// A file is made or emptied.
+    /// A file is created or emptied.
     Create,
-    /// Bytes are added to the file that is being written.
+    /// Bytes are appended to the file that is open for writing.
     Append,
-    /// The file that is being written is closed.
+    /// The file that is open for writing is closed.
     Finish,
-    /// Bytes are said.
+    /// Bytes are printed.
     Say,
 }
 
-/// The place of a call's count.
+/// Returns the index of a call's count.
 fn place_of_call(call: HostCall) -> usize
     ensures place { result ≡ call_index call }
     ensures below { result < 6 }
@@ -34,8 +34,8 @@ fn place_of_call(call: HostCall) -> usize
     }
 }
 
-/// The calls that are to fail, as (Append, 2) for the second append, how many there were of each, and how many
-/// failed. The counts stop at 2^64 - 1.
+/// The calls that fail, for example (Append, 2) for the second append, the number of calls of each kind, and the number of
+/// failed calls. The counts stop at 2^64 - 1.
 #[derive(Drop)]
 pub struct Plan {
     pub failing: Vec<(HostCall, u64)>,
@@ -44,7 +44,7 @@ pub struct Plan {
 }
 
 impl Plan {
-    /// Counts a call, and answers whether it is to fail.
+    /// Counts a call, and returns whether it fails.
     pub fn is_to_fail(&mut self, call: HostCall) -> bool
         ensures listed { IsTrue result ↔ Contains self.old.failing.items (call, next (slice_index self.old.counts (call_index call))) }
         ensures counted { self.new ≡ record self.old { counts = slice_set self.old.counts (call_index call) (next (slice_index self.old.counts (call_index call))) } }

@@ -1,9 +1,9 @@
-//! Bytes in memory that was taken beforehand.
+//! Bytes in memory that was allocated beforehand.
 ghost use Rattle.std.specs.Prelude.{◌≡◌, ◌≤◌, ◌-◌, ◌++◌, [], IfOk, min, length, take, vec_capacity};
 
 use crate::NoMemory;
 
-/// Bytes, with memory for `room` of them.
+/// Bytes, with memory for `room` bytes in all.
 #[derive(Drop)]
 pub struct Store {
     pub bytes: Vec<u8>,
@@ -12,7 +12,8 @@ pub struct Store {
 }
 
 impl Store {
-    /// These bytes, with memory for as many as the room. More bytes than that stay, and there is no room for others.
+    /// Returns these bytes, with memory for `room` bytes. If there are more bytes than that, they are kept, and nothing can be
+    /// added.
     pub fn new(bytes: Vec<u8>, room: usize) -> Result<Store, NoMemory>
         ensures bytes { IfOk result (λ store. store.bytes.items ≡ bytes.items) }
         ensures room { IfOk result (λ store. store.room ≡ room) }
@@ -22,7 +23,7 @@ impl Store {
         Ok(Store { bytes, room })
     }
 
-    /// Adds a front of the bytes, at most a piece, as far as there is room. It takes no memory.
+    /// Appends a prefix of the bytes, at most `piece`, as far as the capacity allows. Allocates no memory.
     pub fn add(&mut self, more: &[u8], piece: usize) -> usize
         ensures count { result ≡ min piece (min (length more.now) (self.old.room - length self.old.bytes.items)) }
         ensures bytes { self.new.bytes.items ≡ self.old.bytes.items ++ take result more.now }
@@ -34,7 +35,7 @@ impl Store {
         count
     }
 
-    /// Drops the bytes, and keeps the memory.
+    /// Removes the bytes, and keeps the memory.
     pub fn clear(&mut self)
         ensures bytes { self.new.bytes.items ≡ [] }
         ensures room { self.new.room ≡ self.old.room }

@@ -2,11 +2,11 @@
 --
 --   ended n end         the decimal text of a number and the byte that ends it
 --   Lacks byte text     no byte of the text is this one
---   BeginsWithNone      no text of a form stands at the front of this one
+--   BeginsWithNone      no valid text is a prefix of this one
 --   counted text n      a text, and the number that ends its last line
 --   signed_ended z end  the decimal text of a signed number and the byte that ends it
 --   IsBetween           a number from the least to the greatest
---   IsSignedBetween     the same of a signed number
+--   IsSignedBetween     the same for a signed number
 use Rattle.std.specs.Prelude.{ℕ, ◌≡◌, ◌≢◌, ◌<◌, ◌≤◌, ℤ, ◌≤ℤ◌, List, [], ◌∷◌, ◌++◌, length, slice_index, decimal}
 use Rattle.std.specs.Fmt.{signed_decimal}
 pub use Rattle.num_text.specs.Separators.{space, line_feed}
@@ -34,6 +34,6 @@ IsSignedBetween least greatest z = (least ≤ℤ z) × (z ≤ℤ greatest)
 abbrev pub Lacks : ℕ → List ℕ → Type 0
 Lacks byte text = (k : ℕ) → k < length text → slice_index text k ≢ byte
 
--- no text of the form stands at the front of this one
+-- no valid text is a prefix of this one
 abbrev pub BeginsWithNone : {A : Type 0} → (A → Type 0) → (A → List ℕ) → List ℕ → Type 0
 BeginsWithNone {A} IsForm text_of text = (a : A) (rest : List ℕ) → IsForm a → ¬ (text ≡ text_of a ++ rest)

@@ -1,18 +1,18 @@
--- Why a text that is read line by line is refused: the first refusal in line order.
+-- Why a text that is read line by line is rejected: the first error in line order.
 --
---   line_after n k               the number of the line k lines behind line n; it stays at the last number of 64 bits
---   IsCutOrBad n text r          how a line that is not of its form is refused
---   RefusedWord, RefusedNumber   line n, a fixed text, a word and a number, is refused
---   Rise order rows              rows that rise strictly by their keys, where they have to
---   RisesAbove order rows row    a row comes behind the last of these rows, where it has to
---   AreRows                      rows of their form that rise
---   IsOutOfOrder                 a row of the form that does not rise above the row before it
---   IsRefusedRow                 a row of a list is refused, behind rows that are good
---   BeginsWith                   a part of the form stands in front, and something is said of what is behind
---   AtPart                       a part is refused, or it is good and something is said of what is behind
---   AtWord, AtNumber             the same of a line of a fixed text, of a word and a number
---   AtRows, AtList               the same of so many rows, of a list with its length before it
---   IsBehindEnd n rest r         something follows the last line, as a line n of its own
+--   line_after n k               the number of the line k lines after line n, at most the greatest 64-bit number
+--   IsCutOrBad n text r          how an invalid line is rejected
+--   RefusedWord, RefusedNumber   line n, a fixed text or a prefix and a number, is rejected
+--   Rise order rows              rows with strictly ascending keys, if they have to ascend
+--   RisesAbove order rows row    a row is above the last of these rows, if it has to be
+--   AreRows                      valid rows in ascending order
+--   IsOutOfOrder                 a valid row that is not above the row before it
+--   IsRefusedRow                 a row of a list is rejected, after valid rows
+--   BeginsWith                   the text begins with a valid part, and the text after it has a property
+--   AtPart                       a part is rejected, or it is valid and the text after it has a property
+--   AtWord, AtNumber             the same for a line of a fixed text, and of a word and a number
+--   AtRows, AtList               the same for a number of rows, and for a list after its length
+--   IsBehindEnd n rest r         something follows the last line, as line n
 use Rattle.std.specs.Prelude.{ℕ, ◌≡◌, ◌⊎◌, ◌+◌, ◌-◌, ◌<◌, ◌^◌, min, Option, Some, None, List, [], ◌∷◌, ◌++◌, All, AllPairs}
 use Rattle.std.specs.Prelude.{Contains, length, map}
 use Rattle.std.specs.List.{flat_map}
@@ -21,11 +21,11 @@ use Rattle.geo_sign.specs.Rising.{IsBefore}
 use Rattle.line_text.specs.declared.refusal.LineRefusal.{LineRefusal}
 use Rattle.line_text.specs.declared.refusal.LineRefusal.TheVariants.{BadLine, Order, Cut, NoMemory}
 
--- the number of the line that is k lines behind line n; it stays at the last number of 64 bits
+-- the number of the line k lines after line n, at most the greatest 64-bit number
 abbrev pub line_after : ℕ → ℕ → ℕ
 line_after n k = min (n + k) (2 ^ 64 - 1)
 
--- A line that is not of its form: the text ends before the line does, or the line n is there and bad.
+-- An invalid line: the text ends before the line does, or line n exists and is bad.
 abbrev pub IsCutOrBad : ℕ → List ℕ → LineRefusal → Type 0
 IsCutOrBad n text Cut = Lacks line_feed text
 IsCutOrBad n text (BadLine m) = (m ≡ n) × Contains text line_feed
@@ -36,32 +36,32 @@ IsCutOrBad n text NoMemory = ⊥
 abbrev pub RefusedWord : List ℕ → ℕ → List ℕ → LineRefusal → Type 0
 RefusedWord word n text r = ((rest : List ℕ) → ¬ (text ≡ word ++ rest)) × IsCutOrBad n text r
 
--- line n is not the word and a number from the least to the greatest
+-- line n is not the prefix and a number from the least to the greatest
 abbrev pub RefusedNumber : List ℕ → (least greatest : ℕ) → ℕ → List ℕ → LineRefusal → Type 0
 RefusedNumber word least greatest n text r = BeginsWithNone (IsBetween least greatest) (counted word) text × IsCutOrBad n text r
 
 -- ---- rows
--- rows that rise strictly by their keys, or in any order
+-- rows with strictly ascending keys, or in any order
 abbrev pub Rise : {A : Type 0} → Option (A → List ℕ) → List A → Type 0
 Rise None rows = Unit {0}
 Rise (Some key) rows = AllPairs IsBefore (map key rows)
 
--- the row rises above the row before it, if there is one and rows have to rise
+-- the row is above the row before it, if there is one and rows have to ascend
 abbrev pub RisesAbove : {A : Type 0} → Option (A → List ℕ) → List A → A → Type 0
 RisesAbove None rows row = Unit {0}
 RisesAbove {A} (Some key) rows row =
     (earlier : List A) (before : A) → rows ≡ earlier ++ before ∷ [] → IsBefore (key before) (key row)
 
--- rows of their form that rise
+-- valid rows in ascending order
 pub record AreRows {A : Type 0} (IsForm : A → Type 0) (order : Option (A → List ℕ)) (rows : List A) : Type 0 where
   pub each : All IsForm rows
   pub rising : Rise order rows
 
--- so many rows
+-- this number of rows
 abbrev pub AreCountedRows : {A : Type 0} → (A → Type 0) → Option (A → List ℕ) → ℕ → List A → Type 0
 AreCountedRows IsForm order count rows = (length rows ≡ count) × AreRows IsForm order rows
 
--- line n is of the form, but its row does not rise above the row before it
+-- line n is valid, but its row is not above the row before it
 pub record IsOutOfOrder {A : Type 0} (IsForm : A → Type 0) (line_of : A → List ℕ) (order : Option (A → List ℕ)) (rows : List A)
     (n : ℕ) (text : List ℕ) (r : LineRefusal) : Type 0 where
   pub row : A
@@ -71,13 +71,13 @@ pub record IsOutOfOrder {A : Type 0} (IsForm : A → Type 0) (line_of : A → Li
   pub falls : ¬ RisesAbove order rows row
   pub says : r ≡ Order n
 
--- the row at line n, behind these rows, is not of its form or out of order
+-- the row at line n, after these rows, is invalid or out of order
 abbrev pub IsRefusedLine : {A : Type 0} → (A → Type 0) → (A → List ℕ) → Option (A → List ℕ) → List A → ℕ → List ℕ → LineRefusal
     → Type 0
 IsRefusedLine IsForm line_of order rows n text r =
     (BeginsWithNone IsForm line_of text × IsCutOrBad n text r) ⊎ IsOutOfOrder IsForm line_of order rows n text r
 
--- one of `count` rows that begin at line n is refused, and the rows before it are good
+-- one of `count` rows that begin at line n is rejected, and the rows before it are valid
 pub record IsRefusedRow {A : Type 0} (IsForm : A → Type 0) (line_of : A → List ℕ) (order : Option (A → List ℕ)) (count n : ℕ)
     (text : List ℕ) (r : LineRefusal) : Type 0 where
   pub rows : List A
@@ -87,8 +87,8 @@ pub record IsRefusedRow {A : Type 0} (IsForm : A → Type 0) (line_of : A → Li
   pub front : text ≡ flat_map line_of rows ++ rest
   pub refused : IsRefusedLine IsForm line_of order rows (line_after n (length rows)) rest r
 
--- ---- parts, one behind the other
--- a part of the form stands in front, and what is said of the text behind it holds
+-- ---- parts, one after the other
+-- the text begins with a valid part, and the text after it has a property
 pub record BeginsWith {A : Type 0} (IsForm : A → Type 0) (text_of : A → List ℕ) (text : List ℕ)
     (Next : A → List ℕ → Type 0) : Type 0 where
   pub value : A
@@ -97,7 +97,7 @@ pub record BeginsWith {A : Type 0} (IsForm : A → Type 0) (text_of : A → List
   pub front : text ≡ text_of value ++ rest
   pub next : Next value rest
 
--- a part is refused, or it is good and something is said of what is behind it
+-- a part is rejected, or it is valid and the text after it has a property
 abbrev pub AtPart : {A : Type 0} → (A → Type 0) → (A → List ℕ) → List ℕ → Type 0 → (A → List ℕ → Type 0) → Type 0
 AtPart IsForm text_of text Refused Next = Refused ⊎ BeginsWith IsForm text_of text Next
 
@@ -110,13 +110,13 @@ abbrev pub AtNumber : List ℕ → (least greatest : ℕ) → ℕ → List ℕ �
 AtNumber word least greatest n text r =
     AtPart (IsBetween least greatest) (counted word) text (RefusedNumber word least greatest n text r)
 
--- so many rows from line n on
+-- this number of rows from line n on
 abbrev pub AtRows : {A : Type 0} → (A → Type 0) → (A → List ℕ) → Option (A → List ℕ) → (count : ℕ) → ℕ → List ℕ → LineRefusal
     → (List A → List ℕ → Type 0) → Type 0
 AtRows IsForm line_of order count n text r =
     AtPart (AreCountedRows IsForm order count) (flat_map line_of) text (IsRefusedRow IsForm line_of order count n text r)
 
--- a list from line n on, with its length before it: what is said of the text behind it has that text's first line
+-- a list from line n on, after its length; the property gets the first line of the text after it
 abbrev pub AtList : {A : Type 0} → (A → Type 0) → (A → List ℕ) → Option (A → List ℕ) → (word : List ℕ) → ℕ → List ℕ
     → LineRefusal → (ℕ → List ℕ → Type 0) → Type 0
 AtList IsForm line_of order word n text r Next =
@@ -124,6 +124,6 @@ AtList IsForm line_of order word n text r Next =
     (λ count rows.
     AtRows IsForm line_of order count (line_after n 1) rows r (λ _ rest. Next (line_after (line_after n 1) count) rest))
 
--- something follows the last line: it begins line n
+-- something follows the last line, as line n
 abbrev pub IsBehindEnd : ℕ → List ℕ → LineRefusal → Type 0
 IsBehindEnd n rest r = (¬ (rest ≡ [])) × (r ≡ BadLine n)

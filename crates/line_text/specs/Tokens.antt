@@ -1,9 +1,9 @@
--- What a token of a printed number begins with.
+-- The first byte of a printed number.
 --
 --   IsPlain token       no sign and no leading zero
 use Rattle.std.specs.Prelude.{ℕ, ◌≡◌, ◌≢◌, ◌<◌, List, length, slice_index}
 
--- a first byte that is no plus sign, and no zero with more behind it
+-- a first byte that is neither a plus sign nor a zero before more digits
 pub record IsPlain (token : List ℕ) : Type 0 where
   pub some : 0 < length token
   pub no_plus : slice_index token 0 ≢ 43

@@ -1,4 +1,4 @@
-//! Vertex numbers at the front of a text, and the three that name a directed facet, read.
+//! Reads vertex numbers at the start of a text, and the three that name a directed facet.
 
 ghost use Rattle.std.specs.Prelude.{◌≡◌, ◌<◌, ◌++◌, IfSome, IfNone};
 ghost use Rattle.line_text.specs.Numbers.{ended, BeginsWithNone};
@@ -6,8 +6,8 @@ ghost use Rattle.line_text.specs.Facets.{IsVertexNumber, ArePairNumbers, pair_fi
 
 use crate::read::number_first;
 
-/// The vertex number at the front of a text, and what stands behind the byte that ends it.
-/// None where no such number stands there.
+/// Returns the vertex number at the start of a text, and the text after the byte that ends it, or `None` if there is no such
+/// number.
 pub fn vertex_first(text: &[u8], end: u8) -> Option<(u32, &[u8])>
     requires { end < 48 }
     ensures some { IfSome result (λ read. IsVertexNumber read.0 × (text.now ≡ ended read.0 end ++ read.1.now)) }
@@ -17,8 +17,8 @@ pub fn vertex_first(text: &[u8], end: u8) -> Option<(u32, &[u8])>
     Some((n as u32, rest))
 }
 
-/// Two vertex numbers at the front of a text, with a space behind the first, and what stands
-/// behind the byte that ends the second. None where no such pair stands there.
+/// Returns two vertex numbers at the start of a text, with a space after the first, and the text after the byte that ends the
+/// second, or `None` if there is no such pair.
 pub fn pair_first(text: &[u8], end: u8) -> Option<((u32, u32), &[u8])>
     requires { end < 48 }
     ensures some { IfSome result (λ read. ArePairNumbers read.0 × (text.now ≡ pair_fields read.0 end ++ read.1.now)) }
@@ -29,9 +29,8 @@ pub fn pair_first(text: &[u8], end: u8) -> Option<((u32, u32), &[u8])>
     Some(((a, b), rest))
 }
 
-/// A facet's three numbers at the front of a text, distinct with the smallest first, with a
-/// space behind the first two, and what stands behind the byte that ends the last. None
-/// where no such numbers stand there.
+/// Returns a facet's three numbers at the start of a text, distinct with the smallest first, with a space after the first two,
+/// and the text after the byte that ends the last, or `None` if there are no such numbers.
 pub fn facet_first(text: &[u8], end: u8) -> Option<([u32; 3], &[u8])>
     requires { end < 48 }
     ensures some { IfSome result (λ read. IsFacetRow read.0 × (text.now ≡ facet_fields read.0 end ++ read.1.now)) }

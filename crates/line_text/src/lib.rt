@@ -1,11 +1,10 @@
-//! Lines of whole numbers: what the mesh text and the certificate text share.
+//! Lines of whole numbers, as in the mesh format and the certificate format.
 //!
-//! A number stands in decimal without leading zeros, and one byte ends it: a space within
-//! a line, a line feed at the line's end. The rows of a list are compared number by number.
-//! A text is read line by line, and refused for the first line that is cut, not of its form
-//! or out of order, with that line's number ([`LineRefusal`]).
+//! A number is decimal without leading zeros and ends with one byte: a space within a line, a line feed at the line's end. The
+//! rows of a list are compared lexicographically. A text is read line by line, and rejected at the first line that is
+//! truncated, invalid or out of order, with that line's number ([`LineRefusal`]).
 //!
-//! The crate stands on `num_text`, which prints the numbers, and on `geo_sign` for the order of rows.
+//! The crate depends on `num_text`, which prints the numbers, and on `geo_sign` for the order of rows.
 #![tactic(auto)]
 
 mod facet;

@@ -1,5 +1,4 @@
-//! Lines of fixed texts, and of a word and a number, at the front of a text: read, or refused
-//! by their number.
+//! Lines at the start of a text that are a fixed text, or a word and a number: read, or rejected with the line number.
 
 ghost use Rattle.std.specs.Prelude.{◌≡◌, ◌++◌, IfOk, IfErr};
 ghost use Rattle.line_text.specs.Numbers.{counted, IsBetween};
@@ -8,7 +7,7 @@ ghost use Rattle.line_text.specs.Refusals.{RefusedWord, RefusedNumber};
 use crate::read::{behind, counted_within};
 use crate::refusal::{LineRefusal, refusal_of};
 
-/// What stands behind line `line`, which is this fixed text.
+/// Returns the text after line `line`, which is this fixed text.
 pub fn word_line<'a>(text: &'a [u8], word: &[u8], line: u64) -> Result<&'a [u8], LineRefusal>
     ensures ok { IfOk result (λ rest. text.now ≡ word.now ++ rest.now) }
     ensures refused { IfErr result (RefusedWord word.now line text.now) }
@@ -19,8 +18,7 @@ pub fn word_line<'a>(text: &'a [u8], word: &[u8], line: u64) -> Result<&'a [u8],
     }
 }
 
-/// The number from `least` to `greatest` that line `line` states behind this word, and what
-/// stands behind the line.
+/// Returns the number from `least` to `greatest` that line `line` states after this word, and the text after the line.
 pub fn number_line<'a>(
     text: &'a [u8],
     word: &[u8],

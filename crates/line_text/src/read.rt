@@ -1,5 +1,4 @@
-//! Numbers at the front of a text, read. Exactly the text that is printed is read: digits
-//! without a leading zero and without a sign.
+//! Reads numbers at the start of a text. Accepts exactly the printed form: digits without a leading zero and without a sign.
 
 ghost use Rattle.std.specs.Prelude.{◌≡◌, ◌<◌, ◌≤◌, ◌^◌, ◌++◌, ◌∷◌, ℕ, ℤ, List, IfSome, IfNone, length, slice_index, decimal};
 ghost use Rattle.std.specs.Bool.{OnTrue, OnFalse};
@@ -8,7 +7,7 @@ ghost use Rattle.std.specs.Int.Signed.{mag};
 ghost use Rattle.line_text.specs.Numbers.{ended, counted, signed_ended, BeginsWithNone, Lacks, IsBetween, IsSignedBetween};
 ghost use Rattle.line_text.specs.Tokens.{IsPlain};
 
-/// The place of the first such byte, or the length where there is none.
+/// Returns the position of the first such byte, or the length if there is none.
 fn place_of(text: &[u8], byte: u8) -> usize
     ensures within { result ≤ length text.now }
     ensures before { (k : ℕ) → k < result → slice_index text.now k ≡ byte → ⊥ }
@@ -22,8 +21,7 @@ fn place_of(text: &[u8], byte: u8) -> usize
     text.len()
 }
 
-/// What stands before the first such byte and what stands behind it, or None where the text
-/// lacks the byte.
+/// Splits a text at the first such byte, and returns the parts before and after it, or `None` if the text lacks the byte.
 pub fn cut_at(text: &[u8], byte: u8) -> Option<(&[u8], &[u8])>
     ensures some { IfSome result (λ parts. (text.now ≡ parts.0.now ++ (byte ∷ parts.1.now)) × Lacks byte parts.0.now) }
     ensures none { IfNone result (Lacks byte text.now) }
@@ -36,7 +34,7 @@ pub fn cut_at(text: &[u8], byte: u8) -> Option<(&[u8], &[u8])>
     }
 }
 
-/// Whether the first byte is one that a printed number may have.
+/// Returns whether the first byte can begin a printed number.
 fn is_plain(token: &[u8]) -> bool
     ensures yes { OnTrue result (IsPlain token.now) }
     ensures no { OnFalse result (¬ IsPlain token.now) }
@@ -48,8 +46,7 @@ fn is_plain(token: &[u8]) -> bool
     first != b'+' && (first != b'0' || token.len() == 1)
 }
 
-/// The number whose decimal text the token is, or None where it is the text of no number of
-/// 64 bits.
+/// Returns the number whose decimal text the token is, or `None` if it is not the text of a 64-bit number.
 pub fn number_of(token: &[u8]) -> Option<u64>
     ensures some { IfSome result (λ n. token.now ≡ decimal n) }
     ensures none { IfNone result ((n : ℕ) → n < 2 ^ 64 → ¬ (token.now ≡ decimal n)) }
@@ -67,8 +64,8 @@ pub fn number_of(token: &[u8]) -> Option<u64>
     }
 }
 
-/// The number of at most `limit` at the front of a text, with the byte that ends it, and
-/// what stands behind that byte. None where no such number stands there.
+/// Returns the number of at most `limit` at the start of a text, with the byte that ends it, and the text after that byte, or
+/// `None` if there is no such number.
 pub fn number_first(text: &[u8], end: u8, limit: u64) -> Option<(u64, &[u8])>
     requires { end < 48 }
     ensures some { IfSome result (λ read. (read.0 ≤ limit) × (text.now ≡ ended read.0 end ++ read.1.now)) }
@@ -79,8 +76,8 @@ pub fn number_first(text: &[u8], end: u8, limit: u64) -> Option<(u64, &[u8])>
     if n <= limit { Some((n, rest)) } else { None }
 }
 
-/// The number of at most `limit` that a line with this word states, and what stands behind
-/// the line. None where no such line stands at the front of the text.
+/// Returns the number of at most `limit` that a line with this word states, and the text after the line, or `None` if the text
+/// does not begin with such a line.
 pub fn counted_first<'a>(text: &'a [u8], word: &[u8], limit: u64) -> Option<(u64, &'a [u8])>
     ensures some { IfSome result (λ read. (read.0 ≤ limit) × (text.now ≡ counted word.now read.0 ++ read.1.now)) }
     ensures none { IfNone result (BeginsWithNone (λ n. n ≤ limit) (counted word.now) text.now) }
@@ -89,8 +86,8 @@ pub fn counted_first<'a>(text: &'a [u8], word: &[u8], limit: u64) -> Option<(u64
     number_first(rest, b'\n', limit)
 }
 
-/// The number from `least` to `greatest` at the front of a text, with the byte that ends it,
-/// and what stands behind that byte. None where no such number stands there.
+/// Returns the number from `least` to `greatest` at the start of a text, with the byte that ends it, and the text after that
+/// byte, or `None` if there is no such number.
 pub fn number_within(text: &[u8], end: u8, least: u64, greatest: u64) -> Option<(u64, &[u8])>
     requires { end < 48 }
     ensures some { IfSome result (λ read. IsBetween least greatest read.0 × (text.now ≡ ended read.0 end ++ read.1.now)) }
@@ -100,8 +97,8 @@ pub fn number_within(text: &[u8], end: u8, least: u64, greatest: u64) -> Option<
     if n >= least { Some((n, rest)) } else { None }
 }
 
-/// The number from `least` to `greatest` that a line with this word states, and what stands
-/// behind the line. None where no such line stands at the front of the text.
+/// Returns the number from `least` to `greatest` that a line with this word states, and the text after the line, or `None` if
+/// the text does not begin with such a line.
 pub fn counted_within<'a>(
     text: &'a [u8],
     word: &[u8],
@@ -115,7 +112,7 @@ pub fn counted_within<'a>(
     number_within(rest, b'\n', least, greatest)
 }
 
-/// The number below zero of 64 bits whose digits these are.
+/// Returns the negative 64-bit number with these digits.
 fn below_zero(digits: &[u8]) -> Option<i64>
     ensures some { IfSome result (λ z. (mag z < 2 ^ 63) × (45 ∷ digits.now ≡ signed_decimal z)) }
     ensures none { IfNone result ((z : ℤ) → mag z < 2 ^ 63 → ¬ (45 ∷ digits.now ≡ signed_decimal z)) }
@@ -128,8 +125,8 @@ fn below_zero(digits: &[u8]) -> Option<i64>
     }
 }
 
-/// The signed number of 64 bits whose decimal text the token is, or None where it is the
-/// text of none: no plus sign, no leading zero, no sign at zero.
+/// Returns the signed 64-bit number whose decimal text the token is, or `None` if it is not such a text: no plus sign, no
+/// leading zero, no sign at zero.
 fn signed_of(token: &[u8]) -> Option<i64>
     ensures some { IfSome result (λ z. (mag z < 2 ^ 63) × (token.now ≡ signed_decimal z)) }
     ensures none { IfNone result ((z : ℤ) → mag z < 2 ^ 63 → ¬ (token.now ≡ signed_decimal z)) }
@@ -143,9 +140,8 @@ fn signed_of(token: &[u8]) -> Option<i64>
     }
 }
 
-/// The signed number from `least` to `greatest` at the front of a text, with the byte that
-/// ends it, and what stands behind that byte. None where no such number stands there: a
-/// number has no plus sign and no leading zeros, and zero has no sign.
+/// Returns the signed number from `least` to `greatest` at the start of a text, with the byte that ends it, and the text after
+/// that byte, or `None` if there is no such number: it has no plus sign and no leading zeros, and zero has no sign.
 pub fn signed_first(text: &[u8], end: u8, least: i64, greatest: i64) -> Option<(i64, &[u8])>
     requires { end < 45 }
     ensures some { IfSome result (λ read. IsSignedBetween least greatest read.0 × (text.now ≡ signed_ended read.0 end ++ read.1.now)) }
@@ -160,8 +156,7 @@ pub fn signed_first(text: &[u8], end: u8, least: i64, greatest: i64) -> Option<(
     }
 }
 
-/// What stands behind these bytes at the front of a text, or None where the text does not
-/// begin with them.
+/// Returns the text after this prefix, or `None` if the text does not begin with it.
 pub fn behind<'a>(text: &'a [u8], front: &[u8]) -> Option<&'a [u8]>
     ensures some { IfSome result (λ rest. text.now ≡ front.now ++ rest.now) }
     ensures none { IfNone result ((rest : List ℕ) → ¬ (text.now ≡ front.now ++ rest)) }

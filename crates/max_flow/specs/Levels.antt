@@ -1,11 +1,11 @@
--- Levels that show from which nodes a sink with room can be reached.
+-- Levels that show from which nodes a sink with residual capacity can be reached.
 --
---   LeadsLower      a residual arc with room leads from a node to a found one of a lower level
---   AreLeading      such arcs lead from the nodes that are written to have one
---   IsOnward        a node has room at its sink, or such an arc leads from it
---   IsClosedArc     a residual arc for a found node leaves a found one, or has no room
---   IsClosedBelow   those of arcs below a bound do
---   AreLevels       the found nodes are those from which a sink with room can be reached
+--   LeadsLower      a residual arc with residual capacity leads from a node to a found one of a lower level
+--   AreLeading      these arcs lead from the nodes that are recorded to have one
+--   IsOnward        a node's sink has residual capacity, or one of these arcs leads from the node
+--   IsClosedArc     a residual arc into a found node leaves a found one, or has no residual capacity
+--   IsClosedBelow   so do the residual arcs of arcs below a bound
+--   AreLevels       the found nodes are those from which a sink with residual capacity can be reached
 use Rattle.std.specs.Prelude.{ℕ, ◌≡◌, ◌<◌, ◌≤◌, ◌⊎◌, Bool, true, false, List, length, slice_index}
 use Rattle.flow_net.specs.Numbered.{NumberedNetwork}
 use Rattle.flow_net.specs.declared.Flow.{Flow}
@@ -14,7 +14,7 @@ use Rattle.max_flow.specs.declared.residual.ResidualArc.{ResidualArc}
 use Rattle.max_flow.specs.Residual.{tail_of, head_of, room_of}
 use Rattle.max_flow.specs.Paths.{HasRoom}
 
--- a residual arc with room, from node v to a found node of a lower level
+-- a residual arc with residual capacity, from node v to a found node of a lower level
 pub record LeadsLower (net : NumberedNetwork) (flow : Flow) (marked : List Bool) (level : List ℕ) (v : ℕ) : Type 0 where
   pub along : ResidualArc
   pub in_range : along.arc < net.arc_count
@@ -23,25 +23,25 @@ pub record LeadsLower (net : NumberedNetwork) (flow : Flow) (marked : List Bool)
   pub goes : flag_at marked (head_of net along) ≡ true
   pub lower : slice_index level (head_of net along) < slice_index level v
 
--- from each node that is written to have one, such an arc leads
+-- from each node that is recorded to have one, such an arc leads
 pub record AreLeading (net : NumberedNetwork) (flow : Flow) (marked : List Bool) (level : List ℕ) (leads : List Bool) : Type 0 where
   pub count : length leads ≡ net.node_count
   pub lead : (v : ℕ) → v < net.node_count → flag_at leads v ≡ true → LeadsLower net flow marked level v
 
--- a free node with room at its sink, or one from which such an arc leads
+-- a free node whose sink has residual capacity, or from which such an arc leads
 abbrev pub IsOnward : NumberedNetwork → Flow → List Bool → List ℕ → ℕ → Type 0
 IsOnward net flow marked level v = HasRoom net flow v ⊎ LeadsLower net flow marked level v
 
--- a residual arc that enters a found node leaves a found one, or has no room
+-- a residual arc that enters a found node leaves a found one, or has no residual capacity
 abbrev pub IsClosedArc : NumberedNetwork → Flow → List Bool → ResidualArc → Type 0
 IsClosedArc net flow marked r =
     flag_at marked (head_of net r) ≡ true → flag_at marked (tail_of net r) ≡ false → room_of net flow r ≡ 0
 
--- the residual arcs of arcs below a bound do
+-- so do the residual arcs of arcs below a bound
 abbrev pub IsClosedBelow : NumberedNetwork → Flow → List Bool → ℕ → Type 0
 IsClosedBelow net flow marked bound = (r : ResidualArc) → r.arc < bound → IsClosedArc net flow marked r
 
--- the found nodes are those from which a sink with room can be reached
+-- the found nodes are those from which a sink with residual capacity can be reached
 pub record AreLevels (net : NumberedNetwork) (flow : Flow) (marked : List Bool) (level : List ℕ) : Type 0 where
   pub marked_count : length marked ≡ net.node_count
   pub all_ends : (v : ℕ) → v < net.node_count → HasRoom net flow v → flag_at marked v ≡ true

@@ -1,7 +1,7 @@
-//! The test of levels: whether the nodes that have one are those from which a sink with room can be reached. It stands on
-//! residual arcs.
+//! Validates levels: whether the nodes with a level are those from which a sink with residual capacity can be reached. Depends
+//! on residual arcs.
 //!
-//! It looks at each arc once and in order, so it takes no chains.
+//! It examines each arc once and in order, so it takes no linked lists.
 
 ghost use Rattle.std.specs.Prelude.{◌≡◌, ◌≤◌, ◌<◌, ◌^◌, length, true, false, IfOk, IfSome};
 ghost use Rattle.flow_net.specs.Nets.{flag_at};
@@ -16,7 +16,7 @@ use crate::residual::ResidualArc;
 use flow_net::{Flow, FlowNetwork};
 use std::alloc::Global;
 
-/// Whether a residual arc has room and enters a found node.
+/// Returns whether a residual arc has residual capacity and enters a found node.
 fn can_lead<N: FlowNetwork>(net: &N, flow: &Flow, marked: &[bool], residual: ResidualArc) -> bool
     requires valid { IsValidFlow (N.numbered net.now) flow.now }
     requires marked { length marked.now ≡ (N.numbered net.now).node_count }
@@ -28,8 +28,8 @@ fn can_lead<N: FlowNetwork>(net: &N, flow: &Flow, marked: &[bool], residual: Res
     marked[residual.head(net)] && residual.room(net, flow) > 0
 }
 
-/// Looks at a residual arc: answers false where it has room and leaves a node that is not found for one that is. Where it
-/// leads from a found node to one of a lower level, it is written that something does.
+/// Examines a residual arc: returns false if it has residual capacity and leads from a node that is not found to one that is.
+/// If it leads from a found node to one of a lower level, this is recorded.
 fn look<N: FlowNetwork>(
     net: &N,
     flow: &Flow,
@@ -59,8 +59,8 @@ fn look<N: FlowNetwork>(
     true
 }
 
-/// Looks at the residual arcs of all arcs. Answers from which nodes one leads to a found node of a lower level, or None
-/// where one with room leaves a node that is not found for one that is.
+/// Examines the residual arcs of all arcs. Returns from which nodes one leads to a found node of a lower level, or `None` if
+/// one with residual capacity leads from a node that is not found to one that is.
 fn look_at_all<N: FlowNetwork>(
     alloc: Global,
     net: &N,
@@ -92,7 +92,7 @@ fn look_at_all<N: FlowNetwork>(
     Ok(Some(leads))
 }
 
-/// Whether a node is found where its sink has room, and else only where something leads on from it.
+/// Returns whether a node is found if its sink has residual capacity, and else only if some arc leads on from it.
 fn is_onward<N: FlowNetwork>(
     net: &N,
     flow: &Flow,
@@ -114,7 +114,7 @@ fn is_onward<N: FlowNetwork>(
     !marked[node] || leads[node]
 }
 
-/// Whether the found nodes with their levels are those from which a sink with room can be reached.
+/// Returns whether the found nodes with their levels are those from which a sink with residual capacity can be reached.
 pub fn are_levels<N: FlowNetwork>(
     alloc: Global,
     net: &N,

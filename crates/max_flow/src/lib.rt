@@ -1,24 +1,24 @@
-//! A largest flow through a network, and the least-inside labels that it shows.
+//! Computes a maximum flow through a network, and the minimum cut with the smallest inside.
 //!
-//! The flow begins with a hint, which is tested: where it is valid, and levels beside it show from which nodes a sink with room
-//! can be reached and that no fixed node is among them, it is a largest one (Ford and Fulkerson 1956). Else rounds go on from
-//! it, or from nothing where it is not valid. A round finds all nodes from which a sink with room can be reached in the
-//! residual network, with their levels, and sends more along paths that lead down by levels until none is left (Dinic 1970).
-//! Where no fixed node is found, the flow is a largest one.
+//! The flow begins with a hint, which is validated: if it is valid, and its levels show from which nodes a sink with residual
+//! capacity can be reached and that no fixed node is among them, it is maximal (Ford and Fulkerson 1956). Else rounds continue
+//! from it, or from zero if it is not valid. A round finds all nodes from which a sink with residual capacity can be reached in
+//! the residual network, with their levels, and augments along paths that lead down by levels until none is left (Dinic 1970).
+//! If no fixed node is found, the flow is maximal.
 //!
-//! The least-inside labels are the nodes from which a sink with room can still be reached, which are the smallest inside of
-//! all minimum cuts. Labatut, Pons and Keriven (2007) cut such a network of cells.
+//! The inside of this cut has the nodes from which a sink with residual capacity can still be reached; each minimum cut has
+//! them inside. Labatut, Pons and Keriven (2007) cut such a network of cells.
 //!
-//! `residual` holds the residual arcs, `incidence` finds those that enter a node, `searches` goes backwards from the
-//! sinks with room, `levels` tests levels that a hint gives in its place, `paths` sends more along augmenting paths,
-//! `phases` does so down the levels of a search, `solving` has the calls that stand on all these, and `resuming` those that go on
-//! from a valid flow. The crate stands on `flow_net`, on `flow_hint` for the hint and on `flow_valid` for its test, and tells a `watch`
-//! how far it is.
+//! `residual` defines the residual arcs, `incidence` finds those that enter a node, `searches` searches backwards from the
+//! sinks with residual capacity, `levels` validates the levels of a hint instead, `paths` augments along paths, `phases` does
+//! so down the levels of a search, `solving` has the calls that depend on all these, and `resuming` those that resume from a
+//! valid flow. The crate depends on `flow_net`, on `flow_hint` for the hint and on `flow_valid` for its test, and reports its
+//! progress to a callback of `watch`.
 //!
 //! # Example
 //!
-//! What flows from a fixed node through a near one into the sink of a far one, in a network of `flow_net::NetBuilder`. The
-//! arc between the two free nodes is the bottleneck, and only the far node is inside:
+//! The flow from a fixed node through a near one into the sink of a far one, in a network of `flow_net::NetBuilder`. The arc
+//! between the two free nodes is the bottleneck, and only the far node is inside:
 //!
 //! ```rust
 //! let mut builder = NetBuilder::new(rt.alloc());
@@ -52,5 +52,5 @@ pub use solving::{
     minimum_cut_watched, solve,
 };
 
-/// The error of a call for which there was no memory.
+/// The error of a call that ran out of memory.
 pub type NoMemory = std::alloc::AllocError;

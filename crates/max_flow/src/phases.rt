@@ -1,8 +1,8 @@
-//! A phase: more flow along paths down the levels of one search, until no such path is left (Dinic 1970). It stands on
-//! the search and on augmenting paths.
+//! A phase: augments along paths down the levels of one search, until none is left (Dinic 1970). Depends on the search and on
+//! augmenting paths.
 //!
-//! Each node has a cursor, the residual arc that is tried next from it. Room along an arc to a lower level only falls
-//! during a phase, so a cursor never goes back.
+//! Each node has a cursor, the residual arc that is tried next from it. The residual capacity of an arc to a lower level only
+//! decreases during a phase, so a cursor never goes back.
 
 ghost use Rattle.std.specs.Prelude.{◌≡◌, ◌<◌, ◌≤◌, length, true, IfOk, IfSome};
 ghost use Rattle.flow_net.specs.NumberedFlows.{IsValidFlow, value_of};
@@ -22,16 +22,16 @@ use std::alloc::Global;
 pub struct Phase {
     /// For each node the residual arc that is tried next from it, if one is left.
     cursor: Vec<Option<ResidualArc>>,
-    /// The path that was walked last.
+    /// The last path.
     path: Vec<ResidualArc>,
 }
 
-/// A residual arc of one direction.
+/// Returns a residual arc of one direction.
 fn along(arc: Option<u32>, forward: bool) -> Option<ResidualArc> {
     arc.map(|arc| ResidualArc { arc, forward })
 }
 
-/// The first residual arc that leaves a node: those that run the way of their arcs come first.
+/// Returns the first residual arc that leaves a node: those in the direction of their arcs come first.
 fn first_from(incidence: &Incidence, node: usize) -> Option<ResidualArc> {
     let forward = incidence.backward.last.get(node).copied().flatten();
     if forward.is_some() {
@@ -40,7 +40,7 @@ fn first_from(incidence: &Incidence, node: usize) -> Option<ResidualArc> {
     along(incidence.forward.last.get(node).copied().flatten(), false)
 }
 
-/// The residual arc that leaves a node after this one.
+/// Returns the residual arc that leaves a node after this one.
 fn next_from(incidence: &Incidence, node: usize, residual: ResidualArc) -> Option<ResidualArc> {
     if !residual.forward {
         return along(
@@ -65,7 +65,7 @@ fn next_from(incidence: &Incidence, node: usize, residual: ResidualArc) -> Optio
     along(incidence.forward.last.get(node).copied().flatten(), false)
 }
 
-/// Whether a residual arc leads from a node to a found node of a lower level, and has room.
+/// Returns whether a residual arc leads from a node to a found node of a lower level, and has residual capacity.
 fn leads_down<N: FlowNetwork>(
     net: &N,
     flow: &Flow,
@@ -87,7 +87,7 @@ fn leads_down<N: FlowNetwork>(
 }
 
 impl Phase {
-    /// The beginning of a phase.
+    /// Returns the initial state of a phase.
     pub fn new<N: FlowNetwork>(
         alloc: Global,
         net: &N,
@@ -106,7 +106,7 @@ impl Phase {
         })
     }
 
-    /// The first residual arc from the cursor of a node on that leads down. The cursor moves there.
+    /// Returns the first residual arc from the cursor of a node on that leads down, and moves the cursor there.
     fn lead<N: FlowNetwork>(
         &mut self,
         net: &N,
@@ -136,7 +136,7 @@ impl Phase {
         None
     }
 
-    /// Walks down from a fixed node. Answers the node at the end of the path where its sink has room, or None where
+    /// Walks down from a fixed node. Returns the node at the end of the path if its sink has residual capacity, or `None` if
     /// nothing leads down from there.
     fn walk<N: FlowNetwork>(
         &mut self,
@@ -173,7 +173,7 @@ impl Phase {
         None
     }
 
-    /// Passes over the last residual arc of the path, and says whether there was one.
+    /// Skips the last residual arc of the path, and returns whether there was one.
     fn pass_over<N: FlowNetwork>(&mut self, net: &N, incidence: &Incidence) -> bool
         requires { length self.old.cursor.items ≡ (N.numbered net.now).node_count }
         ensures { length self.new.cursor.items ≡ (N.numbered net.now).node_count }
@@ -188,7 +188,7 @@ impl Phase {
         true
     }
 
-    /// Sends more from a fixed node, until nothing leads down from it.
+    /// Augments from a fixed node, until nothing leads down from it.
     fn send_from<N: FlowNetwork>(
         &mut self,
         net: &N,
@@ -219,7 +219,7 @@ impl Phase {
         }
     }
 
-    /// Sends more from each found fixed node, until no path down the levels is left.
+    /// Augments from each found fixed node, until no path down the levels is left.
     pub fn block<N: FlowNetwork>(
         &mut self,
         net: &N,

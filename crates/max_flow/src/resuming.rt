@@ -1,8 +1,8 @@
-//! Going on from a valid flow to a largest one, at which no less leaves at any sink. It stands on hints and on what tests and
-//! ends them in `solving`.
+//! Resumes from a valid flow, and returns a maximum flow by which no less flows into any sink. Depends on hints and on their
+//! validation and completion in `solving`.
 //!
-//! Where no sink has room, the flow is a largest one already. Else a hint goes on from the preflow that an earlier one has left, and
-//! where there is none, or its hint fails the test, one is made in which the sinks first fill to what leaves there.
+//! If no sink has residual capacity, the flow is maximal already. Else a hint resumes from the preflow of an earlier one; if
+//! there is none, or its hint fails the validation, a new hint first fills the sinks to their previous amounts.
 
 ghost use Rattle.std.specs.Prelude.{◌≡◌, ◌≤◌, length, true, IfOk, IfSome, OnOk};
 ghost use Rattle.flow_net.specs.NumberedFlows.{IsValidFlow, IsLargest, IsLeastInside, value_of, cost_of};
@@ -17,7 +17,7 @@ use flow_valid::is_valid_flow;
 use std::alloc::Global;
 use watch::Silent;
 
-/// The amounts of a flow once more.
+/// Returns a copy of the amounts of a flow.
 fn copied(alloc: Global, flow: &Flow) -> Result<Flow, NoMemory>
     ensures { IfOk result (λ copy. copy ≡ flow.now) }
 {
@@ -27,7 +27,7 @@ fn copied(alloc: Global, flow: &Flow) -> Result<Flow, NoMemory>
     })
 }
 
-/// Whether any sink has room.
+/// Returns whether any sink has residual capacity.
 fn any_has_room<N: FlowNetwork>(net: &N, flow: &Flow) -> bool
     requires { IsValidFlow (N.numbered net.now) flow.now }
 {
@@ -39,7 +39,7 @@ fn any_has_room<N: FlowNetwork>(net: &N, flow: &Flow) -> bool
     false
 }
 
-/// Whether no less leaves at any sink of one flow than of another.
+/// Returns whether no less flows into any sink by one flow than by another.
 fn keeps_sinks(before: &Flow, after: &Flow) -> bool
     requires { length before.now.on_sink ≡ length after.now.on_sink }
     ensures { result ≡ true → KeepsSinks before.now after.now }
@@ -54,8 +54,8 @@ fn keeps_sinks(before: &Flow, after: &Flow) -> bool
     true
 }
 
-/// The flow of a hint, and the least-inside labels where it is known to be a largest one. None where it is not valid, or less leaves
-/// at a sink than of a valid flow. Else its preflow is kept.
+/// Returns the flow of a hint, and the minimum cut with the smallest inside if the flow is known to be maximal, or `None` if it
+/// is not valid, or less flows into a sink than by a valid flow. Else its preflow is kept.
 fn tested<N: FlowNetwork>(
     alloc: Global,
     net: &N,
@@ -80,8 +80,8 @@ fn tested<N: FlowNetwork>(
     Ok(Some((more, labels)))
 }
 
-/// A valid flow at which no less leaves at any sink than of another, and the least-inside labels where it is known to be a largest
-/// one: that of a hint, or the same flow where no hint passes the test.
+/// Returns a valid flow by which no less flows into any sink than by another, and the minimum cut with the smallest inside if
+/// the flow is known to be maximal: that of a hint, or the same flow if no hint passes the validation.
 fn more_above<N: FlowNetwork>(
     alloc: Global,
     net: &N,
@@ -107,12 +107,11 @@ fn more_above<N: FlowNetwork>(
     Ok((copied(alloc, flow)?, None))
 }
 
-/// A flow of the largest value at which no less leaves at any sink than of a valid one, and the least-inside labels, which cost as
-/// much: what has come to a sink stays there, and only more is sent.
+/// Returns a maximum flow by which no less flows into any sink than by a valid one, and the minimum cut with the smallest
+/// inside, whose cost is its value: flow that has reached a sink stays there, and only more is sent.
 ///
-/// It goes on from the preflow that an earlier call left, this one or `minimum_cut_and_preflow`, and leaves its own. On that hangs
-/// how long it takes, and nothing else: it takes longer where there is none, as there may be after want of memory, or that of
-/// another network.
+/// It resumes from the preflow of an earlier call, this one or `minimum_cut_and_preflow`, and leaves its own. The preflow
+/// affects only the time: it takes longer if there is none, for example after out of memory, or that of another network.
 #[tactic(auto, using(crate::proofs::Cuts::shown_largest))]
 pub fn minimum_cut_above<N: FlowNetwork>(
     alloc: Global,
@@ -141,10 +140,10 @@ pub fn minimum_cut_above<N: FlowNetwork>(
     Ok((more, labels))
 }
 
-/// Goes on from a valid flow to a largest one, which is valid too, so 0 at the sinks of fixed nodes. No less leaves at any
-/// sink than before: what has come to a sink stays there, and only more is sent.
+/// Resumes from a valid flow to a maximum one, which is valid too, so 0 at the sinks of fixed nodes. No less flows into any
+/// sink than before: flow that has reached a sink stays there, and only more is sent.
 ///
-/// Without memory the flow is valid, its value is no smaller than before, and no less leaves at any sink.
+/// After `NoMemory` the flow is valid, its value is no smaller than before, and no less flows into any sink.
 pub fn resume<N: FlowNetwork>(alloc: Global, net: &N, flow: &mut Flow) -> Result<(), NoMemory>
     requires { IsValidFlow (N.numbered net.now) flow.old }
     ensures largest { OnOk result (IsLargest (N.numbered net.now) flow.new) }

@@ -1,5 +1,5 @@
-//! A largest flow from a tested hint and by rounds, and the least-inside labels that it shows. It stands on the search, on
-//! augmenting paths, on phases and on the test of levels.
+//! A maximum flow from a validated hint and by rounds, and the minimum cut with the smallest inside. Depends on the search, on
+//! augmenting paths, on phases and on the validation of levels.
 
 ghost use Rattle.std.specs.Prelude.{◌≡◌, ◌<◌, ◌≤◌, length, true, false, ℕ, IfOk, IfSome, IfNone, OnOk, OnErr};
 ghost use Rattle.flow_net.specs.Nets.{flag_at};
@@ -30,7 +30,7 @@ pub struct Augmenting {
     pub end: usize,
 }
 
-/// A fixed node from which a sink with room can be reached, if there is one.
+/// Returns a fixed node from which a sink with residual capacity can be reached, if there is one.
 pub fn found_fixed<N: FlowNetwork>(net: &N, marked: &[bool]) -> Option<usize>
     requires { length marked.now ≡ (N.numbered net.now).node_count }
     ensures node { IfSome result (λ v. v < (N.numbered net.now).node_count) }
@@ -46,7 +46,7 @@ pub fn found_fixed<N: FlowNetwork>(net: &N, marked: &[bool]) -> Option<usize>
     None
 }
 
-/// The path from a found fixed node to a sink with room.
+/// Returns the path from a found fixed node to a sink with residual capacity.
 pub fn path_from<N: FlowNetwork>(
     alloc: Global,
     net: &N,
@@ -70,9 +70,9 @@ pub fn path_from<N: FlowNetwork>(
     Ok(Augmenting { path, end: node })
 }
 
-/// Makes one round: raises the value of a flow and answers true, or answers false where no flow has a larger one.
+/// Does one round: increases the value of a flow and returns true, or returns false if no flow has a larger one.
 ///
-/// Without memory the flow stays as it was.
+/// After `NoMemory` the flow is unchanged.
 fn improve<N: FlowNetwork>(
     alloc: Global,
     net: &N,
@@ -100,9 +100,10 @@ fn improve<N: FlowNetwork>(
     Ok(true)
 }
 
-/// Goes on from a valid flow to a largest one, by rounds, of which a watch is told. No less leaves at any sink than before.
+/// Completes a valid flow to a maximum one by rounds, which are reported to a progress callback. No less flows into any sink
+/// than before.
 ///
-/// Without memory the flow is valid, and its value is no smaller than before.
+/// After `NoMemory` the flow is valid, and its value is no smaller than before.
 pub fn finish<N: FlowNetwork, W: Watch>(
     alloc: Global,
     net: &N,
@@ -125,7 +126,7 @@ pub fn finish<N: FlowNetwork, W: Watch>(
     Ok(())
 }
 
-/// The flow of nothing.
+/// Returns the zero flow.
 pub fn zero_flow<N: FlowNetwork>(alloc: Global, net: &N) -> Result<Flow, NoMemory>
     ensures { IfOk result (λ flow. IsValidFlow (N.numbered net.now) flow) }
 {
@@ -135,8 +136,8 @@ pub fn zero_flow<N: FlowNetwork>(alloc: Global, net: &N) -> Result<Flow, NoMemor
     })
 }
 
-/// The least-inside labels that levels show beside a valid flow, or None where they show none. Where they show some, the flow is a
-/// largest one.
+/// Returns the minimum cut with the smallest inside that levels show for a valid flow, or `None` if they show none. If they
+/// show one, the flow is maximal.
 pub fn shown_by<N: FlowNetwork>(
     alloc: Global,
     net: &N,
@@ -163,8 +164,8 @@ pub fn shown_by<N: FlowNetwork>(
     }))
 }
 
-/// A valid flow to start from, and the least-inside labels where it is known to be a largest one: that of a hint, which mostly is,
-/// or the flow of nothing where the hint's is not valid.
+/// Returns a valid initial flow, and the minimum cut with the smallest inside if the flow is known to be maximal: that of a
+/// hint, which usually is, or the zero flow if the hint's is not valid.
 fn first_flow<N: FlowNetwork>(
     alloc: Global,
     net: &N,
@@ -183,7 +184,7 @@ fn first_flow<N: FlowNetwork>(
     Ok((zero_flow(alloc, net)?, None))
 }
 
-/// A flow of the largest value, and the least-inside labels where a hint shows them.
+/// Returns a maximum flow, and the minimum cut with the smallest inside if a hint shows it.
 #[tactic(auto, using(crate::proofs::Cuts::shown_largest))]
 fn largest_flow<N: FlowNetwork, W: Watch>(
     alloc: Global,
@@ -204,7 +205,7 @@ fn largest_flow<N: FlowNetwork, W: Watch>(
     Ok((flow, None))
 }
 
-/// A flow of the largest value: it is valid, so 0 at the sinks of fixed nodes, and no valid flow has a larger value.
+/// Returns a maximum flow: it is valid, so 0 at the sinks of fixed nodes, and no valid flow has a larger value.
 pub fn solve<N: FlowNetwork>(alloc: Global, net: &N) -> Result<Flow, NoMemory>
     ensures valid { IfOk result (λ flow. IsValidFlow (N.numbered net.now) flow) }
     ensures largest { IfOk result (λ flow. IsLargest (N.numbered net.now) flow) }
@@ -214,7 +215,7 @@ pub fn solve<N: FlowNetwork>(alloc: Global, net: &N) -> Result<Flow, NoMemory>
     Ok(flow)
 }
 
-/// The least-inside labels that levels show, or None where they show none.
+/// Returns the minimum cut with the smallest inside that levels show, or `None` if they show none.
 pub fn shown_inside<N: FlowNetwork>(
     alloc: Global,
     net: &N,
@@ -230,7 +231,7 @@ pub fn shown_inside<N: FlowNetwork>(
     }
 }
 
-/// The least-inside labels by a search.
+/// Returns the minimum cut with the smallest inside by a search.
 fn searched_inside<N: FlowNetwork>(alloc: Global, net: &N, flow: &Flow) -> Result<Labels, NoMemory>
     requires { IsLargest (N.numbered net.now) flow.now }
     ensures least { IfOk result (λ labels. IsLeastInside (N.numbered net.now) labels) }
@@ -244,10 +245,10 @@ fn searched_inside<N: FlowNetwork>(alloc: Global, net: &N, flow: &Flow) -> Resul
     })
 }
 
-/// The least-inside labels of a network, of which a largest flow is known.
+/// Returns the minimum cut with the smallest inside of a network, given a maximum flow.
 ///
-/// They cost the value of the flow. A node is inside where a sink with room can be reached from it in the residual
-/// network, so each labels of the least cost have it inside.
+/// Its cost is the value of the flow. A node is inside if a sink with residual capacity can be reached from it in the residual
+/// network, so each minimum cut has it inside.
 pub fn least_inside<N: FlowNetwork>(alloc: Global, net: &N, flow: &Flow) -> Result<Labels, NoMemory>
     requires { IsLargest (N.numbered net.now) flow.now }
     ensures least { IfOk result (λ labels. IsLeastInside (N.numbered net.now) labels) }
@@ -259,7 +260,7 @@ pub fn least_inside<N: FlowNetwork>(alloc: Global, net: &N, flow: &Flow) -> Resu
     searched_inside(alloc, net, flow)
 }
 
-/// A flow of the largest value from a hint, and the least-inside labels, which cost as much.
+/// Returns a maximum flow from a hint, and the minimum cut with the smallest inside, whose cost is its value.
 fn cut_by<N: FlowNetwork, W: Watch>(
     alloc: Global,
     net: &N,
@@ -279,8 +280,8 @@ fn cut_by<N: FlowNetwork, W: Watch>(
     Ok((flow, labels))
 }
 
-/// A flow of the largest value, and the least-inside labels, which cost as much. It takes less time than `solve` and
-/// `least_inside` one after the other.
+/// Returns a maximum flow, and the minimum cut with the smallest inside, whose cost is its value. It takes less time than
+/// `solve` and `least_inside` one after the other.
 pub fn minimum_cut<N: FlowNetwork>(alloc: Global, net: &N) -> Result<(Flow, Labels), NoMemory>
     ensures valid { IfOk result (λ cut. IsValidFlow (N.numbered net.now) cut.0) }
     ensures largest { IfOk result (λ cut. IsLargest (N.numbered net.now) cut.0) }
@@ -290,8 +291,8 @@ pub fn minimum_cut<N: FlowNetwork>(alloc: Global, net: &N) -> Result<(Flow, Labe
     minimum_cut_watched(alloc, net, &mut Silent)
 }
 
-/// The same, where a watch is told of the stage, and from how many nodes the hint moved amounts on; and where it has to be gone on
-/// from the hint, of the stage of rounds, and how many are made.
+/// Returns the same, and reports to a progress callback the stage, and from how many nodes the hint moved amounts on; and if
+/// rounds have to follow, the stage of rounds and their number.
 pub fn minimum_cut_watched<N: FlowNetwork, W: Watch>(
     alloc: Global,
     net: &N,
@@ -307,7 +308,8 @@ pub fn minimum_cut_watched<N: FlowNetwork, W: Watch>(
     cut_by(alloc, net, hint, watch)
 }
 
-/// What `minimum_cut` answers, and the preflow of its hint, if there is one, for `minimum_cut_above` to go on from.
+/// Returns the result of `minimum_cut`, and the preflow of its hint, if there is one, from which `minimum_cut_above` can
+/// resume.
 pub fn minimum_cut_and_preflow<N: FlowNetwork>(
     alloc: Global,
     net: &N,
@@ -320,7 +322,7 @@ pub fn minimum_cut_and_preflow<N: FlowNetwork>(
     minimum_cut_and_preflow_watched(alloc, net, &mut Silent)
 }
 
-/// The same, where a watch is told as by `minimum_cut_watched`.
+/// Returns the same, with a progress callback as for `minimum_cut_watched`.
 pub fn minimum_cut_and_preflow_watched<N: FlowNetwork, W: Watch>(
     alloc: Global,
     net: &N,

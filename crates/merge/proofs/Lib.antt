@@ -1,3 +1,2 @@
 pub mod Distinct
 pub mod Indices
-pub mod Orders

@@ -1,31 +1,14 @@
--- What holds of the distinct points of rows.
+-- Properties of the distinct points of rows.
 --
---   IsMergeOf rows points   the points are distinct, they are the rows', and stand in the order of their first rows
---   PointsAreMerged         the distinct points of rows are so
---   MergedPointsAreOne      and no other list is
---   StandsAt points p       a point stands at its index
---   EachRowHasAnIndex       each row's point stands at its index among the distinct points
+--   StandsAt points p       a point is at its index
+--   EachRowHasAnIndex       each row's point is at its index among the distinct points
 --   MergedPointsAreFew      there are no more distinct points than rows
---   MergedPointsAreWithin   no coordinate of a distinct point is over what none of a row's point is over
-use Rattle.std.specs.Prelude.{ℕ, ◌≡◌, ◌≢◌, ◌<◌, ◌≤◌, Some, List, length, slice_get, All, AllPairs, Contains}
+--   MergedPointsAreWithin   no coordinate of a distinct point exceeds a bound that holds for all rows' points
+use Rattle.std.specs.Prelude.{ℕ, ◌≡◌, ◌<◌, ◌≤◌, Some, List, length, slice_get, All}
 use Rattle.geo_sign.specs.Point.{Point, IsWithin}
 use Rattle.merge.specs.Merging.{distinct_points, index_among}
 
--- the points are distinct, each is a row's, each row's is among them, and their first rows rise
-pub record IsMergeOf (rows points : List Point) : Type 0 where
-  pub distinct : AllPairs (λ p q. p ≢ q) points
-  pub from_rows : All (Contains rows) points
-  pub each_row : All (Contains points) rows
-  pub in_order : AllPairs (λ p q. index_among rows p < index_among rows q) points
-
-abbrev pub PointsAreMerged : Type 0
-PointsAreMerged = (rows : List Point) → IsMergeOf rows (distinct_points rows)
-
--- a list that is so is the list of the distinct points
-abbrev pub MergedPointsAreOne : Type 0
-MergedPointsAreOne = (rows points : List Point) → IsMergeOf rows points → points ≡ distinct_points rows
-
--- the point is in the list, and stands at its index
+-- the point is in the list, at its index
 abbrev pub StandsAt : List Point → Point → Type 0
 StandsAt points p = (index_among points p < length points) × (slice_get points (index_among points p) ≡ Some p)
 

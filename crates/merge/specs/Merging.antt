@@ -1,22 +1,22 @@
--- Points that stand in several rows, once each.
+-- Points that occur in several rows, once each.
 --
---   is_same_point a b            the two points are one
+--   is_same_point a b            the two points are equal
 --   distinct_points rows   the rows' points, once each, in the order of their first rows
---   index_among points p   the index of a point in a list: the first at which it stands
+--   index_among points p   the first index of a point in a list
 use Rattle.std.specs.Prelude.{ℕ, ◌&&◌, not, Bool, List, [], ◌∷◌, filter}
 use Rattle.std.specs.List.{position_or_len}
 use Rattle.std.specs.Ordering.{int_eq}
 use Rattle.geo_sign.specs.Point.{Point}
 
--- the two points are one
+-- the two points are equal
 abbrev pub is_same_point : Point → Point → Bool
 is_same_point a b = int_eq a.x b.x && int_eq a.y b.y && int_eq a.z b.z
 
--- the rows' points, once each: the first row's, and then the other ones of the rows behind it
+-- the rows' points, once each: the first row's, and then the distinct points of the other rows that differ from it
 abbrev pub distinct_points : List Point → List Point
 distinct_points [] = []
 distinct_points (p ∷ rest) = p ∷ filter (λ q. not (is_same_point p q)) (distinct_points rest)
 
--- the first index at which a point stands in a list, and the list's length where it is not there
+-- the first index of a point in a list, or the list's length if it is not there
 abbrev pub index_among : List Point → Point → ℕ
 index_among points p = position_or_len (is_same_point p) points

@@ -1,15 +1,15 @@
-//! Points that stand in several rows, once each, and the index of each row's point among them.
+//! Merges equal points of rows, and gives the index of each row's point among the distinct points.
 //!
-//! What the distinct points of rows are stands in `specs/Merging`, and in plain words in `specs/Laws`. `merging` finds them with one
-//! look-up a row. The crate stands on `geo_sign`, which holds points, and on the kit's `indexmap`, a set in order of insertion.
+//! `specs/Merging` defines the distinct points of rows. `merging` finds them with one look-up a row. The crate depends on `geo_sign`
+//! (points) and on the kit's `indexmap`, a set in order of insertion.
 #![tactic(auto)]
 
 mod laws;
 mod merging;
 
-pub use laws::{each_row_has_its_point, points_are_merged};
+pub use laws::each_row_has_its_point;
 pub use merging::{Merged, merge};
 use std::alloc::AllocError;
 
-/// Want of memory: the one answer that any input may get.
+/// Out of memory: the one error that any input may cause.
 pub type NoMemory = AllocError;

@@ -1,4 +1,4 @@
-//! Merging: each row's point is looked up among those of the rows before it. It stands on `indexmap`'s set.
+//! Merging: each row's point is looked up among those of the rows before it. Depends on `indexmap`'s set.
 
 ghost use Rattle.std.specs.Prelude.{◌≡◌, ◌^◌, ◌<◌, IfOk, length, map};
 ghost use Rattle.merge.specs.Merging.{distinct_points, index_among};
@@ -8,7 +8,7 @@ use geo_sign::Point;
 use indexmap::IndexSet;
 use std::alloc::Global;
 
-/// The distinct points of rows, and where each row's point is among them.
+/// The distinct points of rows, and the index of each row's point.
 #[derive(Debug, Drop)]
 pub struct Merged {
     /// The distinct points in the order of their first rows, in scaled whole units.
@@ -17,9 +17,9 @@ pub struct Merged {
     pub of_row: Vec<u32>,
 }
 
-/// The distinct points of the rows in the order of their first rows, and the index of each row's point among them.
+/// Returns the distinct points of the rows in the order of their first rows, and the index of each row's point among them.
 ///
-/// There are fewer than 2^32 rows, so that each index fits. The only error is want of memory.
+/// There are fewer than 2^32 rows, so that each index fits. The only error is out of memory.
 pub fn merge(alloc: Global, points: &[Point]) -> Result<Merged, NoMemory>
     requires { length points.now < 2 ^ 32 }
     ensures points { IfOk result (λ merged. merged.points.items ≡ distinct_points points.now) }

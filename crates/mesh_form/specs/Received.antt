@@ -1,16 +1,16 @@
--- What a form of a mesh has received.
+-- The state of a mesh writer.
 --
 --   Received             its stage, the numbers of points and faces due, the points and faces received
---   fresh, IsFresh       nothing was received, and no numbers are known
---   TakesPoint r         a point may come: begun, and fewer points than are due
---   TakesFace f r        the face may come: begun, all points there, fewer faces than are due
---   HasAllDue r          begun, and all that is due was received
---   begun, with_point, with_face, with_end   what the calls of a form make of it
---   HasPoints k r points, HasFaces k r points faces   begun, so many of the points and no faces; all points and so many faces
+--   fresh, IsFresh       nothing was received, and no numbers are due
+--   TakesPoint r         a point may follow: begun, and fewer points than are due
+--   TakesFace f r        the face may follow: begun, all points received, fewer faces than are due
+--   HasAllDue r          begun, and everything that is due was received
+--   begun, with_point, with_face, with_end   the effect of the calls of a writer
+--   HasPoints k r points, HasFaces k r points faces   begun, k of the points and no faces; all points and k faces
 --   HasAll r points faces      ended, with exactly these points and faces
---   HasPrefix r points faces   a front of the points, and behind all of them a front of the faces; not ended
---   HasFront r points faces    such a front, or all of it
---   IsReceived           what a receipt keeps
+--   HasPrefix r points faces   a prefix of the points, and after all of them a prefix of the faces; not ended
+--   HasFront r points faces    such a prefix, or all of it
+--   IsReceived           the invariant of a `Receipt`
 --   once_ended stage t   the text t at the stage Ended, else nothing
 use Rattle.std.specs.Prelude.{ℕ, ◌≡◌, ◌≢◌, ◌<◌, ◌≤◌, ◌^◌, ◌⊎◌, List, [], ◌∷◌, ◌++◌, length, take, All}
 use Rattle.geo_sign.specs.Point.{Point}
@@ -18,7 +18,7 @@ use Rattle.mesh_ply.specs.Meshes.{IsFace}
 use Rattle.mesh_form.specs.declared.stage.Stage.{Stage}
 use Rattle.mesh_form.specs.declared.stage.Stage.TheVariants.{Fresh, Begun, Ended}
 
--- what a form has received
+-- what a writer has received
 pub record Received : Type 0 where
   pub stage : Stage
   pub points_due : ℕ
@@ -36,19 +36,19 @@ pub record IsFresh (r : Received) : Type 0 where
   pub no_points : r.points ≡ []
   pub no_faces : r.faces ≡ []
 
--- a point may come
+-- a point may follow
 pub record TakesPoint (r : Received) : Type 0 where
   pub stage : r.stage ≡ Begun
   pub due : length r.points < r.points_due
 
--- this face may come
+-- this face may follow
 pub record TakesFace (f : List ℕ) (r : Received) : Type 0 where
   pub stage : r.stage ≡ Begun
   pub points : length r.points ≡ r.points_due
   pub due : length r.faces < r.faces_due
   pub face : IsFace (length r.points) f
 
--- all that is due was received
+-- everything that is due was received
 pub record HasAllDue (r : Received) : Type 0 where
   pub stage : r.stage ≡ Begun
   pub points : length r.points ≡ r.points_due
@@ -58,17 +58,17 @@ pub record HasAllDue (r : Received) : Type 0 where
 abbrev pub begun : (n m : ℕ) → Received → Received
 begun n m r = record { stage = Begun; points_due = n; faces_due = m; points = r.points; faces = r.faces }
 
--- one point more
+-- one more point
 abbrev pub with_point : Point → Received → Received
 with_point p r =
     record { stage = r.stage; points_due = r.points_due; faces_due = r.faces_due; points = r.points ++ p ∷ []; faces = r.faces }
 
--- one face more
+-- one more face
 abbrev pub with_face : List ℕ → Received → Received
 with_face f r =
     record { stage = r.stage; points_due = r.points_due; faces_due = r.faces_due; points = r.points; faces = r.faces ++ f ∷ [] }
 
--- all is received
+-- everything is received
 abbrev pub with_end : Received → Received
 with_end r = record { stage = Ended; points_due = r.points_due; faces_due = r.faces_due; points = r.points; faces = r.faces }
 
@@ -97,18 +97,18 @@ pub record HasAll (r : Received) (points : List Point) (faces : List (List ℕ))
   pub points_due : r.points_due ≡ length points
   pub faces_due : r.faces_due ≡ length faces
 
--- a front of the points, and a front of the faces behind all points; not ended
+-- a prefix of the points, and a prefix of the faces after all points; not ended
 pub record HasPrefix (r : Received) (points : List Point) (faces : List (List ℕ)) : Type 0 where
   pub stage : r.stage ≢ Ended
   pub front_points : r.points ≡ take (length r.points) points
   pub front_faces : r.faces ≡ take (length r.faces) faces
   pub in_turn : 0 < length r.faces → r.points ≡ points
 
--- a front of the mesh, the whole included
+-- a prefix of the mesh, possibly all of it
 abbrev pub HasFront : Received → List Point → List (List ℕ) → Type 0
 HasFront r points faces = HasPrefix r points faces ⊎ HasAll r points faces
 
--- what a receipt keeps: numbers of 32 bits, no more than is due, faces among the points that are due
+-- the invariant of a `Receipt`: 32-bit numbers, no more than is due, faces among the points that are due
 pub record IsReceived (points_due faces_due : ℕ) (points : List Point) (faces : List (List ℕ)) : Type 0 where
   pub few_points : points_due < 2 ^ 32
   pub few_faces : faces_due < 2 ^ 32
@@ -116,7 +116,7 @@ pub record IsReceived (points_due faces_due : ℕ) (points : List Point) (faces 
   pub some_faces : length faces ≤ faces_due
   pub each : All (IsFace points_due) faces
 
--- the text of an ended form, before which there is none
+-- the text of a writer that has ended, before which there is none
 abbrev pub once_ended : Stage → List ℕ → List ℕ
 once_ended Fresh text = []
 once_ended Begun text = []

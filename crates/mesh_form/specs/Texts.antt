@@ -1,10 +1,10 @@
--- The texts of OFF and of Wavefront OBJ, each line ended by a line feed. That of PLY is `mesh_text`.
+-- The texts of OFF and of Wavefront OBJ, each line ended by a line feed. For PLY see `mesh_text`.
 --
 --   off_head, off_rest, v_word, f_word   the fixed parts of their lines
 --   off_counts n m          the line `n m 0`
 --   off_text points faces   OFF: its name, the counts, a line for each point, a line `3 a b c` for each face
 --   obj_vertex_line p       `v x y z`
---   triangle_line f         `f a b c`, each number one higher, since OBJ counts from 1
+--   triangle_line f         `f a b c`, each number increased by one, since OBJ counts from 1
 --   obj_text points faces   OBJ: the lines of the points and then of the faces
 use Rattle.std.specs.Prelude.{ℕ, ◌+◌, List, ◌++◌, length, codes, map}
 use Rattle.std.specs.List.{flat_map}

@@ -1,4 +1,4 @@
-//! A mesh handed to a form.
+//! Passes a mesh to a writer.
 ghost use Rattle.std.specs.Prelude.{◌≡◌, ℕ, length, map, All, OnOk, OnErr};
 ghost use Rattle.mesh_ply.specs.Meshes.{IsFace, IsMesh};
 ghost use Rattle.mesh_form.specs.Received.{IsFresh, TakesPoint, TakesFace, HasAllDue, HasPoints, HasFaces, HasPrefix, HasAll, HasFront, begun, with_point, with_face, with_end};
@@ -7,7 +7,7 @@ use crate::form::Form;
 use geo_sign::Point;
 use mesh_ply::{Mesh, NoMemory};
 
-// The calls of a boxed form, one by one: what each says of the form in the box.
+// The calls of a boxed writer, one by one, with the effect on the writer in the box.
 
 fn begin(form: &mut Box<dyn Form>, points: u32, faces: u32) -> Result<(), NoMemory>
     requires { IsFresh (received form.old) }
@@ -45,7 +45,7 @@ fn end(form: &mut Box<dyn Form>) -> Result<(), NoMemory>
     form.end()
 }
 
-/// All the points, to a form that has begun.
+/// Passes all points to a writer that has begun.
 fn hand_points(form: &mut Box<dyn Form>, points: &[Point]) -> Result<(), NoMemory>
     requires { HasPoints 0 (received form.old) points.now }
     ensures all { OnOk result (HasPoints (length points.now) (received form.new) points.now) }
@@ -59,7 +59,7 @@ fn hand_points(form: &mut Box<dyn Form>, points: &[Point]) -> Result<(), NoMemor
     Ok(())
 }
 
-/// All the faces, to a form that has all points.
+/// Passes all faces to a writer that has all points.
 fn hand_faces(
     form: &mut Box<dyn Form>,
     points: &[Point],
@@ -77,9 +77,9 @@ fn hand_faces(
     Ok(())
 }
 
-/// Hands a valid mesh to a fresh form: its points and then its faces, in order, once each.
+/// Passes a valid mesh to a fresh writer: its points and then its faces, in order, once each.
 ///
-/// After `NoMemory` the form has received a prefix of them, and is not ended.
+/// After `NoMemory` the writer has received a prefix of them, and has not ended.
 pub fn drive(form: &mut Box<dyn Form>, mesh: &Mesh) -> Result<(), NoMemory>
     requires fresh { IsFresh (received form.old) }
     requires valid { IsMesh mesh.now.points.items mesh.now.faces.items }
@@ -94,9 +94,9 @@ pub fn drive(form: &mut Box<dyn Form>, mesh: &Mesh) -> Result<(), NoMemory>
     Ok(())
 }
 
-/// Hands a valid mesh to each of these fresh forms, in order.
+/// Passes a valid mesh to each of these fresh writers, in order.
 ///
-/// After `NoMemory` each has received a front of it, the whole included.
+/// After `NoMemory` each has received a prefix of it, possibly all of it.
 pub fn drive_all(forms: &mut [Box<dyn Form>], mesh: &Mesh) -> Result<(), NoMemory>
     requires fresh { All IsFresh (map (λ form. received form) forms.old) }
     requires valid { IsMesh mesh.now.points.items mesh.now.faces.items }

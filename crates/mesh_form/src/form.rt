@@ -1,8 +1,8 @@
-//! What a form of a mesh is.
+//! The trait of mesh writers.
 //!
-//! A form is seen as what it has received, one `Received`: its stage, the numbers of points and faces that are due, and
-//! the points and faces themselves. Each call is one equation on the whole of it, so what its contract does not name
-//! stays as it was.
+//! Contracts see a writer as what it has received, one `Received`: its stage, the numbers of points and faces that are due, and
+//! the points and faces themselves. Each call is one equation on all of this, so what its contract does not name does not
+//! change.
 ghost use Rattle.std.specs.Prelude.{◌≡◌, ℕ, List, OnOk, OnErr};
 ghost use Rattle.mesh_form.specs.Received.{Received, IsFresh, TakesPoint, TakesFace, HasAllDue, begun, with_point, with_face, with_end};
 ghost use Rattle.mesh_form.specs.declared.stage.Stage.TheVariants.{Ended};
@@ -10,29 +10,29 @@ ghost use Rattle.mesh_form.specs.declared.stage.Stage.TheVariants.{Ended};
 use geo_sign::Point;
 use mesh_ply::NoMemory;
 
-/// A form of a mesh: points first, then faces, and a text in the end.
+/// A mesh writer: receives points first, then faces, and in the end has a text.
 ///
-/// A call that answers `Ok` does what its clause says. After `NoMemory` the stage, the numbers due and what was received
-/// are as before. A form keeps the allocator that it was made with.
+/// A call that returns `Ok` has the stated effect. After `NoMemory` the stage, the numbers due and what was received are
+/// unchanged. A writer keeps the allocator with which it was made.
 pub trait Form: Drop {
     ghost received: { Self → Received };
 
     ghost text_of: { Self → List ℕ };
 
-    /// Begins a mesh of so many points and faces. Nothing was received yet.
+    /// Begins a mesh with these numbers of points and faces. Nothing was received yet.
     fn begin(&mut self, points: u32, faces: u32) -> Result<(), NoMemory>
         requires { IsFresh (received self.old) }
         ensures begun { OnOk result (received self.new ≡ begun points faces (received self.old)) }
         ensures kept { OnErr result (received self.new ≡ received self.old) };
 
-    /// Takes the next point. Fewer were received than are due.
+    /// Receives the next point. Fewer were received than are due.
     fn vertex(&mut self, point: Point) -> Result<(), NoMemory>
         requires { TakesPoint (received self.old) }
         ensures taken { OnOk result (received self.new ≡ with_point point (received self.old)) }
         ensures kept { OnErr result (received self.new ≡ received self.old) };
 
-    /// Takes the next face: three distinct places among the points, the smallest first. All points were received, and
-    /// fewer faces than are due.
+    /// Receives the next face: three distinct indices of points, the smallest first. All points were received, and fewer faces
+    /// than are due.
     fn face(&mut self, face: [u32; 3]) -> Result<(), NoMemory>
         requires { TakesFace face (received self.old) }
         ensures taken { OnOk result (received self.new ≡ with_face face (received self.old)) }
@@ -44,7 +44,7 @@ pub trait Form: Drop {
         ensures ended { OnOk result (received self.new ≡ with_end (received self.old)) }
         ensures kept { OnErr result (received self.new ≡ received self.old) };
 
-    /// The text of an ended form.
+    /// Returns the text of a writer that has ended.
     fn text(&self) -> &[u8]
         requires { (received self.now).stage ≡ Ended }
         ensures { result.now ≡ text_of self.now };

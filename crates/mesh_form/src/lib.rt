@@ -1,11 +1,11 @@
-//! Forms in which a mesh leaves the program, handed in by the caller.
+//! Mesh writers: output formats for meshes, passed by the caller.
 //!
-//! A `Form` is handed a mesh's points and then its faces, one at a time, and has a text in the end. `drive` hands it a
-//! mesh. Three forms stand here, each over the `TextForm` of its `FileFormat`: the mesh text of `mesh_ply` (`PlyForm`), OFF
-//! (`OffForm`) and Wavefront OBJ (`ObjForm`). A caller's own form needs no change here: one whose text is printed from
-//! the whole mesh implements `FileFormat`; any other implements `Form`, and may keep what it receives in a `Receipt`.
+//! A `Form` receives a mesh's points and then its faces, one at a time, and has a text in the end. `drive` passes a mesh to it.
+//! This crate has three writers, each the `TextForm` of a `FileFormat`: the mesh text of `mesh_ply` (`PlyForm`), OFF
+//! (`OffForm`) and Wavefront OBJ (`ObjForm`). A caller's own writer needs no change here: one whose text is printed from the
+//! whole mesh implements `FileFormat`; any other implements `Form`, and may keep what it receives in a `Receipt`.
 //!
-//! It stands on `mesh_ply` (meshes and their text), and through it on `line_text` and `geo_sign`.
+//! Depends on `mesh_ply` (meshes and their text), and through it on `line_text` and `geo_sign`.
 #![tactic(auto)]
 
 mod driving;

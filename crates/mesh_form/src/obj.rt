@@ -1,4 +1,4 @@
-//! Wavefront OBJ as a form.
+//! Wavefront OBJ as a writer.
 ghost use Rattle.std.specs.Prelude.{◌≡◌, ◌++◌, [], ◌∷◌, OnOk, OnErr, length, take};
 ghost use Rattle.std.specs.List.{flat_map};
 ghost use Rattle.mesh_form.specs.Texts.{v_word, f_word, obj_vertex_line, triangle_line, obj_text};
@@ -33,7 +33,7 @@ fn push_vertex(out: &mut Vec<u8>, point: Point) -> Result<(), NoMemory>
     push_point(out, point)
 }
 
-/// The line of a face with these three places, which OBJ counts from 1.
+/// Appends the line of a face with these three indices, which OBJ counts from 1.
 fn push_places(out: &mut Vec<u8>, a: u32, b: u32, c: u32) -> Result<(), NoMemory>
     ensures ok { OnOk result (out.new.items ≡ out.old.items ++ triangle_line (a ∷ b ∷ c ∷ [])) }
     ensures kept { OnErr result (take (length out.old.items) out.new.items ≡ out.old.items) }
@@ -85,7 +85,7 @@ impl FileFormat for Obj {
     }
 }
 
-/// The form whose text is Wavefront OBJ. Contracts see it as what it has received.
+/// The writer whose text is Wavefront OBJ. Contracts see it as what it has received.
 #[derive(Drop)]
 pub struct ObjForm {
     form: TextForm<Obj>,
@@ -103,7 +103,7 @@ impl ObjForm {
     ghost use Rattle.std.specs.Prelude.{◌≡◌};
     ghost use Rattle.mesh_form.specs.Received.{fresh};
 
-    /// Returns a fresh form with nothing received. It takes no memory.
+    /// Returns a fresh writer. Allocates no memory.
     pub fn new(alloc: Global) -> ObjForm
         ensures { result ≡ fresh }
     {

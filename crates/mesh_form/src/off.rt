@@ -1,4 +1,4 @@
-//! OFF, the Object File Format of Geomview, as a form.
+//! OFF, the Object File Format of Geomview, as a writer.
 ghost use Rattle.std.specs.Prelude.{◌≡◌, ◌++◌, OnOk, OnErr, length, take};
 ghost use Rattle.mesh_form.specs.Texts.{off_head, off_rest, off_counts, off_text};
 
@@ -17,7 +17,7 @@ fn name_line() -> &'static [u8]
     b"OFF\n"
 }
 
-/// The number of edges, which is left uncounted.
+/// Returns the number of edges, which is not counted.
 #[tactic(auto, unfolding(crate::specs::Texts::off_rest))]
 fn no_edges() -> &'static [u8]
     ensures { result.now ≡ off_rest }
@@ -50,7 +50,7 @@ impl FileFormat for Off {
     }
 }
 
-/// The form whose text is OFF. Contracts see it as what it has received.
+/// The writer whose text is OFF. Contracts see it as what it has received.
 #[derive(Drop)]
 pub struct OffForm {
     form: TextForm<Off>,
@@ -68,7 +68,7 @@ impl OffForm {
     ghost use Rattle.std.specs.Prelude.{◌≡◌};
     ghost use Rattle.mesh_form.specs.Received.{fresh};
 
-    /// Returns a fresh form with nothing received. It takes no memory.
+    /// Returns a fresh writer. Allocates no memory.
     pub fn new(alloc: Global) -> OffForm
         ensures { result ≡ fresh }
     {

@@ -1,4 +1,4 @@
-//! The mesh text of `mesh_ply` as a form.
+//! The mesh text of `mesh_ply` as a writer.
 ghost use Rattle.mesh_ply.specs.Texts.{mesh_text};
 
 use crate::form::Form;
@@ -8,7 +8,7 @@ use mesh_ply::{Mesh, NoMemory, push_mesh};
 use std::alloc::Global;
 use std::marker::Model;
 
-/// The mesh text of `mesh_ply`: PLY 1.0 in its `ascii` form.
+/// The mesh text of `mesh_ply`: PLY 1.0 in its `ascii` format.
 pub struct Ply;
 
 impl FileFormat for Ply {
@@ -19,7 +19,7 @@ impl FileFormat for Ply {
     }
 }
 
-/// The form whose text is the mesh text of `mesh_ply`. Contracts see it as what it has received.
+/// The writer whose text is the mesh text of `mesh_ply`. Contracts see it as what it has received.
 #[derive(Drop)]
 pub struct PlyForm {
     form: TextForm<Ply>,
@@ -37,7 +37,7 @@ impl PlyForm {
     ghost use Rattle.std.specs.Prelude.{◌≡◌};
     ghost use Rattle.mesh_form.specs.Received.{fresh};
 
-    /// Returns a fresh form with nothing received. It takes no memory.
+    /// Returns a fresh writer. Allocates no memory.
     pub fn new(alloc: Global) -> PlyForm
         ensures { result ≡ fresh }
     {

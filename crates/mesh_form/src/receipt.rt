@@ -1,11 +1,11 @@
-//! What a form has received, kept.
+//! The mesh that a writer has received.
 use crate::stage::Stage;
 use geo_sign::Point;
 use mesh_ply::{Mesh, NoMemory};
 use std::alloc::Global;
 use std::marker::Model;
 
-/// What a form has received so far, as a form keeps it. Contracts see it as a `Received`.
+/// The mesh that a writer has received so far. Contracts see it as a `Received`.
 #[derive(Drop)]
 pub struct Receipt {
     stage: Stage,
@@ -29,7 +29,7 @@ impl Receipt {
     ghost use Rattle.mesh_ply.specs.Meshes.{IsMesh};
     ghost use Rattle.mesh_form.specs.Received.{IsFresh, TakesPoint, TakesFace, HasAllDue, fresh, begun, with_point, with_face, with_end};
 
-    /// Nothing received. It takes no memory.
+    /// Returns an empty one. Allocates no memory.
     pub fn new(alloc: Global) -> Receipt
         ensures { result ≡ fresh }
     {
@@ -44,7 +44,7 @@ impl Receipt {
         }
     }
 
-    /// So many points and faces are due.
+    /// Begins a mesh with these numbers of points and faces.
     pub fn begin(&mut self, points: u32, faces: u32)
         requires { IsFresh self.old }
         ensures { self.new ≡ begun points faces self.old }
@@ -54,7 +54,7 @@ impl Receipt {
         self.stage = Stage::Begun;
     }
 
-    /// One point more. After `NoMemory` it is as it was.
+    /// Appends a point. After `NoMemory` nothing has changed.
     pub fn vertex(&mut self, point: Point) -> Result<(), NoMemory>
         requires { TakesPoint self.old }
         ensures taken { OnOk result (self.new ≡ with_point point self.old) }
@@ -64,7 +64,7 @@ impl Receipt {
         Ok(())
     }
 
-    /// One face more. After `NoMemory` it is as it was.
+    /// Appends a face. After `NoMemory` nothing has changed.
     pub fn face(&mut self, face: [u32; 3]) -> Result<(), NoMemory>
         requires { TakesFace face self.old }
         ensures taken { OnOk result (self.new ≡ with_face face self.old) }
@@ -74,7 +74,7 @@ impl Receipt {
         Ok(())
     }
 
-    /// All is received.
+    /// Ends the mesh.
     pub fn end(&mut self)
         requires { HasAllDue self.old }
         ensures { self.new ≡ with_end self.old }
@@ -82,7 +82,7 @@ impl Receipt {
         self.stage = Stage::Ended;
     }
 
-    /// The points and faces received, a valid mesh once all are.
+    /// Returns the points and faces received, a valid mesh once it is complete.
     pub fn mesh(&self) -> &Mesh
         ensures points { result.now.points.items ≡ self.now.points }
         ensures faces { result.now.faces.items ≡ self.now.faces }

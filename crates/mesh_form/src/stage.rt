@@ -1,12 +1,12 @@
-//! How far a form is.
+//! The stage of a writer.
 
-/// How far a form is with the mesh that it receives.
+/// How much of its mesh a writer has received.
 #[derive(Clone, Copy, Debug, PartialEq, Eq)]
 pub enum Stage {
-    /// Nothing was handed in, and no numbers are due.
+    /// Nothing was passed, and no numbers are due.
     Fresh,
-    /// The numbers due are known; points and then faces are handed in.
+    /// The numbers due are known; points and then faces are passed.
     Begun,
-    /// All was received, and the text is there.
+    /// Everything was received, and the text is complete.
     Ended,
 }

@@ -1,4 +1,4 @@
-//! A form whose text is that of a file format.
+//! A writer whose text is that of a file format.
 ghost use Rattle.std.specs.Prelude.{◌≡◌, ◌++◌, ℕ, List, OnOk, OnErr, length, take};
 ghost use Rattle.geo_sign.specs.Point.{Point};
 ghost use Rattle.mesh_ply.specs.Meshes.{IsMesh};
@@ -10,21 +10,21 @@ use mesh_ply::{Mesh, NoMemory};
 use std::alloc::Global;
 use std::marker::{Model, PhantomData};
 
-/// A file format, by the text that a mesh has in it.
+/// A file format, given by the text of a mesh in it.
 pub trait FileFormat {
     // The text of these points and faces.
     ghost text: { List Point → List (List ℕ) → List ℕ };
 
-    /// Adds the text of a valid mesh at the end of `out`.
+    /// Appends the text of a valid mesh to `out`.
     ///
-    /// After `NoMemory` the bytes that `out` held are still at its front, and more may follow.
+    /// After `NoMemory` the previous bytes of `out` are still at its start, and more may follow.
     fn push_text(out: &mut Vec<u8>, mesh: &Mesh) -> Result<(), NoMemory>
         requires { IsMesh mesh.now.points.items mesh.now.faces.items }
         ensures ok { OnOk result (out.new.items ≡ out.old.items ++ text mesh.now.points.items mesh.now.faces.items) }
         ensures kept { OnErr result (take (length out.old.items) out.new.items ≡ out.old.items) };
 }
 
-/// The text of a mesh at the end of `out`; after `NoMemory` that is as it was.
+/// Appends the text of a mesh to `out`; after `NoMemory` that is unchanged.
 fn push_whole<F: FileFormat>(out: &mut Vec<u8>, mesh: &Mesh) -> Result<(), NoMemory>
     requires { IsMesh mesh.now.points.items mesh.now.faces.items }
     ensures printed { OnOk result (out.new.items ≡ out.old.items ++ F.text mesh.now.points.items mesh.now.faces.items) }
@@ -38,7 +38,7 @@ fn push_whole<F: FileFormat>(out: &mut Vec<u8>, mesh: &Mesh) -> Result<(), NoMem
     pushed
 }
 
-/// The form whose text is that of a file format. Contracts see it as what it has received.
+/// The writer whose text is that of a file format. Contracts see it as what it has received.
 #[derive(Drop)]
 pub struct TextForm<F: FileFormat> {
     receipt: Receipt,
@@ -61,7 +61,7 @@ impl<F: FileFormat> TextForm<F> {
     ghost use Rattle.std.specs.Prelude.{◌≡◌};
     ghost use Rattle.mesh_form.specs.Received.{fresh};
 
-    /// A fresh form with nothing received. It takes no memory.
+    /// Returns a fresh writer. Allocates no memory.
     pub fn new(alloc: Global) -> TextForm<F>
         ensures { result ≡ fresh }
     {

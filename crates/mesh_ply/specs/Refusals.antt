@@ -1,10 +1,10 @@
--- Why a text is no mesh: the first refusal in line order.
+-- Why a text is not a mesh: the first error in line order.
 --
---   mesh_refusal l        the refusal of a line as one of a mesh
+--   mesh_refusal l        the error of a line as one of a mesh
 --   AtFaces, AtPoints     from the first face on, from the first point on, at line 10
---   AtFaceCount           from line 4 on, behind the number of points
+--   AtFaceCount           from line 4 on, after the number of points
 --   AtMesh                the whole text, line by line
---   IsRefusedMesh text r  the text is refused so
+--   IsRefusedMesh text r  the text is rejected with this error
 use Rattle.std.specs.Prelude.{ℕ, ◌≡◌, ◌-◌, ◌^◌, min, None, List}
 use Rattle.geo_sign.specs.Point.{IsWithin}
 use Rattle.line_text.specs.declared.refusal.LineRefusal.{LineRefusal}
@@ -17,15 +17,15 @@ use Rattle.mesh_ply.specs.Texts.{ply_line, ascii_format_line, vertex_word, x_lin
 use Rattle.mesh_ply.specs.Texts.{point_line, face_line}
 use Rattle.geo_sign.specs.declared.point.TheConstants.{BOX_LIMIT}
 
--- The refusal of a line as one of a mesh: a line's number stays at the last number of 32 bits. No list of a mesh has an
--- order, so none is refused for it.
+-- The error of a line as one of a mesh: a line number stops at the maximum of 32 bits. No list of a mesh has an order, so none
+-- is rejected for it.
 abbrev pub mesh_refusal : LineRefusal → MeshRefusal
 mesh_refusal (lines.BadLine n) = BadLine (min n (2 ^ 32 - 1))
 mesh_refusal (lines.Order n) = BadLine (min n (2 ^ 32 - 1))
 mesh_refusal lines.Cut = MeshCut
 mesh_refusal lines.NoMemory = NoMemory
 
--- m faces among n points from line k on, and nothing behind them
+-- m faces among n points from line k on, and nothing after them
 abbrev pub AtFaces : (n m k : ℕ) → List ℕ → LineRefusal → Type 0
 AtFaces n m k text r = AtRows (IsFace n) face_line None m k text r (λ _ rest. IsBehindEnd (line_after k m) rest r)
 
@@ -33,7 +33,7 @@ AtFaces n m k text r = AtRows (IsFace n) face_line None m k text r (λ _ rest. I
 abbrev pub AtPoints : (n m : ℕ) → List ℕ → LineRefusal → Type 0
 AtPoints n m text r = AtRows (IsWithin BOX_LIMIT) point_line None n 10 text r (λ _ rest. AtFaces n m (line_after 10 n) rest r)
 
--- the lines 4 to 9 behind the number n of points, and what follows
+-- the lines 4 to 9 after the number n of points, and the rest
 abbrev pub AtFaceCount : ℕ → List ℕ → LineRefusal → Type 0
 AtFaceCount n text r =
     AtWord x_line 4 text r (λ a.
@@ -52,6 +52,6 @@ AtMesh text r =
     AtNumber vertex_word 0 (2 ^ 32 - 1) 3 b r (λ n c.
     AtFaceCount n c r)))
 
--- the text is refused so: the first line, in order, that is cut, not of its form, or behind the end
+-- the text is rejected with this error: the first line, in order, that is truncated, invalid, or after the end
 abbrev pub IsRefusedMesh : List ℕ → MeshRefusal → Type 0
 IsRefusedMesh text r = (l : LineRefusal) × AtMesh text l × (r ≡ mesh_refusal l)

@@ -1,6 +1,6 @@
 -- Parts of the text of a mesh, as they are read one after another.
 --
---   text_behind_count                 the text behind the number of points
+--   text_behind_count                 the text after the number of points
 --   AreLinesOf n m text points faces  n points of the box and m faces among them, whose lines the text is
 use Rattle.std.specs.Prelude.{ℕ, ◌≡◌, List, ◌++◌, None, length}
 use Rattle.std.specs.List.{flat_map}
@@ -11,14 +11,14 @@ use Rattle.line_text.specs.Refusals.{AreCountedRows}
 use Rattle.mesh_ply.specs.Meshes.{IsFace}
 use Rattle.mesh_ply.specs.Texts.{x_line, y_line, z_line, face_word, list_line, header_end, point_line, face_line}
 
--- the text behind the number of points
+-- the text after the number of points
 abbrev pub text_behind_count : List Point → List (List ℕ) → List ℕ
 text_behind_count points faces =
     x_line ++ (y_line ++ (z_line
     ++ (counted face_word (length faces)
     ++ (list_line ++ (header_end ++ (flat_map point_line points ++ flat_map face_line faces))))))
 
--- so many points of the box and faces among them, whose lines are the text
+-- this number of points of the box and faces among them, whose lines are the text
 abbrev pub AreLinesOf : (n m : ℕ) (text : List ℕ) → List Point → List (List ℕ) → Type 0
 AreLinesOf n m text points faces =
     AreCountedRows (IsWithin BOX_LIMIT) None n points × AreCountedRows (IsFace n) None m faces

@@ -1,12 +1,12 @@
--- The text of a mesh: PLY 1.0 in its `ascii` form, with whole coordinates.
+-- The text of a mesh: PLY 1.0 in its `ascii` format, with integer coordinates.
 --
---   ply_line, .., header_end          the fixed lines of the header, and the words of its two counts
---   vertex_head, face_head, head_end  the header round its two counts
+--   ply_line, .., header_end          the fixed lines of the header, and the prefixes of its two counts
+--   vertex_head, face_head, head_end  the header around its two counts
 --   IsCoordinate z                    a coordinate of the box
 --   point_line p                      the line of a point
 --   face_line f                       the line of a face
 --   mesh_text points faces            the text of a mesh
---   IsPrinted points faces            a mesh that has a text: valid, its points in the box
+--   IsPrinted points faces            a mesh that has a text: valid, with its points in the box
 use Rattle.std.specs.Prelude.{ℕ, ◌≤◌, ℤ, unsigned_abs, List, [], ◌∷◌, ◌++◌, All, length, codes}
 use Rattle.std.specs.List.{flat_map}
 use Rattle.geo_sign.specs.Point.{Point, IsWithin}
@@ -15,11 +15,11 @@ use Rattle.line_text.specs.Facets.{facet_fields}
 use Rattle.mesh_ply.specs.Meshes.{IsMesh}
 use Rattle.geo_sign.specs.declared.point.TheConstants.{BOX_LIMIT}
 
--- by which a file is told to be PLY
+-- the signature of a PLY file
 unfoldable pub ply_line : List ℕ
 ply_line = codes "ply\n"
 
--- numbers stand as decimal text
+-- numbers are decimal text
 unfoldable pub ascii_format_line : List ℕ
 ascii_format_line = codes "format ascii 1.0\n"
 
@@ -27,7 +27,7 @@ ascii_format_line = codes "format ascii 1.0\n"
 unfoldable pub vertex_word : List ℕ
 vertex_word = codes "element vertex "
 
--- a coordinate is a whole number that fits 32 bits, in scaled units; x is the first of a point's line
+-- a coordinate is a 32-bit integer, in scaled units; x is the first of a point's line
 unfoldable pub x_line : List ℕ
 x_line = codes "property int x\n"
 
@@ -81,7 +81,7 @@ mesh_text points faces =
     counted vertex_head (length points)
     ++ (counted face_head (length faces) ++ (head_end ++ (flat_map point_line points ++ flat_map face_line faces)))
 
--- a valid mesh whose points are points of the box
+-- a valid mesh with its points in the box
 pub record IsPrinted (points : List Point) (faces : List (List ℕ)) : Type 0 where
   pub valid : IsMesh points faces
   pub boxed : All (IsWithin BOX_LIMIT) points

@@ -1,8 +1,8 @@
-//! The mesh of a list of directed facets among numbered points: the surface between
-//! outside and inside cells, as Labatut, Pons and Keriven (2007) take it from the labels.
+//! The mesh of a list of directed facets among numbered points: the surface between outside and inside cells, as extracted from
+//! the labels by Labatut, Pons and Keriven (2007).
 //!
-//! The vertices that facets have are marked once and numbered by a running count, so the
-//! work is linear in the numbers of points and of facets. It stands on `geo_sign`'s points.
+//! The vertices of facets are marked once and numbered by a running count, so the work is linear in the numbers of points and
+//! of facets. Depends on `geo_sign`'s points.
 
 ghost use Rattle.std.specs.Prelude.{◌≡◌, ◌<◌, ◌^◌, ◌||◌, ℕ, false, IfOk, All, AllPairs, length, map, slice_index, slice_index_or};
 ghost use Rattle.geo_sign.specs.Rising.{IsBefore};
@@ -24,7 +24,7 @@ fn mark_facet(marks: &mut [bool], facet: [u32; 3])
     marks[c as usize] = true;
 }
 
-/// One mark for each of `count` vertices: whether some facet has it.
+/// Returns one mark for each of `count` vertices: whether some facet has it.
 fn vertex_marks(alloc: Global, count: usize, facets: &[[u32; 3]]) -> Result<Vec<bool>, NoMemory>
     requires { All (IsFace count) facets.now }
     ensures { IfOk result (λ marks. marks.items ≡ map (is_used facets.now) (below count)) }
@@ -60,7 +60,7 @@ fn numbering_of(alloc: Global, places: &[Point], marks: &[bool]) -> Result<Numbe
     Ok(Numbering { points, numbers })
 }
 
-/// A facet with its vertices' new numbers.
+/// Returns a facet with its vertices' new numbers.
 fn face_of(numbers: &[u32], facet: [u32; 3]) -> [u32; 3]
     requires { IsFace (length numbers.now) facet }
     ensures { result ≡ map (slice_index numbers.now) facet }
@@ -84,14 +84,13 @@ fn faces_of(alloc: Global, numbers: &[u32], facets: &[[u32; 3]]) -> Result<Vec<[
     Ok(faces)
 }
 
-/// The mesh of directed facets among numbered points, where vertex `v` is `places[v]`.
+/// Returns the mesh of directed facets among numbered points; vertex `v` is `places[v]`.
 ///
-/// Points that no facet has are left out, and the others are numbered from 0 in the order
-/// of their vertex numbers. The facets, each with three distinct vertices and the smallest
-/// number first, stand in rising order; the faces are the same facets in the same order,
-/// renumbered, so they too have their smallest number first and rise.
+/// Points without a facet are left out, and the others are numbered from 0 in the order of their vertex numbers. The facets,
+/// each with three distinct vertices and the smallest number first, must be in ascending order; the faces are the same facets
+/// in the same order, renumbered, so they too have their smallest number first and ascend.
 ///
-/// `NoMemory` also where there are more than 2^32 - 1 facets, which no valid mesh has.
+/// Returns `NoMemory` also if there are more than 2^32 - 1 facets, which no valid mesh has.
 pub fn mesh_of_facets(
     alloc: Global,
     places: &[Point],

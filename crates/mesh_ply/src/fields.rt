@@ -1,5 +1,4 @@
-//! The lines of a mesh's points and faces at the front of a text, read. It stands on
-//! `line_text` and on the points of `geo_sign`.
+//! Reads the lines of a mesh's points and faces at the start of a text. Depends on `line_text` and on the points of `geo_sign`.
 
 ghost use Rattle.std.specs.Prelude.{◌≡◌, ◌<◌, ◌^◌, ◌++◌, IfSome, IfNone};
 ghost use Rattle.std.specs.Bool.{OnTrue, OnFalse};
@@ -13,7 +12,7 @@ ghost use Rattle.geo_sign.specs.declared.point.TheConstants.{BOX_LIMIT};
 use geo_sign::{BOX_LIMIT, Point};
 use line_text::{behind, facet_first, signed_first};
 
-/// A coordinate of the box, and what stands behind its end.
+/// Returns a coordinate of the box, and the text after its end.
 fn coordinate_first(text: &[u8], end: u8) -> Option<(i64, &[u8])>
     requires { end < 45 }
     ensures some { IfSome result (λ read. IsCoordinate read.0 × (text.now ≡ signed_ended read.0 end ++ read.1.now)) }
@@ -22,7 +21,7 @@ fn coordinate_first(text: &[u8], end: u8) -> Option<(i64, &[u8])>
     signed_first(text, end, -(BOX_LIMIT as i64), BOX_LIMIT as i64)
 }
 
-/// The line of a point of the box.
+/// Returns the line of a point of the box.
 pub fn point_first(text: &[u8]) -> Option<(Point, &[u8])>
     ensures some { IfSome result (λ read. IsWithin BOX_LIMIT read.0 × (text.now ≡ point_line read.0 ++ read.1.now)) }
     ensures none { IfNone result (BeginsWithNone (IsWithin BOX_LIMIT) point_line text.now) }
@@ -34,7 +33,7 @@ pub fn point_first(text: &[u8]) -> Option<(Point, &[u8])>
     Some((point, rest))
 }
 
-/// Whether a facet's numbers are places among `count` points.
+/// Returns whether a facet's numbers are indices below `count`.
 fn is_among(facet: [u32; 3], count: u64) -> bool
     requires { IsFacetRow facet }
     ensures yes { OnTrue result (IsFace count facet) }
@@ -44,7 +43,7 @@ fn is_among(facet: [u32; 3], count: u64) -> bool
     u64::from(b) < count && u64::from(c) < count
 }
 
-/// The line of a face among `count` points.
+/// Returns the line of a face among `count` points.
 pub fn face_first(text: &[u8], count: u64) -> Option<([u32; 3], &[u8])>
     requires { count < 2 ^ 32 }
     ensures some { IfSome result (λ read. IsFace count read.0 × (text.now ≡ face_line read.0 ++ read.1.now)) }

@@ -1,13 +1,11 @@
-//! Triangle meshes and their text, a PLY file with whole coordinates.
+//! Triangle meshes and their text format, a PLY file with integer coordinates.
 //!
-//! A mesh is a list of points and a list of faces, each face three places in the list of
-//! points. Its order says which side is outside: seen from there, the three points turn
-//! counterclockwise. The text is the `ascii` form of PLY 1.0 (Greg Turk's description of the
-//! Polygon File Format), cut down to one spelling, so each valid mesh has exactly one text,
-//! and exactly these texts are read; of any other text the first refusal in line order is
-//! answered.
+//! A mesh is a list of points and a list of faces, each face three indices of points. Their order gives the outside: seen from
+//! there, the three points are counterclockwise. The text is PLY 1.0 in its `ascii` format (Greg Turk's description of the
+//! Polygon File Format), restricted to one canonical spelling, so each valid mesh has exactly one text, and exactly these texts
+//! are accepted; any other text gives its first error in line order.
 //!
-//! The crate stands on `geo_sign` (points) and `line_text` (numbers in lines, printed and read).
+//! The crate depends on `geo_sign` (points) and `line_text` (numbers in lines, printed and read).
 #![tactic(auto)]
 
 mod facets;

@@ -1,6 +1,5 @@
-//! A mesh read from its text. Exactly the texts that are printed are read; of any other text
-//! the first refusal in line order is answered. Nothing is reserved by a stated count, so
-//! time and memory are linear in the bytes. It stands on `line_text`.
+//! Reads a mesh from its text. Accepts exactly the texts that are printed; any other text gives its first error in line order.
+//! No memory is reserved by a stated count, so time and memory are linear in the bytes. Depends on `line_text`.
 
 ghost use Rattle.std.specs.Prelude.{◌≡◌, ◌<◌, ◌^◌, ◌++◌, ◌⊎◌, None, IfOk, IfErr, IsErr, MatchResult, length};
 ghost use Rattle.std.specs.List.{flat_map};
@@ -23,7 +22,7 @@ use geo_sign::Point;
 use line_text::{LineRefusal, number_line, refusal_of, word_line};
 use std::alloc::Global;
 
-/// The lines of so many points, from this line on.
+/// Reads the lines of this number of points, from this line on.
 fn read_points(
     alloc: Global,
     text: &[u8],
@@ -50,7 +49,7 @@ fn read_points(
     Ok((rows, rest))
 }
 
-/// The lines of so many faces among these many points, from this line on.
+/// Reads the lines of this number of faces among the points, from this line on.
 fn read_faces(
     alloc: Global,
     text: &[u8],
@@ -79,7 +78,7 @@ fn read_faces(
     Ok((rows, rest))
 }
 
-/// The points and faces from line 10 on, and nothing behind them.
+/// Reads the points and faces from line 10 on, and checks that nothing follows them.
 fn read_rows(alloc: Global, text: &[u8], points: u64, faces: u64) -> Result<Mesh, LineRefusal>
     requires { points < 2 ^ 32 }
     ensures ok { IfOk result (λ mesh. AreLinesOf points faces text.now mesh.points.items mesh.faces.items) }
@@ -97,7 +96,7 @@ fn read_rows(alloc: Global, text: &[u8], points: u64, faces: u64) -> Result<Mesh
     })
 }
 
-/// What stands behind the number of points, from line 4 on.
+/// Reads the text after the number of points, from line 4 on.
 fn read_from_face_count(alloc: Global, text: &[u8], points: u64) -> Result<Mesh, LineRefusal>
     requires { points < 2 ^ 32 }
     ensures ok { IfOk result (λ mesh. (length mesh.points.items ≡ points) × IsPrinted mesh.points.items mesh.faces.items × (text.now ≡ text_behind_count mesh.points.items mesh.faces.items)) }
@@ -112,7 +111,7 @@ fn read_from_face_count(alloc: Global, text: &[u8], points: u64) -> Result<Mesh,
     read_rows(alloc, rest, points, count)
 }
 
-/// The mesh, or the first refusal.
+/// Returns the mesh, or the first error.
 fn read_lines(alloc: Global, bytes: &[u8]) -> Result<Mesh, LineRefusal>
     ensures ok { IfOk result (λ mesh. IsPrinted mesh.points.items mesh.faces.items × (bytes.now ≡ mesh_text mesh.points.items mesh.faces.items)) }
     ensures refused { IfErr result (λ r. WithMemory r (AtMesh bytes.now r)) }
@@ -123,15 +122,13 @@ fn read_lines(alloc: Global, bytes: &[u8]) -> Result<Mesh, LineRefusal>
     read_from_face_count(alloc, rest, points)
 }
 
-/// The mesh whose text the bytes are.
+/// Returns the mesh whose text the bytes are.
 ///
-/// Ok exactly for the texts that [`push_mesh`](crate::push_mesh) writes. Otherwise the first
-/// refusal, line by line: `MeshCut` where the bytes end before the line feed of an expected
-/// line, `BadLine` where the line is not of the form that stands there, which includes any
-/// byte behind the last line, as a line of its own. A count is at most 2^32 - 1, a point is
-/// one of the box, and a face has three distinct places among the points, the smallest
-/// first. Lines are counted from 1, and a number that would pass the end of 32 bits stays
-/// there. `NoMemory` says nothing of the text.
+/// Succeeds exactly for the texts that [`push_mesh`](crate::push_mesh) writes. Any other text gives its first error, line by
+/// line: `MeshCut` if the bytes end before the line feed of an expected line, `BadLine` if the line is invalid, which includes
+/// any byte after the last line, as a line of its own. A count is at most 2^32 - 1, a point is in the box, and a face has three
+/// distinct indices of points, the smallest first. Lines are counted from 1, and a line number stops at the maximum of 32 bits.
+/// `NoMemory` says nothing about the text.
 pub fn read_mesh(alloc: Global, bytes: &[u8]) -> Result<Mesh, MeshRefusal>
     ensures ok { IfOk result (λ mesh. IsPrinted mesh.points.items mesh.faces.items × (bytes.now ≡ mesh_text mesh.points.items mesh.faces.items)) }
     ensures printed { WherePrinted bytes.now (λ points faces. MatchResult result (λ mesh. (mesh.points.items ≡ points) × (mesh.faces.items ≡ faces)) (λ r. r ≡ MeshRefusal.NoMemory)) }

@@ -1,4 +1,4 @@
-//! The text of a mesh: PLY 1.0 in its `ascii` form. It stands on `line_text`.
+//! The text of a mesh: PLY 1.0 in its `ascii` format. Depends on `line_text`.
 
 ghost use Rattle.std.specs.Prelude.{◌≡◌, ◌++◌, [], ◌∷◌, OnOk, OnErr, length, take};
 ghost use Rattle.std.specs.List.{flat_map};
@@ -11,7 +11,7 @@ use crate::{Mesh, NoMemory};
 use geo_sign::Point;
 use line_text::{push_counted, push_number, push_signed};
 
-/// Three coordinates in a line.
+/// Appends three coordinates as a line.
 fn push_coordinates(out: &mut Vec<u8>, x: i64, y: i64, z: i64) -> Result<(), NoMemory>
     ensures ok { OnOk result (out.new.items ≡ out.old.items ++ point_line (point x y z)) }
     ensures kept { OnErr result (take (length out.old.items) out.new.items ≡ out.old.items) }
@@ -22,9 +22,9 @@ fn push_coordinates(out: &mut Vec<u8>, x: i64, y: i64, z: i64) -> Result<(), NoM
     Ok(())
 }
 
-/// Adds the line `x y z` of a point at the end of `out`.
+/// Appends the line `x y z` of a point to `out`.
 ///
-/// After `NoMemory` the bytes that `out` held are still at its front, and more may follow.
+/// After `NoMemory` the previous bytes of `out` are still at its start, and more may follow.
 pub fn push_point(out: &mut Vec<u8>, point: Point) -> Result<(), NoMemory>
     ensures ok { OnOk result (out.new.items ≡ out.old.items ++ point_line point) }
     ensures kept { OnErr result (take (length out.old.items) out.new.items ≡ out.old.items) }
@@ -37,7 +37,7 @@ pub fn push_point(out: &mut Vec<u8>, point: Point) -> Result<(), NoMemory>
     )
 }
 
-/// The line of a face with these three places.
+/// Appends the line of a face with these three indices.
 fn push_places(out: &mut Vec<u8>, a: u32, b: u32, c: u32) -> Result<(), NoMemory>
     ensures ok { OnOk result (out.new.items ≡ out.old.items ++ face_line (a ∷ b ∷ c ∷ [])) }
     ensures kept { OnErr result (take (length out.old.items) out.new.items ≡ out.old.items) }
@@ -57,9 +57,9 @@ fn push_face(out: &mut Vec<u8>, face: [u32; 3]) -> Result<(), NoMemory>
     push_places(out, a, b, c)
 }
 
-/// Adds the lines of points at the end of `out`, in order.
+/// Appends the lines of points to `out`, in order.
 ///
-/// After `NoMemory` the bytes that `out` held are still at its front, and more may follow.
+/// After `NoMemory` the previous bytes of `out` are still at its start, and more may follow.
 pub fn push_points(out: &mut Vec<u8>, points: &[Point]) -> Result<(), NoMemory>
     ensures ok { OnOk result (out.new.items ≡ out.old.items ++ flat_map point_line points.now) }
     ensures kept { OnErr result (take (length out.old.items) out.new.items ≡ out.old.items) }
@@ -70,9 +70,9 @@ pub fn push_points(out: &mut Vec<u8>, points: &[Point]) -> Result<(), NoMemory>
     Ok(())
 }
 
-/// Adds the lines `3 a b c` of faces at the end of `out`, in order.
+/// Appends the lines `3 a b c` of faces to `out`, in order.
 ///
-/// After `NoMemory` the bytes that `out` held are still at its front, and more may follow.
+/// After `NoMemory` the previous bytes of `out` are still at its start, and more may follow.
 pub fn push_faces(out: &mut Vec<u8>, faces: &[[u32; 3]]) -> Result<(), NoMemory>
     ensures ok { OnOk result (out.new.items ≡ out.old.items ++ flat_map face_line faces.now) }
     ensures kept { OnErr result (take (length out.old.items) out.new.items ≡ out.old.items) }
@@ -95,11 +95,10 @@ fn push_parts(out: &mut Vec<u8>, mesh: &Mesh) -> Result<(), NoMemory>
     Ok(())
 }
 
-/// Adds the text of a valid mesh at the end of `out`: the header, a line `x y z` for each
-/// point and a line `3 a b c` for each face, each line ended by LF. Numbers are decimal
-/// without leading zeros.
+/// Appends the text of a valid mesh to `out`: the header, a line `x y z` for each point and a line `3 a b c` for each face,
+/// each line ended by LF. Numbers are decimal without leading zeros.
 ///
-/// After `NoMemory`, `out` is as it was.
+/// After `NoMemory`, `out` is unchanged.
 pub fn push_mesh(out: &mut Vec<u8>, mesh: &Mesh) -> Result<(), NoMemory>
     requires { IsMesh mesh.now.points.items mesh.now.faces.items }
     ensures printed { OnOk result (out.new.items ≡ out.old.items ++ mesh_text mesh.now.points.items mesh.now.faces.items) }

@@ -3,7 +3,7 @@
 ghost use Rattle.std.specs.Prelude.{◌≡◌};
 ghost use Rattle.mesh_ply.specs.Texts.{ply_line, ascii_format_line, vertex_word, x_line, y_line, z_line, face_word, list_line, header_end, vertex_head, face_head, head_end};
 
-/// The header up to the number of vertices.
+/// Returns the header up to the number of vertices.
 #[tactic(auto, unfolding(crate::specs::Texts::ply_line, crate::specs::Texts::ascii_format_line, crate::specs::Texts::vertex_word))]
 pub fn header_to_vertices() -> &'static [u8]
     ensures { result.now ≡ vertex_head }
@@ -11,7 +11,7 @@ pub fn header_to_vertices() -> &'static [u8]
     b"ply\nformat ascii 1.0\nelement vertex "
 }
 
-/// From there up to the number of faces.
+/// Returns the header from there up to the number of faces.
 #[tactic(auto, unfolding(crate::specs::Texts::x_line, crate::specs::Texts::y_line, crate::specs::Texts::z_line, crate::specs::Texts::face_word))]
 pub fn header_to_faces() -> &'static [u8]
     ensures { result.now ≡ face_head }
@@ -19,7 +19,7 @@ pub fn header_to_faces() -> &'static [u8]
     b"property int x\nproperty int y\nproperty int z\nelement face "
 }
 
-/// The rest of the header.
+/// Returns the rest of the header.
 #[tactic(auto, unfolding(crate::specs::Texts::list_line, crate::specs::Texts::header_end))]
 pub fn header_rest() -> &'static [u8]
     ensures { result.now ≡ head_end }

@@ -1,4 +1,4 @@
--- What reading a decimal goes through.
+-- A step of reading a decimal.
 --
 --   within_limit n    a number of units, if it is within the limit
 use Rattle.std.specs.Prelude.{ℕ, nat_lt, Option, None}

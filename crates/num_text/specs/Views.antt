@@ -1,4 +1,4 @@
--- The parts of a token in the code, as values.
+-- The view of the code's parts of a token.
 use Rattle.num_text.specs.declared.decimal.DecimalParts.{DecimalParts}
 use Rattle.num_text.specs.Decimals as decimals
 

@@ -1,11 +1,11 @@
 -- Whole numbers as text.
 --
--- is_minus      a text begins with a minus sign
--- behind_sign   what stands behind an optional sign
--- are_digits    a text is one or more digits
--- significant   digits without their leading zeros
--- signed        a number under its sign
--- whole_of      the whole number that a token is, or why it is none
+--   is_minus      a text begins with a minus sign
+--   behind_sign   the text after an optional sign
+--   are_digits    a text is one or more digits
+--   significant   digits without their leading zeros
+--   signed        a number with its sign
+--   whole_of      the whole number that a token is, or its error
 use Rattle.std.specs.Prelude.{ℕ, ℤ, pos, List, [], ◌∷◌, Bool, true, false, not, ◌==◌, ◌||◌, ◌&&◌, nat_le, nat_lt, length}
 use Rattle.std.specs.Prelude.{Result, Ok, Err, if◌then◌else◌}
 use Rattle.std.proofs.Common.{neg_ℤ}
@@ -20,7 +20,7 @@ abbrev pub is_minus : List ℕ → Bool
 is_minus [] = false
 is_minus (b ∷ bytes) = b == 45
 
--- the bytes behind an optional plus or minus sign
+-- the bytes after an optional plus or minus sign
 abbrev pub behind_sign : List ℕ → List ℕ
 behind_sign [] = []
 behind_sign (b ∷ bytes) = if (b == 43) || (b == 45) then bytes else b ∷ bytes
@@ -34,13 +34,13 @@ abbrev pub significant : List ℕ → List ℕ
 significant [] = []
 significant (b ∷ bytes) = if b == 48 then significant bytes else b ∷ bytes
 
--- a number under its sign
+-- a number with its sign
 abbrev pub signed : Bool → ℕ → ℤ
 signed false n = pos n
 signed true n = neg_ℤ (pos n)
 
--- the whole number that a token is, or the first reason why it is none: digits behind an
--- optional sign, at most 18 of them behind the leading zeros
+-- the whole number that a token is, or its first error: digits after an optional sign, at most 18 of them after the leading
+-- zeros
 unfoldable pub whole_of : List ℕ → Result ℤ NumRefusal
 whole_of token =
     if not (are_digits (behind_sign token)) then Err NotANumber

@@ -1,10 +1,9 @@
-//! Decimals read from a token, in units.
+//! Reads decimals from a token, as a number of scaled units.
 //!
-//! A decimal's absolute value is a fraction `N / M` of whole numbers, `M` a power of ten,
-//! and at unit `U` it is `floor((2·N·U + M) / (2·M))` units. The fraction itself may need
-//! thousands of digits and is never formed: at most 30 digits and a unit of at most a
-//! million make a number of units below 10^36, and then one power of ten is left to
-//! multiply or to divide by. So 128 bits hold every number here.
+//! A decimal's absolute value is a fraction `N / M` of whole numbers, `M` a power of ten, and at scale `U` it is `floor((2·N·U
+//! + M) / (2·M))` units. The fraction itself may need thousands of digits and is never formed: at most 30 digits and a scale of
+//! at most a million give a number of units below 10^36, which is then multiplied or divided by one power of ten. So every
+//! number here fits 128 bits.
 
 ghost use Rattle.std.specs.Prelude.{◌≡◌, ◌+◌, ◌*◌, ◌^◌, ◌/◌, ◌≤◌, ◌<◌, ◌++◌, length, drop, true, false, nat_lt, Ok, Err, IfOk, unsigned_abs};
 ghost use Rattle.std.specs.List.{list_all, position_or_len};
@@ -21,18 +20,18 @@ use crate::digits::{
 };
 use crate::refusal::NumRefusal;
 
-/// The largest unit at which [`scaled`] reads.
+/// The largest scale at which [`scaled`] reads.
 pub const UNIT_LIMIT: u32 = 1_000_000;
 
-/// The largest absolute value that [`scaled`] answers, in units.
+/// The largest absolute value that [`scaled`] returns, in units.
 pub const SCALED_LIMIT: u64 = 2_097_151;
 
-/// How many digits are read behind leading zeros: before the exponent, and in it.
+/// The maximal number of digits after leading zeros: before the exponent, and in it.
 const MOST_DIGITS: usize = 30;
 
 const MOST_EXPONENT_DIGITS: usize = 4;
 
-/// A decimal's parts: a sign, the digits before and behind the point, and an exponent.
+/// A decimal's parts: a sign, the digits before and after the point, and an exponent.
 #[derive(Clone, Copy, Debug)]
 struct DecimalParts<'a> {
     is_negative: bool,
@@ -55,7 +54,7 @@ fn is_point_byte(byte: u8) -> bool
     byte == b'.'
 }
 
-/// The position of the first `e` or `E`, or the length where there is none.
+/// Returns the position of the first `e` or `E`, or the length if there is none.
 fn exponent_mark_position(text: &[u8]) -> usize
     ensures { result ≡ position_or_len is_exponent_mark text.now }
 {
@@ -67,7 +66,7 @@ fn exponent_mark_position(text: &[u8]) -> usize
     text.len()
 }
 
-/// The position of the first point, or the length where there is none.
+/// Returns the position of the first point, or the length if there is none.
 fn point_position(text: &[u8]) -> usize
     ensures { result ≡ position_or_len is_point text.now }
 {
@@ -79,7 +78,7 @@ fn point_position(text: &[u8]) -> usize
     text.len()
 }
 
-/// What stands behind the byte at a position: nothing where the position is the length.
+/// Returns the text after the byte at a position: empty if the position is the length.
 fn behind(text: &[u8], position: usize) -> &[u8]
     ensures { result.now ≡ drop (position + 1) text.now }
 {
@@ -124,7 +123,7 @@ fn is_decimal_text(parts: &DecimalParts<'_>) -> bool
         && (!parts.has_exponent || some_digits(parts.exponent))
 }
 
-/// Whether more than 30 digits follow the leading zeros of the two runs together.
+/// Returns whether more than 30 digits follow the leading zeros of the two runs together.
 fn has_many_digits(whole: &[u8], fraction: &[u8]) -> bool
     ensures { result ≡ nat_lt 30 (length (significant (whole.now ++ fraction.now))) }
 {
@@ -142,7 +141,7 @@ fn is_long_text(parts: &DecimalParts<'_>) -> bool
         || without_zeros(parts.exponent).len() > MOST_EXPONENT_DIGITS
 }
 
-/// The number that the two runs of digits make together.
+/// Returns the number that the two runs of digits make together.
 fn value_of_two(whole: &[u8], fraction: &[u8]) -> u128
     requires digits { list_all is_ascii_digit (whole.now ++ fraction.now) ≡ true }
     requires short { length (significant (whole.now ++ fraction.now)) ≤ 30 }
@@ -178,7 +177,7 @@ fn limited(units: u128) -> Option<u64>
     }
 }
 
-/// A whole number of units times a power of ten.
+/// Returns a number of units times a power of ten.
 fn units_times(units: u128, exponent: u128) -> Option<u64>
     ensures { result ≡ within_limit (units * 10 ^ exponent) }
 {
@@ -195,7 +194,7 @@ fn units_times(units: u128, exponent: u128) -> Option<u64>
     limited(units * power_of_ten(exponent as u32))
 }
 
-/// A whole number of units divided by a power of ten, halves upwards.
+/// Returns a number of units divided by a power of ten, rounded half up.
 fn units_over(units: u128, exponent: u128) -> Option<u64>
     requires { units < 10 ^ 36 }
     ensures { result ≡ within_limit ((2 * units + 10 ^ exponent) / (2 * 10 ^ exponent)) }
@@ -210,7 +209,7 @@ fn units_over(units: u128, exponent: u128) -> Option<u64>
     limited(rounded)
 }
 
-/// The fraction `value · 10^up / 10^down` in units.
+/// Returns the fraction `value · 10^up / 10^down` in units.
 fn nearest_units(value: u128, up: u128, down: u128, unit: u32) -> Option<u64>
     requires value { value < 10 ^ 30 }
     requires unit { unit ≤ UNIT_LIMIT }
@@ -240,7 +239,7 @@ fn units_of(parts: &DecimalParts<'_>, unit: u32) -> Option<u64>
     }
 }
 
-/// The exponent's absolute value, 0 where there is none.
+/// Returns the exponent's absolute value, 0 if there is none.
 fn exponent_value(parts: &DecimalParts<'_>) -> u128
     requires decimal { is_decimal (parts_view parts.now) ≡ true }
     requires short { is_long (parts_view parts.now) ≡ false }
@@ -253,16 +252,14 @@ fn exponent_value(parts: &DecimalParts<'_>) -> u128
     value_after(0, without_zeros(parts.exponent))
 }
 
-/// The number of units that a decimal is, to the nearest whole number, halves away from
-/// zero. `unit` is how many units make one: at 1000, `1.5` is 1500.
+/// Returns the number of units in a decimal, rounded to the nearest whole number, halves away from zero. `unit` is the scale,
+/// the number of units in 1: at 1000, `1.5` is 1500.
 ///
-/// A decimal is an optional `+` or `-`, digits with at most one `.` among, before or after
-/// them and at least one digit, and then optionally `e` or `E`, an optional sign and at
-/// least one digit. `NotANumber` comes exactly for any other token. `LongNumber` comes
-/// exactly for a decimal with more than 30 digits before the exponent, the point taken out
-/// and leading zeros taken away, or with more than 4 digits behind the leading zeros of its
-/// exponent. `OutOfRange` comes exactly for one that is neither, and whose absolute value in
-/// units is over [`SCALED_LIMIT`].
+/// A decimal is an optional `+` or `-`, digits with at most one `.` among, before or after them and at least one digit, and
+/// then optionally `e` or `E`, an optional sign and at least one digit. Any other token gives `NotANumber`. A decimal with more
+/// than 30 digits before the exponent, without the point and leading zeros, or with more than 4 digits after the leading zeros
+/// of its exponent gives `LongNumber`. Of the others, those whose absolute value in units is over [`SCALED_LIMIT`] give
+/// `OutOfRange`.
 #[tactic(auto, unfolding(crate::specs::Decimals::scaled_of))]
 pub fn scaled(token: &[u8], unit: u32) -> Result<i64, NumRefusal>
     requires at_least_one { 1 ≤ unit }

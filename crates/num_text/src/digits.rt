@@ -6,7 +6,7 @@ ghost use Rattle.std.specs.Char.{is_ascii_digit};
 ghost use Rattle.std.specs.Str.Parse.{digits_value_after};
 ghost use Rattle.num_text.specs.WholeNumbers.{is_minus, behind_sign, are_digits, significant, signed};
 
-/// Whether a text begins with a minus sign.
+/// Returns whether a text begins with a minus sign.
 pub(crate) fn has_minus(text: &[u8]) -> bool
     ensures { result ≡ is_minus text.now }
 {
@@ -16,7 +16,7 @@ pub(crate) fn has_minus(text: &[u8]) -> bool
     text[0] == b'-'
 }
 
-/// A text without its sign, if it begins with one.
+/// Returns a text without its sign, if it begins with one.
 pub(crate) fn without_sign(text: &[u8]) -> &[u8]
     ensures { result.now ≡ behind_sign text.now }
 {
@@ -30,21 +30,21 @@ pub(crate) fn without_sign(text: &[u8]) -> &[u8]
     }
 }
 
-/// Whether each byte is a digit.
+/// Returns whether each byte is a digit.
 pub fn all_digits(text: &[u8]) -> bool
     ensures { result ≡ list_all is_ascii_digit text.now }
 {
     text.iter().all(|byte| b'0' <= *byte && *byte <= b'9')
 }
 
-/// Whether a text is one or more digits.
+/// Returns whether a text is one or more digits.
 pub(crate) fn some_digits(text: &[u8]) -> bool
     ensures { result ≡ are_digits text.now }
 {
     !text.is_empty() && all_digits(text)
 }
 
-/// Digits without their leading zeros.
+/// Returns digits without their leading zeros.
 pub(crate) fn without_zeros(digits: &[u8]) -> &[u8]
     ensures { result.now ≡ significant digits.now }
 {
@@ -56,7 +56,7 @@ pub(crate) fn without_zeros(digits: &[u8]) -> &[u8]
     &digits[digits.len()..]
 }
 
-/// The number that `start` and more digits behind it make.
+/// Returns the number with the digits of `start` and then these digits.
 pub(crate) fn value_after(start: u128, digits: &[u8]) -> u128
     requires digits { list_all is_ascii_digit digits.now ≡ true }
     requires room { (start + 1) * 10 ^ length digits.now ≤ 10 ^ 30 }
@@ -69,7 +69,7 @@ pub(crate) fn value_after(start: u128, digits: &[u8]) -> u128
     value
 }
 
-/// A number under its sign.
+/// Returns a number with its sign.
 pub(crate) fn with_sign(is_negative: bool, value: u64) -> i64
     requires { value < 2 ^ 63 }
     ensures { result ≡ signed is_negative value }

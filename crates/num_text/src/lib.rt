@@ -1,12 +1,10 @@
-//! Numbers as text, in and out: whole numbers and decimals read from a token, and
-//! decimal text printed.
+//! Reads whole numbers and decimals from tokens, and prints decimal text.
 //!
-//! A token is a run of bytes of a text, as a field of a PLY body. It is never cut: both
-//! readers look at all bytes that they are given, in linear time, and take no memory. A
-//! decimal is read in *units*: the number times a whole unit, rounded to the nearest whole
-//! number, halves away from zero. So `0.25` at unit 1000 (thousandths) is 250.
+//! A token is a run of bytes of a text, such as a field of a PLY body. Both readers check all bytes of the token, in linear
+//! time, and allocate no memory. A decimal is read in *units*: the number times a whole scale, rounded to the nearest whole
+//! number, halves away from zero. So `0.25` at scale 1000 (thousandths) is 250.
 //!
-//! The crate stands on `itoa` (printing) and `thiserror` alone.
+//! The crate depends on `itoa` (printing) and `thiserror` alone.
 #![tactic(auto)]
 
 mod decimal;

@@ -1,18 +1,18 @@
-//! Why a token is no number that can be taken.
+//! Why a token is not an accepted number.
 
 use thiserror::Error;
 
-/// Why a token is refused, in the order in which the causes are looked for.
+/// Why a token is rejected, in the order of the tests.
 #[derive(Clone, Copy, Debug, Drop, Error, PartialEq, Eq)]
 pub enum NumRefusal {
-    /// The token is not spelled as a number of the kind that is read.
+    /// The token is not spelled as a number of this kind.
     #[error("the token is no number")]
     NotANumber,
-    /// It is a number, but has more digits behind its leading zeros than are read: over 18
-    /// in a whole number, over 30 in a decimal, or over 4 in a decimal's exponent.
+    /// The number has more digits after its leading zeros than allowed: over 18 in a whole number, over 30 in a decimal, or
+    /// over 4 in a decimal's exponent.
     #[error("the number has too many digits")]
     LongNumber,
-    /// It is a decimal, but in units its absolute value is over [`SCALED_LIMIT`](crate::SCALED_LIMIT).
+    /// The decimal's absolute value in units is over [`SCALED_LIMIT`](crate::SCALED_LIMIT).
     #[error("the number is out of range")]
     OutOfRange,
 }

@@ -1,4 +1,4 @@
-//! Whole numbers read from a token.
+//! Reads whole numbers from a token.
 
 ghost use Rattle.std.specs.Prelude.{◌≡◌, ◌<◌, ◌^◌, IfOk, unsigned_abs};
 ghost use Rattle.num_text.specs.WholeNumbers.{whole_of};
@@ -6,13 +6,13 @@ ghost use Rattle.num_text.specs.WholeNumbers.{whole_of};
 use crate::digits::{has_minus, some_digits, value_after, with_sign, without_sign, without_zeros};
 use crate::refusal::NumRefusal;
 
-/// How many digits are read behind leading zeros.
+/// The maximal number of digits after leading zeros.
 const MOST_DIGITS: usize = 18;
 
-/// The whole number that a token is: an optional `+` or `-` and at least one digit.
+/// Parses a whole number: an optional `+` or `-` and at least one digit.
 ///
-/// `NotANumber` comes exactly for any other token, and then `LongNumber` exactly where more
-/// than 18 digits follow the leading zeros. `OutOfRange` never comes.
+/// Any other token gives `NotANumber`; then more than 18 digits after the leading zeros give `LongNumber`. Never returns
+/// `OutOfRange`.
 #[tactic(auto, unfolding(crate::specs::WholeNumbers::whole_of))]
 pub fn whole(token: &[u8]) -> Result<i64, NumRefusal>
     ensures exact { result ≡ whole_of token.now }

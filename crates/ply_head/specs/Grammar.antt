@@ -1,11 +1,11 @@
--- Which texts have a header: by cases on what each line says.
+-- Which texts have a header: by cases on the content of each line.
 --
--- Says           a line without its LF says a statement
--- AddsElement, AddsProperty   the header with one element, or one property, more
--- Adds           what a statement makes of the header so far
--- Leads          what the statements of some lines make of it, one after another
--- IsLine         bytes that may be a header's line
--- HasHeader      a text begins with a header, and the body follows
+--   Says           a line without its LF states this
+--   AddsElement, AddsProperty   the header with one more element, or one more property
+--   Adds           the effect of a statement on the header so far
+--   Leads          the effect of the statements of some lines, one after another
+--   IsLine         bytes that may be a header's line
+--   HasHeader      a text begins with a header, and the body follows
 use Rattle.std.specs.Prelude.{ℕ, ◌+◌, ◌≡◌, ◌≤◌, ◌⊎◌, false, List, [], ◌∷◌, ◌++◌, length, All, codes, Option, Some, None}
 use Rattle.ply_head.specs.declared.header.Header.{Header}
 use Rattle.ply_head.specs.declared.header.Element.{Element}
@@ -15,17 +15,17 @@ use Rattle.ply_head.specs.Statements.{Statement, nothing, format, element, prope
 use Rattle.ply_head.specs.Headers.{has_property, has_element}
 use Rattle.ply_head.specs.Spelling.{joined}
 
--- the words of the line are those of the statement
+-- the tokens of the line are those of the statement
 abbrev pub Says : List ℕ → Statement → Type 0
 Says line statement = statement_of_words (words_of (line_text line)) ≡ Some statement
 
--- the header with an element more, whose name is new and which has no properties yet
+-- the header with one more element, whose name is new and which has no properties yet
 pub record AddsElement (before : Header) (name : List ℕ) (count : ℕ) (after : Option Header) : Type 0 where
   pub is_new : has_element name before.elements ≡ false
   pub is : after
       ≡ Some (record before { elements = before.elements ++ record { name = name; count = count; properties = [] } ∷ [] })
 
--- the header whose last element has a property more, with a name that is new there
+-- the header whose last element has one more property, with a name that is new there
 pub record AddsProperty (before : Header) (added : Property) (after : Option Header) : Type 0 where
   pub front : List Element
   pub last : Element
@@ -33,8 +33,8 @@ pub record AddsProperty (before : Header) (added : Property) (after : Option Hea
   pub is_new : has_property added.name last.properties ≡ false
   pub is : after ≡ Some (record before { elements = front ++ record last { properties = last.properties ++ added ∷ [] } ∷ [] })
 
--- what a statement makes of the header so far, which is none before the format: a format
--- begins it, an element or a property adds to it, and anything else may not stand there
+-- the effect of a statement on the header so far, which is none before the format: a format begins it, an element or a property
+-- adds to it, and anything else is invalid there
 abbrev pub Adds : Option Header → Statement → Option Header → Type 0
 Adds before nothing after = after ≡ before
 Adds None (format kind) after = after ≡ Some (record { kind = kind; elements = [] })
@@ -42,14 +42,14 @@ Adds (Some head) (element name count) after = AddsElement head name count after
 Adds (Some head) (property name shape) after = AddsProperty head (record { name = name; shape = shape }) after
 Adds before statement after = ⊥
 
--- the lines lead from one header so far to another: each says a statement that makes the next
+-- the lines lead from one header so far to another: each states something whose effect is the next
 abbrev pub Leads : Option Header → List (List ℕ) → Option Header → Type 0
 Leads before [] after = after ≡ before
 Leads before (line ∷ lines) after =
     (next : Option Header)
     × ((statement : Statement) × (Says line statement × Adds before statement next × Leads next lines after))
 
--- no LF stands in the line, and without a CR at its end it has at most 1,000 bytes
+-- no LF is in the line, and without a CR at its end it has at most 1,000 bytes
 pub record IsLine (line : List ℕ) : Type 0 where
   pub no_feed : All (λ b. is_line_feed b ≡ false) line
   pub short : length (line_text line) ≤ 1000

@@ -1,15 +1,15 @@
--- The header of a text, or the first reason why it has none.
+-- The header of a text, or its first error.
 --
--- Gives, Fails    what a call returned is what a definition says, unless memory ran out
--- text_of_line    a line without its end, or why it is none
--- has_property, has_element   a name is one of those that stand before
--- with_property   the elements, the last of which has a property more
--- Step, step_of   what a line makes of the header so far
--- header_from     the header that lines from a number on make, and the body
--- header_of       the header and the body of a text
+--   Gives, Fails    the result of a call is that of a definition, unless memory ran out
+--   text_of_line    a line without its end, or its error
+--   has_property, has_element   a name is one of those before
+--   with_property   the elements, with one more property in the last
+--   Step, step_of   the effect of a line on the header so far
+--   header_from     the header from line n on, and the body
+--   header_of       the header and the body of a text
 --
--- These say the refusals in their order. specs/Grammar says in the format's own words which
--- texts have a header, and a law of the crate that both agree.
+-- These definitions give the errors in their order. specs/Grammar says in the format's own terms which texts have a header, and
+-- a theorem of the crate states that both agree.
 use Rattle.std.specs.Prelude.{ℕ, Bool, ◌+◌, ◌≡◌, List, [], ◌∷◌, ◌++◌, nat_eq, nat_lt, length, drop, codes, Option, Some}
 use Rattle.std.specs.Prelude.{None, Result, Ok, Err, if◌then◌else◌}
 use Rattle.std.specs.List.{list_any, join_with_byte, starts_with}
@@ -24,12 +24,12 @@ use Rattle.ply_head.specs.Answers.{◌>>=◌}
 use Rattle.ply_head.specs.Lines.{parts_of, line_text, words_of}
 use Rattle.ply_head.specs.Statements.{Statement, nothing, format, element, property, finish, statement_of_words}
 
--- the refusal is what reading gives, unless memory ran out
+-- the error is that of the definition, unless memory ran out
 abbrev pub Fails : {Y : Type 0} → HeadRefusal → Result Y HeadRefusal → Type 0
 Fails NoMemory read = Unit {0}
 Fails e read = read ≡ Err e
 
--- what a call returned, seen by view, is what reading gives, unless memory ran out
+-- the result of a call, seen by view, is that of the definition, unless memory ran out
 abbrev pub Gives : {X Y : Type 0} → (X → Y) → Result X HeadRefusal → Result Y HeadRefusal → Type 0
 Gives view (Ok x) read = read ≡ Ok (view x)
 Gives view (Err e) read = Fails e read
@@ -47,7 +47,7 @@ has_property name properties = list_any (λ p. bytes_eq p.name name) properties
 abbrev pub has_element : List ℕ → List Element → Bool
 has_element name elements = list_any (λ e. bytes_eq e.name name) elements
 
--- the property goes to the last element
+-- the property is added to the last element
 abbrev pub with_property : ℕ → Property → List Element → Result (List Element) HeadRefusal
 with_property n p [] = Err (BadLine n)
 with_property n p (e ∷ []) =
@@ -59,7 +59,7 @@ pub data Step : Type 0 where
   goes : Option Header → Step
   ends : Header → Step
 
--- what line n does to the header so far, which begins with the format
+-- the effect of line n on the header so far, which begins with the format
 unfoldable pub step_of : ℕ → Option Header → Option Statement → Result Step HeadRefusal
 step_of n head None = Err (BadLine n)
 step_of n head (Some nothing) = Ok (goes head)
@@ -75,7 +75,7 @@ step_of n (Some head) (Some (property name shape)) =
     >>= λ es. Ok (goes (Some (record head { elements = es })))
 step_of n (Some head) (Some finish) = Ok (ends head)
 
--- what follows a step: more lines, or the body
+-- the continuation after a step: more lines, or the body
 abbrev pub then_lines : Step → List (List ℕ) → (Option Header → Result (Header × List ℕ) HeadRefusal)
     → Result (Header × List ℕ) HeadRefusal
 then_lines (goes head) more read = read head

@@ -1,14 +1,14 @@
--- How a body spells its values, by the kind that the header states.
+-- How a body encodes its values, by the kind that the header states.
 --
--- endian_of   the order of the bytes of a number, in a binary body
--- IsBinary    a kind of binary bodies
+--   endian_of   the order of the bytes of a number, in a binary body
+--   IsBinary    a kind of binary bodies
 use Rattle.std.specs.Prelude.{Option, Some, None}
 use Rattle.ply_head.specs.declared.header.Kind.{Kind}
 use Rattle.ply_head.specs.declared.header.Kind.TheVariants.{Ascii, BinaryLittle, BinaryBig}
 use Rattle.ply_head.specs.declared.header.Endian.{Endian}
 use Rattle.ply_head.specs.declared.header.Endian.TheVariants.{Little, Big}
 
--- the order in which a binary body has the bytes of a number; a text has none
+-- the byte order of a binary body; a text has none
 abbrev pub endian_of : Kind → Option Endian
 endian_of Ascii = None
 endian_of BinaryLittle = Some Little

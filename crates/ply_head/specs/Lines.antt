@@ -1,10 +1,10 @@
--- The lines of a text, and the words of a line.
+-- The lines of a text, and the tokens of a line.
 --
--- is_line_feed, is_blank   the byte LF, and the bytes space and tab
--- parts_of     a text cut at each LF; all parts but the last are lines
--- line_text    a line without its end
--- has_bytes    a list of bytes is not empty
--- words_of     the words of a line
+--   is_line_feed, is_blank   the byte LF, and the bytes space and tab
+--   parts_of     a text split at each LF; all parts but the last are lines
+--   line_text    a line without its end
+--   has_bytes    a list of bytes is not empty
+--   words_of     the tokens of a line
 use Rattle.std.specs.Prelude.{ℕ, List, [], ◌∷◌, Bool, true, false, ◌==◌, ◌||◌, filter, if◌then◌else◌}
 use Rattle.std.specs.List.{slice_split}
 
@@ -12,11 +12,11 @@ use Rattle.std.specs.List.{slice_split}
 abbrev pub is_line_feed : ℕ → Bool
 is_line_feed b = b == 10
 
--- the text cut at each LF: all parts but the last are lines
+-- the text split at each LF: all parts but the last are lines
 unfoldable pub parts_of : List ℕ → List (List ℕ)
 parts_of bytes = slice_split is_line_feed bytes
 
--- a line without its end: where the byte before LF is CR, it belongs to the end
+-- a line without its end: if the byte before LF is CR, it belongs to the end
 abbrev pub line_text : List ℕ → List ℕ
 line_text [] = []
 line_text (b ∷ []) = if b == 13 then [] else b ∷ []

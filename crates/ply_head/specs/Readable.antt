@@ -1,9 +1,9 @@
 -- The headers that a text may have, and those that can be printed.
 --
--- IsName              what may name an element or a property
--- HasWholeCount       a list's count is of a whole-number type
--- IsReadableProperty, IsReadableElement, IsReadable   what holds of each that is read
--- KeepsLimits         the printed header keeps the limits on lines
+--   IsName              a valid name of an element or a property
+--   HasWholeCount       a list's count has an integer type
+--   IsReadableProperty, IsReadableElement, IsReadable   the properties of each property, element and header that is read
+--   KeepsLimits         the printed header keeps the limits on lines
 use Rattle.std.specs.Prelude.{ℕ, ◌≡◌, ◌≢◌, ◌≤◌, ◌<◌, true, List, length, All, AllPairs, Some}
 use Rattle.std.specs.List.{list_all}
 use Rattle.ply_head.specs.declared.header.Shape.{Shape}
@@ -19,17 +19,17 @@ pub record IsName (name : List ℕ) : Type 0 where
   pub some : 0 < length name
   pub visible : list_all is_name_byte name ≡ true
 
--- a list's count is of a whole-number type
+-- a list's count has an integer type
 abbrev pub HasWholeCount : Shape → Type 0
 HasWholeCount (One scalar) = Unit {0}
 HasWholeCount (Many count item) = whole_scalar count ≡ Some count
 
--- a property that an element may have
+-- a valid property of an element
 pub record IsReadableProperty (p : Property) : Type 0 where
   pub name : IsName p.name
   pub count : HasWholeCount p.shape
 
--- an element that a header may have: its properties have names of their own
+-- a valid element of a header: no two of its properties have the same name
 pub record IsReadableElement (e : Element) : Type 0 where
   pub name : IsName e.name
   pub count : e.count ≤ 4294967295
@@ -37,7 +37,7 @@ pub record IsReadableElement (e : Element) : Type 0 where
   pub properties : All IsReadableProperty e.properties
   pub apart : AllPairs (λ p q. p.name ≢ q.name) e.properties
 
--- a header that a text may have: its elements have names of their own
+-- a valid header: no two of its elements have the same name
 pub record IsReadable (head : Header) : Type 0 where
   pub few : length head.elements ≤ 1000
   pub elements : All IsReadableElement head.elements

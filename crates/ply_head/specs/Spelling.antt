@@ -1,12 +1,12 @@
--- The one printed spelling of a header.
+-- The canonical spelling of a header.
 --
--- joined          lines one after another, each ended by LF
--- kind_name, scalar_name   the first spelling of a kind and of a type
--- format_text, element_text, property_text   the lines that say them, without their ends
--- shape_text      what a `property` line says between the first word and the name
--- element_lines   an element's line and those of its properties
--- header_lines    the lines of a header, the first and the last included
--- spelling        the printed header
+--   joined          lines one after another, each ended by LF
+--   kind_name, scalar_name   the first spelling of a kind and of a type
+--   format_text, element_text, property_text   the lines that state them, without their ends
+--   shape_text      the part of a `property` line between the first word and the name
+--   element_lines   an element's line and those of its properties
+--   header_lines    the lines of a header, the first and the last included
+--   spelling        the printed header
 use Rattle.std.specs.Prelude.{ℕ, List, [], ◌∷◌, ◌++◌, map, codes, decimal}
 use Rattle.std.specs.List.{flat_map}
 use Rattle.ply_head.specs.declared.header.Kind.{Kind}
@@ -49,7 +49,7 @@ format_text kind = codes "format" ++ 32 ∷ (kind_name kind ++ 32 ∷ codes "1.0
 abbrev pub element_text : List ℕ → ℕ → List ℕ
 element_text name count = codes "element" ++ 32 ∷ (name ++ 32 ∷ decimal count)
 
--- what a `property` line says its property holds
+-- the part of a `property` line that states its shape
 abbrev pub shape_text : Shape → List ℕ
 shape_text (One scalar) = scalar_name scalar
 shape_text (Many count item) = codes "list" ++ 32 ∷ (scalar_name count ++ 32 ∷ scalar_name item)

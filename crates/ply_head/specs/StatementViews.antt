@@ -1,9 +1,9 @@
--- What the code says of a line, as a value.
+-- The view of the code's statements.
 use Rattle.ply_head.specs.Statements as statements
 use Rattle.ply_head.specs.declared.statement.Statement.{Statement}
 use Rattle.ply_head.specs.declared.statement.Statement.TheVariants.{Nothing, Format, Element, Property, Finish}
 
--- the code's answer about one line as a value of the definitions; a name is the bytes that it borrows
+-- the code's statement as a value of the definitions; a name is the bytes that it borrows
 abbrev pub statement_view : Statement → statements.Statement
 statement_view Nothing = statements.nothing
 statement_view (Format kind) = statements.format kind

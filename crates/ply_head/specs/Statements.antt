@@ -1,13 +1,13 @@
--- What the words of a header line say: the table of lines, without regard to their place.
+-- Header lines by their tokens, without regard to their position.
 --
--- Statement       what a line says
--- either_word     a word is one of two
--- is_name_byte    a visible ASCII character
--- kind_of, scalar_of   the kind and the type that a word names
--- whole_scalar    a type, if it is one of whole numbers
--- count_of, name_of    the number of rows, and the name, that a word is
--- format_line, element_line, property_line, finish_line   what the words behind the first say
--- statement_of_words   what the words of a line say
+--   Statement       the content of a line
+--   either_word     a token is one of two
+--   is_name_byte    a visible ASCII character
+--   kind_of, scalar_of   the kind and the type that a word names
+--   whole_scalar    a type, if it is an integer type
+--   count_of, name_of    the number of rows, and the name, that a word states
+--   format_line, element_line, property_line, finish_line   the content of the tokens after the first
+--   statement_of_words   the content of a line with these tokens
 use Rattle.std.specs.Prelude.{ℕ, List, [], ◌∷◌, Bool, ◌||◌, ◌&&◌, nat_le, length, codes, Option, Some, None, if◌then◌else◌}
 use Rattle.std.specs.List.{list_all}
 use Rattle.std.specs.Char.{is_ascii_digit}
@@ -21,7 +21,7 @@ use Rattle.ply_head.specs.declared.header.Scalar.TheVariants.{Char, Uchar, Short
 use Rattle.ply_head.specs.declared.header.Shape.{Shape}
 use Rattle.ply_head.specs.declared.header.Shape.TheVariants.{One, Many}
 
--- the word is one of two
+-- the token is one of two
 abbrev pub either_word : List ℕ → List ℕ → List ℕ → Bool
 either_word word one other = bytes_eq word one || bytes_eq word other
 
@@ -29,7 +29,7 @@ either_word word one other = bytes_eq word one || bytes_eq word other
 abbrev pub is_name_byte : ℕ → Bool
 is_name_byte b = nat_le 33 b && nat_le b 126
 
--- what a line says
+-- the content of a line
 pub data Statement : Type 0 where
   nothing : Statement
   format : Kind → Statement
@@ -56,7 +56,7 @@ scalar_of word =
     else (if either_word word (codes "float") (codes "float32") then Some Float
     else (if either_word word (codes "double") (codes "float64") then Some Double else None)))))))
 
--- a type, if it is one of whole numbers, as that of a list's count
+-- a type, if it is an integer type, as that of a list's count
 abbrev pub whole_scalar : Scalar → Option Scalar
 whole_scalar Float = None
 whole_scalar Double = None
@@ -69,7 +69,7 @@ count_of word =
     && (nat_le (length word) 10 && (list_all is_ascii_digit word && nat_le (digits_value 10 word) 4294967295))
     then Some (digits_value 10 word) else None
 
--- a word of visible characters, which may be a name
+-- a word of visible characters, which is a valid name
 unfoldable pub name_of : List ℕ → Option (List ℕ)
 name_of word = if list_all is_name_byte word then Some word else None
 
@@ -105,7 +105,7 @@ unfoldable pub finish_line : List (List ℕ) → Option Statement
 finish_line [] = Some finish
 finish_line words = None
 
--- what the words of a line say, if the line is one of the table
+-- the content of a line with these tokens, if it is valid
 unfoldable pub statement_of_words : List (List ℕ) → Option Statement
 statement_of_words [] = Some nothing
 statement_of_words (word ∷ words) =

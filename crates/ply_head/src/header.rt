@@ -1,5 +1,5 @@
-//! What a header says: the kind of its body, and the elements with the properties of their
-//! rows. `Name`, `Properties` and `Elements` are vectors that contracts see as lists.
+//! The parts of a header: the kind of its body, and the elements with the properties of their rows. `Name`, `Properties` and
+//! `Elements` are vectors that contracts see as lists.
 
 ghost use Rattle.std.specs.Prelude.{◌≡◌, ◌<◌, ◌^◌, ◌++◌, ◌∷◌, [], length, OnOk, OnErr, IfOk, IfSome, IfNone};
 ghost use Rattle.std.specs.Iterator.Adapters.{IterYieldsInOrder};
@@ -12,10 +12,10 @@ use std::alloc::{AllocError, Global};
 use std::marker::Model;
 use std::slice;
 
-/// Want of memory.
+/// Out of memory.
 pub type NoMemory = AllocError;
 
-/// The order in which the bytes of a number stand.
+/// The byte order of numbers.
 #[derive(Clone, Copy, Debug, PartialEq, Eq)]
 pub enum Endian {
     /// The least significant first.
@@ -24,19 +24,19 @@ pub enum Endian {
     Big,
 }
 
-/// How a body spells its values.
+/// How a body encodes its values.
 #[derive(Clone, Copy, Debug, PartialEq, Eq)]
 pub enum Kind {
-    /// As text: tokens between white space.
+    /// Text: tokens between white space.
     Ascii,
-    /// In bytes, the least significant byte of a number first.
+    /// Binary, the least significant byte of a number first.
     BinaryLittle,
-    /// In bytes, the most significant byte of a number first.
+    /// Binary, the most significant byte of a number first.
     BinaryBig,
 }
 
 impl Kind {
-    /// Returns the order in which a binary body has the bytes of a number, and None for a body in text.
+    /// Returns the byte order of a binary body, or `None` for a text body.
     pub fn endian(self) -> Option<Endian>
         ensures { result ≡ endian_of self }
     {
@@ -48,35 +48,35 @@ impl Kind {
     }
 }
 
-/// The type of a value. In a binary body a value takes its type's size.
+/// The type of a value. In a binary body a value has its type's size.
 #[derive(Clone, Copy, Debug, PartialEq, Eq)]
 pub enum Scalar {
-    /// A signed whole number of one byte: `char` or `int8`.
+    /// A signed one-byte integer: `char` or `int8`.
     Char,
-    /// An unsigned whole number of one byte: `uchar` or `uint8`.
+    /// An unsigned one-byte integer: `uchar` or `uint8`.
     Uchar,
-    /// A signed whole number of two bytes: `short` or `int16`.
+    /// A signed two-byte integer: `short` or `int16`.
     Short,
-    /// An unsigned whole number of two bytes: `ushort` or `uint16`.
+    /// An unsigned two-byte integer: `ushort` or `uint16`.
     Ushort,
-    /// A signed whole number of four bytes: `int` or `int32`.
+    /// A signed four-byte integer: `int` or `int32`.
     Int,
-    /// An unsigned whole number of four bytes: `uint` or `uint32`.
+    /// An unsigned four-byte integer: `uint` or `uint32`.
     Uint,
-    /// A floating-point number of four bytes: `float` or `float32`.
+    /// A four-byte floating-point number: `float` or `float32`.
     Float,
-    /// A floating-point number of eight bytes: `double` or `float64`.
+    /// An eight-byte floating-point number: `double` or `float64`.
     Double,
 }
 
-/// What a property holds in each row.
+/// The content of a property in each row.
 #[derive(Clone, Copy, Debug, PartialEq, Eq)]
 pub enum Shape {
     /// One value.
     One(Scalar),
-    /// A list: the number of its items, and then as many items.
+    /// A list: the number of its items, and then the items.
     Many {
-        /// The type of the number of items. In a header that is read it is a whole-number type.
+        /// The type of the number of items. In a header that is read it is an integer type.
         count: Scalar,
         /// The type of each item.
         item: Scalar,
@@ -99,14 +99,14 @@ impl Model for Name {
 }
 
 impl Name {
-    /// The name of these bytes.
+    /// Returns the name of these bytes.
     pub fn from_vec(bytes: Vec<u8>) -> Name
         ensures { result ≡ bytes.items }
     {
         Name { bytes }
     }
 
-    /// The name of a copy of these bytes.
+    /// Returns the name of a copy of these bytes.
     pub fn from_slice(alloc: Global, bytes: &[u8]) -> Result<Name, NoMemory>
         ensures { IfOk result (λ name. name ≡ bytes.now) }
     {
@@ -115,14 +115,14 @@ impl Name {
         })
     }
 
-    /// The name's bytes.
+    /// Returns the name's bytes.
     pub fn as_slice(&self) -> &[u8]
         ensures { result.now ≡ self.now }
     {
         self.bytes.as_slice()
     }
 
-    /// The name's bytes, without a copy.
+    /// Returns the name's bytes, without a copy.
     pub fn into_vec(self) -> Vec<u8>
         ensures { result.items ≡ self }
     {
@@ -130,12 +130,12 @@ impl Name {
     }
 }
 
-/// A property: a value, or a list of values, that each row of an element has.
+/// A property: a value, or a list of values, in each row of an element.
 #[derive(Debug, Drop)]
 pub struct Property {
     /// Its name, which no other property of the same element has.
     pub name: Name,
-    /// What it holds.
+    /// Its content.
     pub shape: Shape,
 }
 
@@ -155,7 +155,7 @@ impl Model for Properties {
 }
 
 impl Properties {
-    /// No properties.
+    /// Returns an empty list of properties.
     pub fn new(alloc: Global) -> Properties
         ensures { result ≡ [] }
     {
@@ -164,21 +164,21 @@ impl Properties {
         }
     }
 
-    /// These properties.
+    /// Returns the list of these properties.
     pub fn from_vec(items: Vec<Property>) -> Properties
         ensures { result ≡ items.items }
     {
         Properties { items }
     }
 
-    /// The properties in order.
+    /// Returns the properties in order.
     pub fn as_slice(&self) -> &[Property]
         ensures { result.now ≡ self.now }
     {
         self.items.as_slice()
     }
 
-    /// An iterator over the properties in order.
+    /// Returns an iterator over the properties in order.
     pub fn iter(&self) -> slice::Iter<'_, Property>
         ensures rest { iter_rest result ≡ self.now }
         ensures fits { length (iter_rest result) < 2 ^ 64 }
@@ -187,14 +187,14 @@ impl Properties {
         self.items.iter()
     }
 
-    /// The properties in order, without a copy.
+    /// Returns the properties in order, without a copy.
     pub fn into_vec(self) -> Vec<Property>
         ensures { result.items ≡ self }
     {
         self.items
     }
 
-    /// Adds a property behind the others. After `NoMemory` the others are as they were.
+    /// Appends a property. After `NoMemory` the list is unchanged.
     pub fn push(&mut self, property: Property) -> Result<(), NoMemory>
         ensures added { OnOk result (self.new ≡ self.old ++ property ∷ []) }
         ensures kept { OnErr result (self.new ≡ self.old) }
@@ -216,14 +216,14 @@ impl<'a> IntoIterator for &'a Properties {
     }
 }
 
-/// An element: a table of rows that have the same properties.
+/// An element: a table of rows with the same properties.
 #[derive(Debug, Drop)]
 pub struct Element {
     /// Its name, which no other element of the header has.
     pub name: Name,
-    /// How many rows the body has of it.
+    /// The number of its rows in the body.
     pub count: u32,
-    /// What each row has, in order.
+    /// The properties of each row, in order.
     pub properties: Properties,
 }
 
@@ -243,7 +243,7 @@ impl Model for Elements {
 }
 
 impl Elements {
-    /// No elements.
+    /// Returns an empty list of elements.
     pub fn new(alloc: Global) -> Elements
         ensures { result ≡ [] }
     {
@@ -252,21 +252,21 @@ impl Elements {
         }
     }
 
-    /// These elements.
+    /// Returns the list of these elements.
     pub fn from_vec(items: Vec<Element>) -> Elements
         ensures { result ≡ items.items }
     {
         Elements { items }
     }
 
-    /// The elements in order.
+    /// Returns the elements in order.
     pub fn as_slice(&self) -> &[Element]
         ensures { result.now ≡ self.now }
     {
         self.items.as_slice()
     }
 
-    /// An iterator over the elements in order.
+    /// Returns an iterator over the elements in order.
     pub fn iter(&self) -> slice::Iter<'_, Element>
         ensures rest { iter_rest result ≡ self.now }
         ensures fits { length (iter_rest result) < 2 ^ 64 }
@@ -275,14 +275,14 @@ impl Elements {
         self.items.iter()
     }
 
-    /// The elements in order, without a copy.
+    /// Returns the elements in order, without a copy.
     pub fn into_vec(self) -> Vec<Element>
         ensures { result.items ≡ self }
     {
         self.items
     }
 
-    /// Adds an element behind the others. After `NoMemory` the others are as they were.
+    /// Appends an element. After `NoMemory` the list is unchanged.
     pub fn push(&mut self, element: Element) -> Result<(), NoMemory>
         ensures added { OnOk result (self.new ≡ self.old ++ element ∷ []) }
         ensures kept { OnErr result (self.new ≡ self.old) }
@@ -291,7 +291,7 @@ impl Elements {
         Ok(())
     }
 
-    /// Takes the last element off.
+    /// Removes the last element.
     pub(crate) fn pop(&mut self) -> Option<Element>
         ensures some { IfSome result (λ element. self.old ≡ self.new ++ element ∷ []) }
         ensures none { IfNone result (self.old ≡ []) }
@@ -315,7 +315,7 @@ impl<'a> IntoIterator for &'a Elements {
 /// A header: the kind of the body, and its elements in the order of their rows.
 #[derive(Debug, Drop)]
 pub struct Header {
-    /// How the body spells its values.
+    /// How the body encodes its values.
     pub kind: Kind,
     /// The elements, whose rows follow each other in this order.
     pub elements: Elements,

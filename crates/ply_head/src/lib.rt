@@ -1,19 +1,16 @@
-//! The header of a PLY file: read, and printed in its one spelling.
+//! Reads the header of a PLY file, and prints it in one canonical spelling.
 //!
-//! The format is Greg Turk's PLY. A header is a sequence of lines, each ended by LF or by CR
-//! LF. The first is `ply`, the next that is not skipped is `format KIND 1.0`, and the last is
-//! `end_header`. Between them stand the elements, each an `element NAME COUNT` line with the
-//! `property` lines of its rows behind it. Lines that begin with the word `comment` or
-//! `obj_info`, and lines without words, are skipped. Lines are counted from 1. A line has at
-//! most 1,000 bytes without its end, and a header at most 1,000 lines.
+//! The format is Greg Turk's PLY. A header is a sequence of lines, each ended by LF or CR LF. The first is `ply`, the next that
+//! is not skipped is `format KIND 1.0`, and the last is `end_header`. Between them are the elements, each an `element NAME
+//! COUNT` line with the `property` lines of its rows after it. Lines that begin with `comment` or `obj_info`, and blank lines,
+//! are skipped. Lines are counted from 1. A line has at most 1,000 bytes without its end, and a header at most 1,000 lines.
 //!
-//! The body begins with the byte behind the header, and is no matter of this crate.
+//! The body begins with the byte after the header; this crate does not read it.
 //!
-//! A header line costs no more memory than its bytes, whatever count it states, and the
-//! reader looks at each byte of the header a fixed number of times, but for names: a name is
-//! compared with those that stand before it, which are fewer than 1,000.
+//! A header line takes memory in proportion to its bytes, whatever count it states. The reader examines each byte of the header
+//! a fixed number of times, except that a name is compared with the names before it, which are fewer than 1,000.
 //!
-//! The crate stands on `num_text` (printed numbers) and `thiserror`.
+//! The crate depends on `num_text` (printed numbers) and `thiserror`.
 #![tactic(auto)]
 
 mod header;

@@ -1,4 +1,4 @@
-//! The lines of a header: cut at LF, each looked at once.
+//! The lines of a header: split at LF, each examined once.
 
 ghost use Rattle.std.specs.Prelude.{◌≡◌, IfOk};
 ghost use Rattle.ply_head.specs.Lines.{parts_of, line_text};
@@ -7,14 +7,14 @@ ghost use Rattle.ply_head.specs.Reading.{line_at, IsEndOf};
 
 use crate::refusal::HeadRefusal;
 
-/// How many bytes a line may have without its end.
+/// The maximal number of bytes in a line without its end.
 const LINE_LIMIT: usize = 1_000;
 
-/// How many bytes the longest line has with its end, CR LF. If none of as many bytes is LF,
-/// the line is too long.
+/// The number of bytes in the longest line with its end, CR LF. If none of the next bytes up to this number is LF, the line is
+/// too long.
 const LOOK_AHEAD: usize = 1_002;
 
-/// A line without its end: a CR before the LF belongs to it.
+/// Returns a line without its end: a CR before the LF belongs to it.
 fn without_end(line: &[u8]) -> &[u8]
     ensures { result.now ≡ line_text line.now }
 {
@@ -26,8 +26,7 @@ fn without_end(line: &[u8]) -> &[u8]
     }
 }
 
-/// The line at the front of the bytes, whose number is given, without its end, and what is
-/// behind it.
+/// Returns the line at the start of the bytes, with this number, without its end, and the bytes after it.
 pub(crate) fn line_of(bytes: &[u8], number: u32) -> Result<(&[u8], &[u8]), HeadRefusal>
     ensures line { Gives (λ found. (found.0.now, parts_of found.1.now)) result (line_at number (parts_of bytes.now)) }
     ensures tail { IfOk result (λ found. IsEndOf found.1.now bytes.now) }

@@ -1,5 +1,5 @@
-//! A header printed in its one spelling: one space between words, each line ended by LF,
-//! types by the first of their names, counts without leading zeros.
+//! Prints a header in its canonical spelling: one space between words, each line ended by LF, types by the first of their
+//! names, counts without leading zeros.
 
 ghost use Rattle.std.specs.Prelude.{◌≡◌, ◌++◌, ◌∷◌, [], map, OnOk, OnErr, IfOk};
 ghost use Rattle.std.specs.List.{flat_map};
@@ -34,7 +34,7 @@ fn scalar_word(scalar: Scalar) -> &'static [u8]
     }
 }
 
-/// Adds a word that more words of its line follow.
+/// Appends a word that is not the last of its line.
 fn push_word(text: &mut Vec<u8>, word: &[u8]) -> Result<(), NoMemory>
     ensures { OnOk result (text.new.items ≡ text.old.items ++ word.now ++ 32 ∷ []) }
 {
@@ -43,7 +43,7 @@ fn push_word(text: &mut Vec<u8>, word: &[u8]) -> Result<(), NoMemory>
     Ok(())
 }
 
-/// Adds the last word of a line, and the line's end.
+/// Appends the last word of a line, and the line's end.
 fn push_last_word(text: &mut Vec<u8>, word: &[u8]) -> Result<(), NoMemory>
     ensures { OnOk result (text.new.items ≡ text.old.items ++ word.now ++ 10 ∷ []) }
 {
@@ -60,7 +60,7 @@ fn push_format(text: &mut Vec<u8>, kind: Kind) -> Result<(), NoMemory>
     push_last_word(text, b"1.0")
 }
 
-/// Adds the words of a property's line that say what it holds.
+/// Appends the tokens of a property's line that state its shape.
 fn push_shape(text: &mut Vec<u8>, shape: Shape) -> Result<(), NoMemory>
     ensures { OnOk result (text.new.items ≡ text.old.items ++ (shape_text shape ++ 32 ∷ [])) }
 {
@@ -82,7 +82,7 @@ fn push_property(text: &mut Vec<u8>, property: &Property) -> Result<(), NoMemory
     push_last_word(text, property.name.as_slice())
 }
 
-/// Adds the line of an element, without those of its properties.
+/// Appends the line of an element, without those of its properties.
 fn push_element_line(text: &mut Vec<u8>, element: &Element) -> Result<(), NoMemory>
     ensures { OnOk result (text.new.items ≡ text.old.items ++ (element_text element.now.name element.now.count ++ 10 ∷ [])) }
 {
@@ -128,10 +128,10 @@ fn header_text(alloc: Global, head: &Header) -> Result<Vec<u8>, NoMemory>
     Ok(text)
 }
 
-/// Adds the printed header at the end of `out`: `ply`, the `format` line, each element's
-/// line with those of its properties behind it, and `end_header`.
+/// Appends the printed header to `out`: `ply`, the `format` line, each element's line with those of its properties after it,
+/// and `end_header`.
 ///
-/// The text is made beside `out` first, from the same allocator, so that after `NoMemory`, `out` is as it was.
+/// The text is first built separately, with the same allocator, so that after `NoMemory`, `out` is unchanged.
 pub fn push_head(out: &mut Vec<u8>, head: &Header) -> Result<(), NoMemory>
     ensures printed { OnOk result (out.new.items ≡ out.old.items ++ spelling head.now) }
     ensures kept { OnErr result (out.new.items ≡ out.old.items) }

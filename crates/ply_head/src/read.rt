@@ -1,4 +1,4 @@
-//! The reader of a header: line after line.
+//! Reads a header line by line.
 
 ghost use Rattle.std.specs.Prelude.{◌≡◌, ◌≤◌, length, drop, None, Err, IfOk, IfSome, IfNone};
 ghost use Rattle.ply_head.specs.Lines.{parts_of};
@@ -13,10 +13,10 @@ use crate::refusal::HeadRefusal;
 use crate::steps::{Step, next_step};
 use std::alloc::Global;
 
-/// How many lines a header may have.
+/// The maximal number of lines in a header.
 const LINES_LIMIT: u32 = 1_000;
 
-/// The header whose lines from line 2 on begin the bytes, and what is behind it.
+/// Returns the header whose lines from line 2 on begin the bytes, and the bytes after it.
 fn lines_from(alloc: Global, bytes: &[u8]) -> Result<(Header, &[u8]), HeadRefusal>
     ensures head { Gives (λ found. (found.0, found.1.now)) result (header_from 2 None (parts_of bytes.now)) }
     ensures tail { IfOk result (λ found. IsEndOf found.1.now bytes.now) }
@@ -34,7 +34,7 @@ fn lines_from(alloc: Global, bytes: &[u8]) -> Result<(Header, &[u8]), HeadRefusa
     Err(HeadRefusal::LongHeader)
 }
 
-/// The bytes behind the first line, if that is `ply`.
+/// Returns the bytes after the first line, if that is `ply`.
 #[tactic(auto, unfolding(crate::specs::Headers::header_of))]
 fn behind_first(bytes: &[u8]) -> Option<&[u8]>
     ensures some { IfSome result (λ rest. header_of bytes.now ≡ header_from 2 None (parts_of rest.now)) }
@@ -50,11 +50,10 @@ fn behind_first(bytes: &[u8]) -> Option<&[u8]>
     }
 }
 
-/// The header at the front of the bytes, and the position of the body's first byte, counted
-/// from 0.
+/// Returns the header at the start of the bytes, and the position of the body's first byte, counted from 0.
 ///
-/// The first refusal is answered, line by line, as [`HeadRefusal`] orders them. The answer
-/// takes memory for the names and the elements alone.
+/// Returns the first error, line by line, in the order of [`HeadRefusal`]. The result takes memory only for the names and the
+/// elements.
 pub fn read_head(alloc: Global, bytes: &[u8]) -> Result<(Header, usize), HeadRefusal>
     ensures exact { Gives (λ found. (found.0, drop found.1 bytes.now)) result (header_of bytes.now) }
     ensures position { IfOk result (λ found. found.1 ≤ length bytes.now) }

@@ -6,16 +6,14 @@ ghost use Rattle.ply_head.specs.declared.refusal.HeadRefusal.TheVariants.{NoMemo
 use std::alloc::{AllocError, AllocFailed};
 use thiserror::Error;
 
-/// Why a text has no header that is read. Lines are looked at one after another, and for
-/// each line the causes in the order in which they stand here, but `NotPly` is looked for
-/// first of all. Lines are counted from 1.
+/// Why a text has no valid header. Lines are examined one after another, and for each line the causes in this order, except
+/// that `NotPly` is tested first of all. Lines are counted from 1.
 #[derive(Clone, Copy, Debug, Drop, Error, PartialEq, Eq)]
 pub enum HeadRefusal {
     /// The bytes do not begin with the line `ply`.
     #[error("the file does not begin with the line `ply`")]
     NotPly,
-    /// The line is none that a header may have, or stands where it may not, or names an
-    /// unknown type.
+    /// The line is invalid, in the wrong position, or names an unknown type.
     #[error("line {0} is no header line that may stand there")]
     BadLine(u32),
     /// The line has more than 1,000 bytes without its end.
@@ -24,14 +22,13 @@ pub enum HeadRefusal {
     /// Line 1,000 is not `end_header`.
     #[error("the header has more than 1,000 lines")]
     LongHeader,
-    /// The line gives an element a name that stands before, or a property a name that
-    /// stands before in the same element.
+    /// The line repeats the name of an element, or the name of a property of the same element.
     #[error("line {0} repeats a name")]
     Twice(u32),
-    /// The bytes end within the header: in a line, or before a next one.
+    /// The bytes end within the header: in a line, or before the next one.
     #[error("the file ends within its header")]
     HeadCut,
-    /// Memory ran out.
+    /// Out of memory.
     #[error("no memory is left")]
     NoMemory,
 }

@@ -1,5 +1,4 @@
-//! What a header line says by itself: the table of lines, without regard to where the line
-//! stands.
+//! Parses a single header line, without regard to its position.
 
 ghost use Rattle.std.specs.Prelude.{◌≡◌, [], List, None, Some};
 ghost use Rattle.std.specs.Option.{option_map};
@@ -11,22 +10,22 @@ ghost use Rattle.ply_head.specs.StatementViews.{statement_view};
 use crate::header::{Kind, Scalar, Shape};
 use crate::words::{is_either, is_word, next_word};
 
-/// What a line says.
+/// The content of a line.
 #[derive(Clone, Copy, Debug)]
 pub(crate) enum Statement<'a> {
     /// Nothing: it is skipped.
     Nothing,
-    /// How the body spells its values.
+    /// How the body encodes its values.
     Format(Kind),
-    /// An element: its name and how many rows it has.
+    /// An element: its name and the number of its rows.
     Element(&'a [u8], u32),
-    /// A property: its name and what it holds.
+    /// A property: its name and shape.
     Property(&'a [u8], Shape),
     /// The header ends.
     Finish,
 }
 
-/// The kind of body that a word names.
+/// Returns the kind of body that a word names.
 #[tactic(auto, unfolding(crate::specs::Statements::kind_of))]
 fn kind_in(word: &[u8]) -> Option<Kind>
     ensures { result ≡ kind_of word.now }
@@ -42,7 +41,7 @@ fn kind_in(word: &[u8]) -> Option<Kind>
     }
 }
 
-/// The type that a word names.
+/// Returns the type that a word names.
 #[tactic(auto, unfolding(crate::specs::Statements::scalar_of))]
 fn scalar_in(word: &[u8]) -> Option<Scalar>
     ensures { result ≡ scalar_of word.now }
@@ -68,7 +67,7 @@ fn scalar_in(word: &[u8]) -> Option<Scalar>
     }
 }
 
-/// A type, if it is one of whole numbers.
+/// Returns a type, if it is an integer type.
 fn whole_type(scalar: Scalar) -> Option<Scalar>
     ensures { result ≡ whole_scalar scalar }
 {
@@ -90,7 +89,7 @@ fn is_name(word: &[u8]) -> bool
     word.iter().all(|byte| may_stand_in_name(*byte))
 }
 
-/// The word, if it may be a name.
+/// Returns the token, if it is a valid name.
 #[tactic(auto, unfolding(crate::specs::Statements::name_of))]
 fn name_in(word: &[u8]) -> Option<&[u8]>
     ensures { option_map (λ name. name.now) result ≡ name_of word.now }
@@ -125,7 +124,7 @@ fn element_words<'a>(line: &'a [u8]) -> Option<Statement<'a>>
     Some(Statement::Element(name, count))
 }
 
-/// The number of rows that a word is: 1 to 10 digits, within 32 bits.
+/// Parses a number of rows: 1 to 10 digits, within 32 bits.
 #[tactic(auto, unfolding(crate::specs::Statements::count_of))]
 fn count_in(word: &[u8]) -> Option<u32>
     ensures { result ≡ count_of word.now }
@@ -183,7 +182,7 @@ fn finish_words<'a>(line: &'a [u8]) -> Option<Statement<'a>>
     Some(Statement::Finish)
 }
 
-/// What a line without its end says, if it is one that a header may have at all.
+/// Returns the content of a line without its end, if it is a valid header line.
 #[tactic(auto, unfolding(crate::specs::Statements::statement_of_words))]
 pub(crate) fn statement_of<'a>(line: &'a [u8]) -> Option<Statement<'a>>
     ensures { option_map statement_view result ≡ statement_of_words (words_of line.now) }

@@ -1,7 +1,7 @@
-//! What a line does to the header so far: each line is one step of the grammar.
+//! The effect of a line on the header so far: each line is one step of the grammar.
 //!
-//! The header so far is `None` before the `format` line, so that what may stand where is a
-//! case here, and no state of its own.
+//! The header so far is `None` before the `format` line, so the allowed position of a line is a case here, and not a state of
+//! its own.
 
 ghost use Rattle.std.specs.Prelude.{◌≡◌, ◌++◌, ◌∷◌, [], Some, None, IfOk};
 ghost use Rattle.ply_head.specs.Lines.{words_of};
@@ -16,7 +16,7 @@ use crate::statement::{Statement, statement_of};
 use crate::words::is_word;
 use std::alloc::Global;
 
-/// Whether one of the properties has the name.
+/// Returns whether one of the properties has the name.
 fn is_property(properties: &Properties, name: &[u8]) -> bool
     ensures { result ≡ has_property name.now properties.now }
 {
@@ -28,7 +28,7 @@ fn is_property(properties: &Properties, name: &[u8]) -> bool
     false
 }
 
-/// Whether one of the elements has the name.
+/// Returns whether one of the elements has the name.
 fn is_element(elements: &Elements, name: &[u8]) -> bool
     ensures { result ≡ has_element name.now elements.now }
 {
@@ -40,7 +40,7 @@ fn is_element(elements: &Elements, name: &[u8]) -> bool
     false
 }
 
-/// The property goes to the last element.
+/// Adds the property to the last element.
 #[tactic(auto, using(crate::proofs::HeadLemmas::with_property_last))]
 fn with_property_in(
     alloc: Global,
@@ -65,7 +65,7 @@ fn with_property_in(
     }
 }
 
-/// An element with one property more.
+/// Returns an element with one more property.
 fn element_with(
     alloc: Global,
     element: Element,
@@ -92,7 +92,7 @@ fn element_with(
     })
 }
 
-/// A header with one element more, which has no properties yet.
+/// Returns a header with one more element, which has no properties yet.
 fn header_with(alloc: Global, head: Header, name: &[u8], count: u32) -> Result<Header, NoMemory>
     ensures { IfOk result (λ changed. changed ≡ record head { elements = head.elements ++ record { name = name.now; count = count; properties = [] } ∷ [] }) }
 {
@@ -107,7 +107,7 @@ fn header_with(alloc: Global, head: Header, name: &[u8], count: u32) -> Result<H
     Ok(Header { kind, elements })
 }
 
-/// What comes of a line.
+/// The result of a line.
 #[derive(Debug, Drop)]
 pub(crate) enum Step {
     /// More lines follow; the header so far.
@@ -116,7 +116,7 @@ pub(crate) enum Step {
     Ends(Header),
 }
 
-/// What a line, whose number is given, does to the header so far.
+/// Returns the effect of the line with this number on the header so far.
 #[tactic(auto, unfolding(crate::specs::Headers::step_of))]
 pub(crate) fn next_step(
     alloc: Global,
@@ -136,7 +136,7 @@ pub(crate) fn next_step(
     }
 }
 
-/// A line before the `format` line.
+/// Handles a line before the `format` line.
 #[tactic(auto, unfolding(crate::specs::Headers::step_of))]
 fn first_step(alloc: Global, number: u32, line: Statement<'_>) -> Result<Step, HeadRefusal>
     ensures { Gives step_view result (step_of number None (Some (statement_view line.entry))) }
@@ -151,7 +151,7 @@ fn first_step(alloc: Global, number: u32, line: Statement<'_>) -> Result<Step, H
     }
 }
 
-/// A line behind the `format` line.
+/// Handles a line after the `format` line.
 #[tactic(auto, unfolding(crate::specs::Headers::step_of))]
 fn later_step(
     alloc: Global,

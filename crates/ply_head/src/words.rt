@@ -1,18 +1,18 @@
-//! The words of a line: its runs of bytes other than space and tab.
+//! The tokens of a line: its runs of bytes other than space and tab.
 
 ghost use Rattle.std.specs.Prelude.{◌≡◌, [], ◌∷◌, ◌||◌, IfSome, IfNone, false, length, slice_index, ◌<◌};
 ghost use Rattle.std.specs.Str.{bytes_eq};
 ghost use Rattle.ply_head.specs.Lines.{words_of, is_blank};
 ghost use Rattle.ply_head.specs.Statements.{either_word};
 
-/// Whether a word is spelled so.
+/// Returns whether a word has this spelling.
 pub(crate) fn is_word(word: &[u8], text: &[u8]) -> bool
     ensures { result ≡ bytes_eq word.now text.now }
 {
     word == text
 }
 
-/// Whether a word is spelled in one of two ways.
+/// Returns whether a word has one of two spellings.
 pub(crate) fn is_either(word: &[u8], one: &[u8], other: &[u8]) -> bool
     ensures { result ≡ either_word word.now one.now other.now }
 {
@@ -25,7 +25,7 @@ fn is_blank_byte(byte: u8) -> bool
     byte == b' ' || byte == b'\t'
 }
 
-/// What is left of a line behind its first blanks.
+/// Returns the rest of a line after its first blanks.
 fn behind_blanks(line: &[u8]) -> &[u8]
     ensures words { words_of result.now ≡ words_of line.now }
     ensures begins { (0 < length result.now) → is_blank (slice_index result.now 0) ≡ false }
@@ -38,7 +38,7 @@ fn behind_blanks(line: &[u8]) -> &[u8]
     &line[line.len()..]
 }
 
-/// The first word of a line, and what is behind it.
+/// Returns the first word of a line, and the text after it.
 #[tactic(auto, using(crate::proofs::WordLemmas::words_nil))]
 pub(crate) fn next_word(line: &[u8]) -> Option<(&[u8], &[u8])>
     ensures some { IfSome result (λ found. words_of line.now ≡ found.0.now ∷ words_of found.1.now) }

@@ -1,14 +1,14 @@
--- The values of binary bodies, and their fields, cut by size.
+-- The values of binary bodies, and their fields by size.
 --
--- size_of        how many bytes a value of a type has
--- IsWhole        a type of whole numbers
--- bits_of        the number that bytes are in a byte order
--- is_signed      a type of signed numbers
--- signed_if      a number of so many bytes, in two's complement if it is signed
--- number_of      the whole number that a value's bytes are
--- bytes_of       so many bytes, and those behind them
--- list_field     the field of a list
--- binary_field   the field of a property, and the bytes behind it
+--   size_of        the size of a value of a type, in bytes
+--   IsWhole        an integer type
+--   bits_of        the number with these bytes in a byte order
+--   is_signed      a type of signed numbers
+--   signed_if      a number of this many bytes, in two's complement if it is signed
+--   number_of      the integer with a value's bytes
+--   bytes_of       this number of bytes, and those after them
+--   list_field     the field of a list
+--   binary_field   the field of a property, and the bytes after it
 use Rattle.std.specs.Prelude.{ℕ, ◌+◌, ◌*◌, ℤ, pos, List, Bool, true, false, nat_lt, length, take, drop, Result, Ok, Err}
 use Rattle.std.specs.Prelude.{if◌then◌else◌}
 use Rattle.byteorder.specs.Endian.{big_number, little_number, twos_complement}
@@ -25,7 +25,7 @@ use Rattle.ply_rows.specs.declared.refusal.RowRefusal.{RowRefusal}
 use Rattle.ply_rows.specs.declared.refusal.RowRefusal.TheVariants.{Cut}
 use Rattle.ply_rows.specs.Texts.{count_in}
 
--- how many bytes a value of a type has
+-- the size of a value of a type, in bytes
 abbrev pub size_of : Scalar → ℕ
 size_of Char = 1
 size_of Uchar = 1
@@ -36,13 +36,13 @@ size_of Uint = 4
 size_of Float = 4
 size_of Double = 8
 
--- a type of whole numbers
+-- an integer type
 abbrev pub IsWhole : Scalar → Type 0
 IsWhole Float = ⊥
 IsWhole Double = ⊥
 IsWhole scalar = Unit {0}
 
--- the number that the first n bytes are, in this order
+-- the number with the first n bytes, in this order
 abbrev pub bits_of : Endian → ℕ → List ℕ → ℕ
 bits_of Little n bytes = little_number n bytes
 bits_of Big n bytes = big_number n bytes
@@ -59,20 +59,20 @@ abbrev pub signed_if : Bool → ℕ → ℕ → ℤ
 signed_if true n bits = twos_complement n bits
 signed_if false n bits = pos bits
 
--- the whole number that a value's bytes are
+-- the integer with a value's bytes
 abbrev pub number_of : Endian → Scalar → List ℕ → ℤ
 number_of order scalar bytes = signed_if (is_signed scalar) (size_of scalar) (bits_of order (size_of scalar) bytes)
 
--- so many bytes, and those behind them
+-- this number of bytes, and those after them
 abbrev pub bytes_of : Place → ℕ → List ℕ → Result (List ℕ × List ℕ) RowRefusal
 bytes_of at n bytes = if nat_lt (length bytes) n then Err (Cut at) else Ok (take n bytes, drop n bytes)
 
--- the field of a list whose items begin at a place, if there are any
+-- the field of a list whose items begin at an offset, if there are any
 abbrev pub list_field : ℕ → ℕ → ℕ → Field
 list_field place size items = record { place = if nat_lt 0 items then place else 0; size = size; items = items }
 
--- the field of a property in the bytes from a place on, and the bytes behind it with their
--- place: as many bytes as the type has, or those of the count and then those of the items
+-- the field of a property in the bytes from an offset on, and the bytes after it with their offset: the bytes of the value, or
+-- those of the count and then those of the items
 unfoldable pub binary_field : Endian → Place → Shape → ℕ × List ℕ → Result (Field × (ℕ × List ℕ)) RowRefusal
 binary_field order at (One scalar) from = do
   value ← bytes_of at (size_of scalar) from.1

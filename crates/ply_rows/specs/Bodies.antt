@@ -1,13 +1,13 @@
 -- The rows of a body, and how they end.
 --
--- BodyRows          rows one after another, and why there are no more
--- row, ends, refused   the rows with one more before them; no rows, well ended; no rows, refused
--- row_then          a row, if its fields are there, and the rows behind it
--- rows_of_element   so many rows of an element, and what comes behind them
--- ending            what has to follow the last row
--- rows_from         the rows of elements, some of which may have been given
--- rows_of           the rows of a body
--- Ends              a call says how the rows end
+--   BodyRows          rows one after another, and why there are no more
+--   row, ends, refused   the rows after one more; no rows, and no error; no rows, rejected
+--   row_then          a row, if it has its fields, and the rows after it
+--   rows_of_element   a number of rows of an element, and what follows them
+--   ending            what has to follow the last row
+--   rows_from         the rows of elements, some already read
+--   rows_of           the rows of a body
+--   Ends              the result of a call says how the rows end
 use Rattle.std.specs.Prelude.{ℕ, zero, suc, ◌+◌, ◌-◌, ◌≡◌, List, [], ◌∷◌, Result, Ok, Err, Option, Some, None}
 use Rattle.ply_head.specs.declared.header.Header.{Header}
 use Rattle.ply_head.specs.declared.header.Element.{Element}
@@ -18,8 +18,7 @@ use Rattle.ply_rows.specs.declared.refusal.RowRefusal.{RowRefusal}
 use Rattle.ply_rows.specs.declared.refusal.RowRefusal.TheVariants.{Trailing}
 use Rattle.ply_rows.specs.Rests.{Rest, text, raw, rest_at, fields_of}
 
--- rows one after another with their fields, and why there are no more, unless they end as
--- they should
+-- rows one after another with their fields, and why there are no more, unless they end without an error
 pub record BodyRows : Type 0 where
   pub rows : List (RowAt × List Field)
   pub end : Option RowRefusal
@@ -28,21 +27,21 @@ pub record BodyRows : Type 0 where
 abbrev pub row : RowAt → List Field → BodyRows → BodyRows
 row at fields others = record { rows = (at, fields) ∷ others.rows; end = others.end }
 
--- no more rows, as it should be
+-- no more rows, without an error
 abbrev pub ends : BodyRows
 ends = record { rows = []; end = None }
 
--- no more rows, and why
+-- no more rows, with this error
 abbrev pub refused : RowRefusal → BodyRows
 refused why = record { rows = []; end = Some why }
 
--- a row, if its fields are there, and what comes behind it
+-- a row, if it has its fields, and what follows it
 abbrev pub row_then : RowAt → Result (List Field × Rest) RowRefusal → (Rest → BodyRows) → BodyRows
 row_then at (Ok read) next = row at read.0 (next read.1)
 row_then at (Err e) next = refused e
 
--- so many rows of an element with these properties, from this row on, and what comes behind
--- them: without properties there are none
+-- this number of rows of an element with these properties, from this row on, and what follows them: without properties there
+-- are none
 unfoldable pub rows_of_element : List Property → ℕ → ℕ → ℕ → Rest → (Rest → BodyRows) → BodyRows
 rows_of_element [] element number count rest next = next rest
 rows_of_element (property ∷ properties) element number zero rest next = next rest
@@ -50,15 +49,14 @@ rows_of_element (property ∷ properties) element number (suc count) rest next =
     row_then (record { element = element; row = number }) (fields_of element number 0 (property ∷ properties) rest)
     (λ behind. rows_of_element (property ∷ properties) element (number + 1) count behind next)
 
--- behind the last row nothing may be left
+-- nothing may follow the last row
 abbrev pub ending : Rest → BodyRows
 ending (text []) = ends
 ending (text (token ∷ tokens)) = refused (Trailing token.place)
 ending (raw order place []) = ends
 ending (raw order place (b ∷ bytes)) = refused (Trailing place)
 
--- the rows of the elements, of which the first has this number and so many of its rows were
--- given already
+-- the rows of the elements, counted from this number on, after some rows of the first that were already read
 unfoldable pub rows_from : List Element → ℕ → ℕ → Rest → BodyRows
 rows_from [] number given rest = ending rest
 rows_from (element ∷ elements) number given rest =
@@ -69,7 +67,7 @@ rows_from (element ∷ elements) number given rest =
 abbrev pub rows_of : Header → List ℕ → BodyRows
 rows_of head body = rows_from head.elements 0 0 (rest_at head.kind body 0)
 
--- a call says how the rows end
+-- the result of a call says how the rows end
 abbrev pub Ends : Result (Unit {0}) RowRefusal → BodyRows → Type 0
 Ends (Ok x) rows = rows ≡ ends
 Ends (Err why) rows = rows ≡ refused why

@@ -1,15 +1,15 @@
--- A reader of rows, as callers see it, and what its answers keep.
+-- The view of a reader of rows, and the invariants of its results.
 --
--- Reader         the header, the body, and the rows that are left
--- NextRow        what a call for the next row answers, and what it leaves
--- IsInside       a field lies in the body
--- IsSized        a field has as many bytes as its value or its items take
--- HasSize        in a binary body, a field has as many bytes as its value or its items take
--- HasTokens      a list's field has as many tokens as items from its place on, in a text
--- IsFieldOf      a field is one of a property
--- AreFieldsOf    fields are those of properties, one for each
--- AreRowFields   fields are those of a row of the header
--- EndsInside     a trailing byte is one of the body
+--   Reader         the header, the body, and the rows that are left
+--   NextRow        the result of a call for the next row, and what it leaves
+--   IsInside       a field is inside the body
+--   IsSized        a field has the size of its value or its items
+--   HasSize        in a binary body, a field has the size of its value or its items
+--   HasTokens      a list's field has as many tokens as items from its offset on, in a text
+--   IsFieldOf      a field is one of a property
+--   AreFieldsOf    fields are those of properties, one for each
+--   AreRowFields   fields are those of a row of the header
+--   EndsInside     a trailing byte is one of the body
 use Rattle.std.specs.Prelude.{ℕ, ◌≡◌, ◌≤◌, ◌<◌, ◌+◌, ◌*◌, List, [], length, slice_index_or, Result, Ok, Err, Option, Some, None}
 use Rattle.ply_head.specs.declared.header.Header.{Header}
 use Rattle.ply_head.specs.declared.header.Element.{Element}
@@ -32,29 +32,29 @@ pub record Reader : Type 0 where
   pub body : List ℕ
   pub left : BodyRows
 
--- the next of the rows that are left, or how they end; other than with a row, the reader is
--- as it was and no fields are given
+-- the next of the rows that are left, or how they end; unless a row is returned, the reader is unchanged and there are no
+-- fields
 abbrev pub NextRow : Result (Option RowAt) RowRefusal → List Field → Reader → Reader → Type 0
 NextRow (Ok (Some at)) fields old new = (old.left ≡ row at fields new.left) × (new.body ≡ old.body) × (new.head ≡ old.head)
 NextRow (Ok None) fields old new = (old.left ≡ ends) × (new ≡ old) × (fields ≡ [])
 NextRow (Err NoMemory) fields old new = (new ≡ old) × (fields ≡ [])
 NextRow (Err why) fields old new = (old.left ≡ refused why) × (new ≡ old) × (fields ≡ [])
 
--- the field lies in the body
+-- the field is inside the body
 abbrev pub IsInside : List ℕ → Field → Type 0
 IsInside body field = field.place + field.size ≤ length body
 
--- the field has as many bytes as its value or its items take
+-- the field has the size of its value or its items, in bytes
 abbrev pub IsSized : Shape → Field → Type 0
 IsSized (One scalar) field = field.size ≡ size_of scalar
 IsSized (Many count item) field = field.size ≡ field.items * size_of item
 
--- in a binary body the field has as many bytes as its value or its items take
+-- in a binary body the field has the size of its value or its items, in bytes
 abbrev pub HasSize : Kind → Shape → Field → Type 0
 HasSize Ascii shape field = Unit {0}
 HasSize kind shape field = IsSized shape field
 
--- in a text the items of a list are tokens that stand from the field's place on
+-- in a text the items of a list are tokens from the field's offset on
 abbrev pub HasTokens : Kind → List ℕ → Shape → Field → Type 0
 HasTokens Ascii body (Many count item) field = field.items ≤ length (tokens_at body field.place)
 HasTokens kind body shape field = Unit {0}
@@ -77,7 +77,7 @@ pub record AreRowFields (head : Header) (body : List ℕ) (at : RowAt) (fields :
   pub row : (e : Element) → at.row < (slice_index_or head.elements at.element e).count
   pub fields_are : (e : Element) → AreFieldsOf head.kind body (slice_index_or head.elements at.element e).properties fields
 
--- a byte that trails is one of the body
+-- a trailing byte is one of the body
 abbrev pub EndsInside : {X : Type 0} → List ℕ → Result X RowRefusal → Type 0
 EndsInside body (Err (Trailing place)) = place < length body
 EndsInside body result = Unit {0}

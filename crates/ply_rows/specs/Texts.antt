@@ -1,13 +1,13 @@
--- The fields of a text, counted off its tokens.
+-- The fields of a text, in terms of its tokens.
 --
--- Gives, Fails      what a call returned is what a definition says, unless memory ran out
--- end_of_tokens     where the last of some tokens ends
--- field_of_items    the field that the items of a list make
--- count_in          a whole number, as a number of items
--- count_or_refusal   a token that was read as a whole number, as a number of items
--- items_of          the field of so many items, and the tokens behind them
--- items_end         where so many tokens end, and the tokens behind them
--- text_field        the field of a property, and the tokens behind it
+--   Gives, Fails      the result of a call is that of a definition, unless memory ran out
+--   end_of_tokens     the end of the last of some tokens
+--   field_of_items    the field of a list with these items
+--   count_in          an integer, as a number of items
+--   count_or_refusal   a token that was read as an integer, as a number of items
+--   items_of          the field of this number of items, and the tokens after them
+--   items_end         the end of this number of tokens, and the tokens after them
+--   text_field        the field of a property, and the tokens after it
 use Rattle.std.specs.Prelude.{ℕ, ◌+◌, ◌-◌, ◌≡◌, ℤ, pos, negsuc, List, [], ◌∷◌, nat_lt, length, take, drop, Result, Ok, Err}
 use Rattle.std.specs.Prelude.{if◌then◌else◌}
 use Rattle.num_text.specs.WholeNumbers.{whole_of}
@@ -21,22 +21,22 @@ use Rattle.ply_rows.specs.declared.refusal.RowRefusal.{RowRefusal}
 use Rattle.ply_rows.specs.declared.refusal.RowRefusal.TheVariants.{BadCount, Cut, NoMemory}
 use Rattle.ply_rows.specs.Tokens.{Token}
 
--- the refusal is what reading gives, unless memory ran out
+-- the error is that of the definition, unless memory ran out
 abbrev pub Fails : {Y : Type 0} → RowRefusal → Result Y RowRefusal → Type 0
 Fails NoMemory read = Unit {0}
 Fails e read = read ≡ Err e
 
--- what a call returned, seen by view, is what reading gives, unless memory ran out
+-- the result of a call, seen by view, is that of the definition, unless memory ran out
 abbrev pub Gives : {X Y : Type 0} → (X → Y) → Result X RowRefusal → Result Y RowRefusal → Type 0
 Gives view (Ok x) read = read ≡ Ok (view x)
 Gives view (Err e) read = Fails e read
 
--- the place behind the last of some tokens, or this place where there are none
+-- the offset after the last of some tokens, or this offset if there are none
 abbrev pub end_of_tokens : ℕ → List Token → ℕ
 end_of_tokens place [] = place
 end_of_tokens place (token ∷ tokens) = end_of_tokens (token.place + length token.bytes) tokens
 
--- the field that the items of a list make: from the first to the end of the last
+-- the field of a list with these items: from the first to the end of the last
 abbrev pub field_of_items : List Token → Field
 field_of_items [] = record { place = 0; size = 0; items = 0 }
 field_of_items (token ∷ tokens) = record {
@@ -50,22 +50,21 @@ abbrev pub count_in : Place → ℤ → Result ℕ RowRefusal
 count_in at (pos n) = if nat_lt 4294967295 n then Err (BadCount at) else Ok n
 count_in at (negsuc n) = Err (BadCount at)
 
--- a token that was read as a whole number, or was not, as a number of items
+-- a token that was read as an integer, or was not, as a number of items
 abbrev pub count_or_refusal : Place → Result ℤ NumRefusal → Result ℕ RowRefusal
 count_or_refusal at (Ok number) = count_in at number
 count_or_refusal at (Err e) = Err (BadCount at)
 
--- the field of so many items, and the tokens behind them
+-- the field of this number of items, and the tokens after them
 abbrev pub items_of : Place → ℕ → List Token → Result (Field × List Token) RowRefusal
 items_of at n tokens = if nat_lt (length tokens) n then Err (Cut at) else Ok (field_of_items (take n tokens), drop n tokens)
 
--- where so many tokens end, and the tokens behind them
+-- the end of this number of tokens, and the tokens after them
 abbrev pub items_end : Place → ℕ → ℕ → List Token → Result (ℕ × List Token) RowRefusal
 items_end at n place tokens =
     if nat_lt (length tokens) n then Err (Cut at) else Ok (end_of_tokens place (take n tokens), drop n tokens)
 
--- the field of a property in a text, and the tokens behind it: one token, or one that
--- counts the items and then the items
+-- the field of a property in a text, and the tokens after it: one token, or one that counts the items and then the items
 unfoldable pub text_field : Place → Shape → List Token → Result (Field × List Token) RowRefusal
 text_field at shape [] = Err (Cut at)
 text_field at (One scalar) (token ∷ tokens) = Ok (record { place = token.place; size = length token.bytes; items = 1 }, tokens)

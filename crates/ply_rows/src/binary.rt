@@ -1,4 +1,4 @@
-//! The values of binary bodies: their sizes, whole numbers, and fields cut by size.
+//! The values of binary bodies: their sizes, integers, and fields by size.
 
 ghost use Rattle.std.specs.Prelude.{◌≡◌, ◌+◌, ◌≤◌, length, drop, IfOk, IfSome};
 ghost use Rattle.ply_head.specs.Readable.{HasWholeCount};
@@ -13,7 +13,7 @@ use crate::text::count_of_number;
 use byteorder::{BigEndian, ByteOrder, LittleEndian};
 use ply_head::{Endian, Kind, Scalar, Shape};
 
-/// How many bytes a value of this type has in a binary body.
+/// Returns the size of a value of this type in a binary body, in bytes.
 pub fn size(scalar: Scalar) -> usize
     ensures value { result ≡ size_of scalar }
     ensures small { result ≤ 8 }
@@ -26,7 +26,7 @@ pub fn size(scalar: Scalar) -> usize
     }
 }
 
-/// The whole number that bytes in this order are.
+/// Returns the integer with these bytes in this order.
 fn number_in<Order: ByteOrder>(scalar: Scalar, bytes: &[u8]) -> i64
     requires whole { IsWhole scalar }
     requires size { length bytes.now ≡ size_of scalar }
@@ -43,7 +43,7 @@ fn number_in<Order: ByteOrder>(scalar: Scalar, bytes: &[u8]) -> i64
     }
 }
 
-/// The whole number that a value's bytes are in a byte order.
+/// Returns the integer with a value's bytes in a byte order.
 fn whole_in_order(order: Endian, scalar: Scalar, bytes: &[u8]) -> i64
     requires whole { IsWhole scalar }
     requires size { length bytes.now ≡ size_of scalar }
@@ -55,8 +55,7 @@ fn whole_in_order(order: Endian, scalar: Scalar, bytes: &[u8]) -> i64
     }
 }
 
-/// Returns the whole number that a value's bytes are in a binary body of this kind, in two's
-/// complement if its type is signed.
+/// Returns the integer with a value's bytes in a binary body of this kind, in two's complement if its type is signed.
 pub fn binary_whole(kind: Kind, scalar: Scalar, bytes: &[u8]) -> i64
     requires binary { IsBinary kind }
     requires whole { IsWhole scalar }
@@ -70,7 +69,7 @@ pub fn binary_whole(kind: Kind, scalar: Scalar, bytes: &[u8]) -> i64
     }
 }
 
-/// So many bytes from a place on, and the place behind them.
+/// Returns this number of bytes from an offset on, and the offset after them.
 fn bytes_from(
     body: &[u8],
     at: Place,
@@ -90,7 +89,7 @@ fn bytes_from(
     Ok((&body[place..end], end))
 }
 
-/// The field of a property in a binary body, and the place behind it.
+/// Returns the field of a property in a binary body, and the offset after it.
 #[tactic(auto, unfolding(crate::specs::Binaries::binary_field))]
 pub(crate) fn read_binary_field(
     order: Endian,

@@ -12,7 +12,7 @@ use crate::refusal::RowRefusal;
 use crate::text::read_text_field;
 use ply_head::{Endian, Kind, Property, Shape};
 
-/// The field of a property, and the place behind it.
+/// Returns the field of a property, and the offset after it.
 #[tactic(auto, unfolding(crate::specs::Rests::field_of))]
 fn read_field(
     kind: Kind,
@@ -34,7 +34,7 @@ fn read_field(
     }
 }
 
-/// The fields of a row, added to `out`, and the place behind them.
+/// Appends the fields of a row to `out`, and returns the offset after them.
 pub(crate) fn read_fields(
     kind: Kind,
     body: &[u8],

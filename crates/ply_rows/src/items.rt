@@ -1,4 +1,4 @@
-//! The items of a list, one after another: tokens in a text, values of a size in a binary body.
+//! Iterates over the items of a list: tokens in a text, values of a size in a binary body.
 
 ghost use Rattle.std.specs.Prelude.{◌≡◌, ◌≤◌, ◌<◌, ◌-◌, ◌∷◌, length};
 ghost use Rattle.ply_rows.specs.Items.{items_from, HasItems, IsValueOf};
@@ -7,10 +7,10 @@ use crate::binary::size;
 use crate::tokens::next_token;
 use ply_head::{Kind, Scalar};
 
-/// The bytes of the first of so many items that stand one behind another from a place of a body on, and the place behind it.
+/// Returns the bytes of the first of several consecutive items from an offset of a body on, and the offset after it.
 ///
-/// So the items of a list are walked from its field's place on, as many as the field has. In a text an item is a token, in a binary
-/// body a value of its type. A walk looks at each byte a fixed number of times.
+/// To iterate over a list, start at its field's offset and call this once for each of the field's items. In a text an item is a
+/// token, in a binary body a value of its type. The iteration examines each byte a fixed number of times.
 pub fn first_item(kind: Kind, item: Scalar, body: &[u8], place: usize, items: u32) -> (&[u8], usize)
     requires some { 0 < items }
     requires place { place ≤ length body.now }

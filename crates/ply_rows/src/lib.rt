@@ -1,26 +1,21 @@
-//! The rows of a PLY body, one after another.
+//! Reads the rows of a PLY body, one after another.
 //!
-//! The format is Greg Turk's PLY. Behind the header stand the rows of its elements, in the
-//! header's order, and each row has its element's properties in order. An element without
-//! properties takes no bytes, and its rows are not walked.
+//! The format is Greg Turk's PLY. After the header come the rows of its elements, in the header's order, and each row has its
+//! element's properties in order. An element without properties takes no bytes, and its rows are skipped.
 //!
-//! In an `ascii` body a token is a run of bytes other than white space (space, tab, CR and
-//! LF), and line ends mean no more than that. A single value is one token. A list is a token
-//! that counts the items, and then as many item tokens. In a binary body a value has its
-//! type's size and the file's byte order. A list is its count and then its items, with
-//! nothing between.
+//! In an `ascii` body a token is a run of bytes other than white space (space, tab, CR and LF), and a line end is only white
+//! space. A single value is one token. A list is a token that counts the items, and then the item tokens. In a binary body a
+//! value has its type's size and the file's byte order. A list is its count and then its items, with nothing between.
 //!
-//! The reader looks at the body where it lies and copies nothing of it. It looks at each byte
-//! a fixed number of times, and holds the fields of one row at a time. A count, of rows or of
-//! items, is never trusted: it costs no memory and no time before the rows or items are there.
+//! The reader borrows the body and copies nothing of it. It examines each byte a fixed number of times, and holds the fields of
+//! one row at a time. A count of rows or items is never trusted: it takes no memory and no time before the rows or items are
+//! read.
 //!
-//! The crate stands on `ply_head` (headers), `num_text` (the counts of lists in text),
-//! `byteorder` and `thiserror`.
+//! The crate depends on `ply_head` (headers), `num_text` (the counts of lists in text), `byteorder` and `thiserror`.
 //!
 //! # Example
 //!
-//! The numbers of the second property of each row, where `ply_head::read_head` reads the header and
-//! `num_text::whole` a number:
+//! Reads the numbers of the second property of each row; `ply_head::read_head` reads the header and `num_text::whole` a number:
 //!
 //! ```rust
 //! let file =

@@ -1,5 +1,4 @@
-//! Where a property and a row stand among the rows, and which bytes of the body a property
-//! has.
+//! Positions of a property and a row among the rows, and the bytes of a property in the body.
 
 /// A property of a row. All three are counted from 0, in the header's order.
 #[derive(Clone, Copy, Debug, PartialEq, Eq)]
@@ -21,16 +20,14 @@ pub struct RowAt {
     pub row: u32,
 }
 
-/// The bytes that one property of a row has in the body: those of its value, or those of
-/// its list from the first item to the last.
+/// The bytes of one property of a row in the body: those of its value, or those of its list from the first item to the last.
 #[derive(Clone, Copy, Debug, PartialEq, Eq)]
 pub struct Field {
-    /// The first of the bytes, counted from the body's first byte. It is 0 for a list
-    /// without items.
+    /// The offset of the first byte in the body. It is 0 for a list without items.
     pub place: usize,
-    /// How many bytes they are. In a text, a list's bytes hold the white space between its
-    /// items too. It is 0 for a list without items.
+    /// The number of bytes. In a text, a list's bytes include the white space between its items. It is 0 for a list without
+    /// items.
     pub size: usize,
-    /// How many values they are: 1 where the property is a single value.
+    /// The number of values: 1 for a single value.
     pub items: u32,
 }

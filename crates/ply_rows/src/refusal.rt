@@ -7,28 +7,27 @@ use crate::place::Place;
 use std::alloc::{AllocError, AllocFailed};
 use thiserror::Error;
 
-/// Want of memory.
+/// Out of memory.
 pub type NoMemory = AllocError;
 
-/// Why the next row is not read. The properties are looked at in the order of the rows.
+/// Why the next row is not read. The properties are examined in the order of the rows.
 #[derive(Clone, Copy, Debug, Drop, Error, PartialEq, Eq)]
 pub enum RowRefusal {
-    /// The count of this list is no number of items: in a text its token is no whole number,
-    /// or one of too many digits; in any body it is negative, or over 4,294,967,295.
+    /// The count of this list is invalid: in a text its token is no integer, or has too many digits; in any body it is
+    /// negative, or over 4,294,967,295.
     #[error("a list has no count of items")]
     BadCount(Place),
-    /// The body ends before this property is whole.
+    /// The body ends before the end of this property.
     #[error("the body ends within a row")]
     Cut(Place),
-    /// All rows were read, and something follows: in a text anything other than white
-    /// space, in a binary body any byte. Its first byte has this place, counted from the
-    /// body's first byte.
+    /// All rows were read, and something follows: in a text anything other than white space, in a binary body any byte. `place`
+    /// is the offset of its first byte in the body.
     #[error("something follows the last row")]
     Trailing {
-        /// The place in the body.
+        /// The offset in the body.
         place: usize,
     },
-    /// Memory ran out.
+    /// Out of memory.
     #[error("no memory is left")]
     NoMemory,
 }

@@ -1,4 +1,4 @@
-//! The reader of rows: it stands between two rows of a body, and gives the next.
+//! The reader of rows: it is between two rows of a body, and returns the next.
 
 ghost use Rattle.std.specs.Prelude.{◌≡◌, ◌≤◌, ◌<◌, ◌+◌, ◌^◌, length, drop, take, slice_index_or, IfOk, IfSome};
 ghost use Rattle.ply_head.specs.declared.header.Element.{Element};
@@ -14,15 +14,14 @@ use crate::tokens::next_token;
 use ply_head::{Header, Kind};
 use std::marker::Model;
 
-/// A reader of the rows of a body, which it gives one after another.
+/// A reader of the rows of a body, one after another.
 ///
-/// Contracts see its header and its body, and the rows that it will still give with how
-/// they end.
+/// Contracts see its header and its body, and the rows that are left with how they end.
 #[derive(Drop)]
 pub struct Rows<'a> {
     head: &'a Header,
     body: &'a [u8],
-    // The element that is read, how many of its rows were given, and the place behind them.
+    // The current element, the number of its rows that were returned, and the offset after them.
     element: usize,
     row: u32,
     place: usize,
@@ -46,7 +45,7 @@ impl<'a> Model for Rows<'a> {
     ghost invariant = { λ rows. (rows.place ≤ length rows.body.now) × (rows.element ≤ length rows.head.now.elements) × IsReadable rows.head.now };
 }
 
-/// The next element that has a row to be read, and that row.
+/// Returns the next element that has an unread row, and that row.
 fn next_element(head: &Header, element: usize, row: u32) -> (usize, u32)
     requires { element ≤ length head.now.elements }
     ensures most { result.0 ≤ length head.now.elements }
@@ -67,7 +66,7 @@ fn next_element(head: &Header, element: usize, row: u32) -> (usize, u32)
     (elements.len(), row)
 }
 
-/// What follows the last row.
+/// Checks that nothing follows the last row.
 fn end_of_rows(kind: Kind, body: &[u8], place: usize) -> Result<(), RowRefusal>
     requires { place ≤ length body.now }
     ensures ends { Ends result (ending (rest_at kind body.now place)) }
@@ -88,7 +87,7 @@ fn end_of_rows(kind: Kind, body: &[u8], place: usize) -> Result<(), RowRefusal>
 impl<'a> Rows<'a> {
     ghost use Rattle.ply_rows.specs.Readers.{NextRow, AreRowFields};
 
-    /// A reader that stands before the first row of a body, which a header cuts.
+    /// Returns a reader before the first row of a body with this header.
     pub fn new(head: &'a Header, body: &'a [u8]) -> Rows<'a>
         requires { IsReadable head.now }
         ensures head { result.head ≡ head.now }
@@ -104,11 +103,11 @@ impl<'a> Rows<'a> {
         }
     }
 
-    /// The next row: `out` has one field for each property, in order, and nothing else.
+    /// Reads the next row: `out` gets one field for each property, in order, and nothing else.
     ///
-    /// None comes where all rows were given and nothing but white space, in a binary body
-    /// nothing, follows. After None and after a refusal `out` is empty and the reader is as
-    /// it was, so that the next call has the same answer, if memory does not run out.
+    /// Returns `None` if all rows were read and nothing but white space (in a binary body nothing) follows. After `None` and
+    /// after an error `out` is empty and the reader is unchanged, so that the next call has the same result unless memory runs
+    /// out.
     pub fn next_row(&mut self, out: &mut Vec<Field>) -> Result<Option<RowAt>, RowRefusal>
         ensures next { NextRow result out.new.items self.old self.new }
         ensures row { IfOk result (λ found. IfSome found (λ at. AreRowFields self.old.head self.old.body at out.new.items)) }
@@ -142,7 +141,7 @@ impl<'a> Rows<'a> {
         }
     }
 
-    /// The bytes of a field.
+    /// Returns the bytes of a field.
     pub fn bytes(&self, field: Field) -> &'a [u8]
         requires { IsInside self.now.body field }
         ensures { result.now ≡ take field.size (drop field.place self.now.body) }

@@ -1,4 +1,4 @@
-//! The fields of a text: tokens counted off, property by property.
+//! The fields of a text: tokens counted property by property.
 
 ghost use Rattle.std.specs.Prelude.{◌≤◌, length, IfOk};
 ghost use Rattle.num_text.specs.WholeNumbers.{whole_of};
@@ -13,10 +13,10 @@ use crate::tokens::next_token;
 use num_text::whole;
 use ply_head::Shape;
 
-/// The most items that a list may have.
+/// The maximal number of items in a list.
 const ITEMS_LIMIT: i64 = 4_294_967_295;
 
-/// A number of items, if a list may have so many.
+/// Returns a number of items, if it is valid.
 pub(crate) fn count_of_number(number: i64, at: Place) -> Result<u32, RowRefusal>
     ensures { Gives (λ count. count) result (count_in at number) }
 {
@@ -26,7 +26,7 @@ pub(crate) fn count_of_number(number: i64, at: Place) -> Result<u32, RowRefusal>
     Ok(number as u32)
 }
 
-/// The number of items that a token says.
+/// Returns the number of items that a token states.
 fn count_in_token(token: &[u8], at: Place) -> Result<u32, RowRefusal>
     ensures { Gives (λ count. count) result (count_or_refusal at (whole_of token.now)) }
 {
@@ -36,7 +36,7 @@ fn count_in_token(token: &[u8], at: Place) -> Result<u32, RowRefusal>
     }
 }
 
-/// Where so many more tokens end.
+/// Returns the end of the next tokens, of this number.
 fn end_of_items(body: &[u8], at: Place, more: u32, place: usize) -> Result<usize, RowRefusal>
     requires { place ≤ length body.now }
     ensures least { IfOk result (λ end. place ≤ end) }
@@ -53,7 +53,7 @@ fn end_of_items(body: &[u8], at: Place, more: u32, place: usize) -> Result<usize
     Ok(end)
 }
 
-/// The items of a list, and the place behind them.
+/// Returns the items of a list, and the offset after them.
 fn read_items(
     body: &[u8],
     at: Place,
@@ -88,7 +88,7 @@ fn read_items(
     }
 }
 
-/// The field of a property in a text, and the place behind it.
+/// Returns the field of a property in a text, and the offset after it.
 #[tactic(auto, unfolding(crate::specs::Texts::text_field))]
 pub(crate) fn read_text_field(
     body: &[u8],

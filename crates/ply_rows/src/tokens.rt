@@ -3,14 +3,14 @@
 ghost use Rattle.std.specs.Prelude.{◌≡◌, ◌≤◌, ◌<◌, ◌-◌, ℕ, true, [], ◌∷◌, length, take, drop, slice_index, false, IfSome, IfNone};
 ghost use Rattle.ply_rows.specs.Tokens.{is_white_space, tokens_at};
 
-/// Whether a byte is space, tab, CR or LF.
+/// Returns whether a byte is space, tab, CR or LF.
 fn is_white_space_byte(byte: u8) -> bool
     ensures { result ≡ is_white_space byte }
 {
     byte == b' ' || byte == b'\t' || byte == b'\r' || byte == b'\n'
 }
 
-/// The first place, from one on, that has no white space.
+/// Returns the first offset, from this one on, without white space.
 fn token_start(body: &[u8], place: usize) -> usize
     requires { place ≤ length body.now }
     ensures least { place ≤ result }
@@ -26,7 +26,7 @@ fn token_start(body: &[u8], place: usize) -> usize
     body.len()
 }
 
-/// The first place, from one on, that has white space, or else the body's end.
+/// Returns the first offset, from this one on, with white space, or else the body's end.
 fn token_end(body: &[u8], start: usize) -> usize
     requires { start ≤ length body.now }
     ensures least { start ≤ result }
@@ -42,7 +42,7 @@ fn token_end(body: &[u8], start: usize) -> usize
     body.len()
 }
 
-/// The next token from a place on: where it begins, and the place behind it.
+/// Returns the next token from an offset on: its start, and the offset after it.
 pub(crate) fn next_token(body: &[u8], place: usize) -> Option<(usize, usize)>
     requires { place ≤ length body.now }
     ensures from { IfSome result (λ token. place ≤ token.0) }

@@ -1,10 +1,10 @@
-//! What a program tells a person on standard error beside its line.
+//! Hints for users on standard error.
 
-/// What a program tells a person on standard error beside its line. No clause depends on it.
+/// Prints hints for users on standard error, beside the program's output. No contract depends on it.
 pub trait Advice: Drop {
     /// Returns the program's name, with which each of these texts begins.
     fn program(&self) -> &'static str;
 
-    /// Prints what a person can do about the line that was said.
+    /// Prints a hint about the line that was printed.
     fn advise<R: Eprint>(&self, rt: &R, line: &[u8]);
 }

@@ -1,9 +1,9 @@
-//! The system as a host: its files and standard output, for every program of this repository.
+//! The operating system as a host: its files and standard output, for every program of this repository.
 //!
-//! [`RealHost`] implements the trait of `host` over std's files. What a person is told on standard error is the program's own
-//! matter, by [`Advice`]. [`Unnamed`] is a system whose program has no name, from which the arguments of the command line are read.
+//! [`RealHost`] implements the trait of `host` over std's files. Each program has its own hints for standard error, by
+//! [`Advice`]. [`Unnamed`] is a system whose program has no name, from which the arguments of the command line are read.
 //!
-//! It depends on `host`.
+//! Depends on `host`.
 #![tactic(auto)]
 
 mod advice;

@@ -1,11 +1,11 @@
-//! The system as a host: its files and standard output, over std's files.
+//! The operating system as a host: its files and standard output, over std's files.
 //!
-//! It is the trusted edge of a program. The system tells no bytes, so no proof says what a file holds. Its counts and
-//! its open files are told, and what a call of it took and gave is what the file under it took and gave, in std's words.
+//! This is the trusted edge of a program. The system exposes no bytes, so no proof says what a file contains. Its counts and
+//! its open files are exposed, and the bytes that a call read and wrote are those of the file under it, in std's terms.
 //!
-//! Standard error gets which call failed and why, and the program's advice. If such a text cannot be printed, or there is no memory
-//! for a name in it, all goes on as before. None is printed while a file is open for writing, since that file may have the number of
-//! a closed standard error.
+//! On standard error it prints which call failed and why, and the program's hint. If this text cannot be printed, or there is
+//! no memory for a name in it, the run goes on. Nothing is printed while a file is open for writing, since that file may have
+//! the descriptor of a closed standard error.
 ghost use Rattle.std.specs.Prelude.{false, ◌≡◌, ◌≤◌, ◌<◌, IfOk, OnOk, OnErr, IsErr, IfSome, IsTrue, length, take, Ok};
 ghost use Rattle.std.specs.Io.KnownBytes.{ReadConsumes, WriteAppends};
 ghost use Rattle.host.specs.State.{IsFrontCount, IsNextPiece, FailedFrom, takes, appends};
@@ -21,9 +21,9 @@ use std::rt::Files;
 
 /// The files and the standard output of the system, over its runtime.
 ///
-/// A read or a write that is interrupted is made again, 1,000 times in all at most. (std makes an interrupted open again by
-/// itself, as often as it takes.) Each other error is a fault, and so are the last of these interruptions and a write that takes
-/// nothing of bytes that are not empty. A file that was written is finished when the system has put its bytes where they stay.
+/// An interrupted read or write is repeated, at most 1,000 times in all. (std repeats an interrupted open by itself, without
+/// limit.) Each other error is a fault, and so are the last of these interruptions and a write that takes none of the bytes. A
+/// file is finished when the system has synced its bytes.
 #[derive(Drop)]
 pub struct RealHost<R: Drop, F: Drop, A: Drop> {
     rt: R,
@@ -31,15 +31,15 @@ pub struct RealHost<R: Drop, F: Drop, A: Drop> {
     writing: Option<F>,
     faults: u64,
     opens: u64,
-    // what a person is told
+    // the hints for users
     advice: A,
-    // the file that was opened or made last, where there was memory for its name
+    // the file that was opened or created last, if there was memory for its name
     name: Option<String>,
     // why a write failed, until the file is closed
     trouble: Option<io::Error>,
 }
 
-/// Has the system put the bytes of the file where they stay. What keeps none, as a pipe or a terminal, has nothing to put.
+/// Syncs the bytes of the file. Targets that store none, such as a pipe or a terminal, need no sync.
 fn sync<F: OpenFile>(file: &F) -> io::Result<()> {
     match file.sync_data() {
         Err(error)
@@ -54,7 +54,7 @@ fn sync<F: OpenFile>(file: &F) -> io::Result<()> {
 impl<R: Files + Print + Eprint + AllocGlobal + Drop, A: Advice> RealHost<R, R::File, A> {
     ghost use Rattle.real_host.specs.Real.{real_state};
 
-    /// With no file open, and no fault so far.
+    /// Returns a host with no file open and no fault so far.
     pub fn new(rt: R, advice: A) -> Self
         ensures writing { (real_state result).writing ≡ false }
         ensures reading { (real_state result).reading ≡ false }
@@ -72,7 +72,7 @@ impl<R: Files + Print + Eprint + AllocGlobal + Drop, A: Advice> RealHost<R, R::F
         }
     }
 
-    /// The answer of a call of the system, an error of which is counted as a fault.
+    /// Returns the result of a call of the system, and counts an error as a fault.
     fn counted<T: Drop>(&mut self, answer: io::Result<T>) -> Result<T, Failed>
         ensures ok { IfOk answer (λ value. result ≡ Ok value) }
         ensures kept { OnOk answer (self.new ≡ self.old) }
@@ -95,7 +95,7 @@ impl<R: Files + Print + Eprint + AllocGlobal + Drop, A: Advice> RealHost<R, R::F
         Failed
     }
 
-    /// Tells why a call on what has this name failed, if it did.
+    /// Prints why a call on the file of this name failed, if it did.
     fn tell<T>(&self, name: &str, answer: &io::Result<T>) {
         if let Err(error) = answer {
             let program = self.advice.program();
@@ -103,7 +103,7 @@ impl<R: Files + Print + Eprint + AllocGlobal + Drop, A: Advice> RealHost<R, R::F
         }
     }
 
-    /// The same of the file that is open.
+    /// Does the same for the file that is open.
     fn tell_of_file<T>(&self, answer: &io::Result<T>) {
         match &self.name {
             Some(name) => self.tell(name.as_str(), answer),
@@ -127,7 +127,7 @@ impl<R: Files + Print + Eprint + AllocGlobal + Drop, A: Advice> Host for RealHos
         Ok(())
     }
 
-    /// All clauses but the last are those of `Host`; the last is what the file gave.
+    /// Reads by the contract of `Host`; the last postcondition states what the file gave.
     fn read(&mut self, buffer: &mut [u8]) -> Result<usize, Failed>
         requires { IsTrue (real_state self.old).reading }
         ensures within { IfOk result (λ count. count ≤ length buffer.new) }
@@ -153,7 +153,7 @@ impl<R: Files + Print + Eprint + AllocGlobal + Drop, A: Advice> Host for RealHos
         Ok(())
     }
 
-    /// All clauses but the last are those of `Host`; the last is what the file took.
+    /// Appends by the contract of `Host`; the last postcondition states what the file took.
     fn append(&mut self, bytes: &[u8]) -> Result<usize, Failed>
         requires { IsTrue (real_state self.old).writing }
         ensures front { IfOk result (λ count. IsFrontCount count bytes.now) }
@@ -173,7 +173,7 @@ impl<R: Files + Print + Eprint + AllocGlobal + Drop, A: Advice> Host for RealHos
         }
     }
 
-    /// Where a write failed, that is why the file is not finished.
+    /// Syncs and closes the file. Fails if a write failed before, with that error.
     fn finish(&mut self) -> Result<(), Failed> {
         let put = match &self.writing {
             Some(file) => sync(file),

@@ -1,11 +1,11 @@
 //! A system whose program has no name.
 //!
-//! std returns all arguments, or none if one of them is not UTF-8. The name says nothing of what is asked for, so a program whose path
-//! is not UTF-8 runs as any other.
+//! std returns all arguments, or none if one of them is not UTF-8. The name is irrelevant for the command, so a program whose
+//! path is not UTF-8 runs like any other.
 use std::env::FillError;
 use std::rt::Env;
 
-/// The words of this system, with nothing in the place of the name.
+/// The arguments of this system, with an empty name.
 #[derive(Drop)]
 pub struct Unnamed<'a, R>(pub &'a R);
 

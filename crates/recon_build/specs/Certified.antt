@@ -1,4 +1,4 @@
--- What a certificate states of a minimum cut.
+-- The content of a certificate of a minimum cut.
 --
 --   CertifiesCut s slots cut claim     the claim is of this cut: of its complex and its labels
 use Rattle.std.specs.Prelude.{Option, List}

@@ -1,7 +1,7 @@
 -- Rows of a certificate, and the numbers by which they are sorted.
 --
 --   key_of_flow row, key_of_sink row     the number of its facet, and of its cell
---   HasFlowRows slots amounts rows       they are those of the flow that the amounts are by the numbers of sides, in some order
+--   HasFlowRows slots amounts rows       they are those of the flow given by amounts at the numbers of sides, in some order
 use Rattle.std.specs.Prelude.{ℕ, Bool, Option, List, slice_index}
 use Rattle.std.specs.List.Sorted.{IsPermutation}
 use Rattle.cert_text.specs.declared.certificate.FlowRow.{FlowRow}
@@ -18,7 +18,7 @@ key_of_flow row = facet_key row.facet
 abbrev pub key_of_sink : SinkRow → ℕ
 key_of_sink row = row_key row.cell
 
--- whichever cells are fixed, and whatever flow says the same of facets
+-- for any cells fixed outside, and any flow with the same amounts on facets
 abbrev pub HasFlowRows : List (Option Cell) → List ℕ → List FlowRow → Type 0
 HasFlowRows slots amounts rows =
     (fixed : List Bool) (on : List ℕ → ℕ) → SaysOfSides slots fixed (slice_index amounts) on

@@ -1,10 +1,10 @@
--- Rows as a walk over the store's cells finds them.
+-- Rows in the order of a pass over the store's cells.
 --
---   row_if_inside inside e               the row of a cell, if it is inside
---   flow_if_any amounts e k              the row of what flows over its side k, if that is not 0
+--   row_if_inside inside e               the row for a cell, if it is inside
+--   flow_if_any amounts e k              the row of the flow over its side k, if that is not 0
 --   flows_if_any amounts e               those of its four sides
---   sink_if_any amounts e                the row of what flows into its sink, if that is not 0
---   all_inside, all_flows, all_sinks     those of all live cells, by rising id
+--   sink_if_any amounts e                the row of the flow into its sink, if that is not 0
+--   all_inside, all_flows, all_sinks     those of all live cells, by ascending id
 use Rattle.std.specs.Prelude.{ℕ, ◌*◌, ◌+◌, ◌++◌, ◌==◌, Bool, not, Option, List, [], ◌∷◌, slice_index, if◌then◌else◌}
 use Rattle.std.specs.List.{flat_map}
 use Rattle.slab.specs.Slab.{entries_from}
@@ -16,7 +16,7 @@ use Rattle.tetra_store.specs.declared.link.Cell.{Cell}
 use Rattle.tetra_store.specs.Links.{tetrahedron_from}
 use Rattle.vote_net.specs.CellRows.{facet_row, risen, row_from}
 
--- its vertices in rising order
+-- its vertices in ascending order
 unfoldable pub row_if_inside : List Bool → ℕ × Cell → List (List ℕ)
 row_if_inside inside e = if flag_at inside e.0 then row_from (risen (tetrahedron_from e.1.v)) ∷ [] else []
 
@@ -30,7 +30,7 @@ flow_if_any amounts e k =
 abbrev pub flows_if_any : List ℕ → ℕ × Cell → List FlowRow
 flows_if_any amounts e = flow_if_any amounts e 0 ++ (flow_if_any amounts e 1 ++ (flow_if_any amounts e 2 ++ flow_if_any amounts e 3))
 
--- its vertices in rising order, and the amount at its id
+-- its vertices in ascending order, and the amount at its id
 unfoldable pub sink_if_any : List ℕ → ℕ × Cell → List SinkRow
 sink_if_any amounts e =
     let amount : ℕ = slice_index amounts e.0 in

@@ -1,4 +1,4 @@
-//! The best surface of a scan. It stands on the minimum cut of its cells, on `surface` and on the rows of a certificate.
+//! The best surface of a scan. Depends on the minimum cut of its cells, on `surface` and on the rows of a certificate.
 
 ghost use Rattle.std.specs.Prelude.{◌≡◌, ◌≤◌, ◌*◌, ◌++◌, IfOk, length};
 ghost use Rattle.std.specs.Option.{option_map};
@@ -28,18 +28,18 @@ use surface::facets_by_number;
 use tetra_store::Tetra;
 use watch::{Silent, Watch};
 
-/// A surface, and the certificate that shows it best.
+/// A surface, and the certificate of its optimality.
 #[derive(Drop)]
 pub struct Solved {
-    /// The linked Delaunay cells of the box's corners and the scan's distinct points, between which the surface is.
+    /// The linked Delaunay cells of the box's corners and the scan's distinct points.
     pub tetra: Tetra,
-    /// The facets between inside and outside, in scaled whole units.
+    /// The facets between inside and outside, in scaled units.
     pub mesh: Mesh,
     /// The labels, and a flow whose value is their cost.
     pub cert: Certificate,
 }
 
-/// The certificate of a minimum cut of a scan's cells, with this stamp or none.
+/// Returns the certificate of a minimum cut of a scan's cells, with this fingerprint or none.
 fn certificate(
     alloc: Global,
     scan: &Scan,
@@ -69,7 +69,7 @@ fn certificate(
     })
 }
 
-/// The mesh of the best labels of a scan's cells and their certificate, which has this stamp or none.
+/// Returns the mesh of the best labels of a scan's cells and their certificate, which has this fingerprint or none.
 fn solve_over(
     alloc: Global,
     scan: &Scan,
@@ -93,12 +93,12 @@ fn solve_over(
     Ok(Solved { tetra, mesh, cert })
 }
 
-/// The best surface of a scan at these settings, and its certificate, which has this stamp or none.
+/// Returns the best surface of a scan at these settings, and its certificate, which has this fingerprint or none.
 ///
-/// The surface is the mesh of the directed facets between outside and inside cells, under the labels of least sight-line cost whose
-/// inside is smallest. The certificate has these labels and a flow whose value is that cost, so that no labels can cost less. Points
-/// that stand in several rows are one vertex, which has the sights of all of them. The surface is closed: each directed edge of
-/// its faces is there as often as its reverse. The only error is want of memory.
+/// The surface is the mesh of the directed facets between outside and inside cells, under the labels of least sight-line cost
+/// whose inside is smallest. The certificate has these labels and a flow whose value is that cost, so that no labels can cost
+/// less. Equal points of several rows are one vertex, with the sights of all of them. The surface is closed: each directed edge
+/// of its faces occurs as often as its reverse. The only error is out of memory.
 pub fn solve_scan(
     alloc: Global,
     scan: &Scan,
@@ -115,8 +115,8 @@ pub fn solve_scan(
     solve_scan_watched(alloc, scan, settings, stamp, &mut Silent)
 }
 
-/// The same, where a watch is told of the stages of the work. The answer is the same whatever watches: it has the mesh of each other
-/// solution, and its certificate differs from theirs in the flow alone, and in the stamp where another was handed in.
+/// Returns the same, and reports the stages of the work to a progress callback, which does not affect the result: any other
+/// solution has the same mesh, and its certificate differs only in the flow, and in the fingerprint if another was passed.
 pub fn solve_scan_watched<W: Watch>(
     alloc: Global,
     scan: &Scan,

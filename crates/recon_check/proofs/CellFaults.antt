@@ -16,7 +16,7 @@ use Rattle.cell_net.specs.declared.network.CellNetwork.{CellNetwork}
 use Rattle.cert_text.specs.Certificates.{Claim}
 use Rattle.cert_text.specs.declared.certificate.FlowRow.{FlowRow}
 use Rattle.cert_text.specs.declared.certificate.SinkRow.{SinkRow}
-use Rattle.flow_check.specs.Firsts.{NoneBelow}
+use Rattle.flow_net.specs.Firsts.{NoneBelow}
 use Rattle.flow_net.specs.Faults.{IsFixedInside, IsOverCapacity, sink_limit, IsOverSink, total_out, IsUnbalanced, IsNotLeast}
 use Rattle.flow_net.specs.Faults.{AreWithinLimits}
 use Rattle.flow_net.specs.Nets.{flag_at}

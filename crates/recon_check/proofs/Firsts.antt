@@ -1,6 +1,6 @@
 -- The first of a list, by number and as it stands.
 use Rattle.std.proofs.Common.{ℕ, ◌≡◌, ◌<◌, ap, sym, ◌∙◌, arith, List, [], length, get_or}
-use Rattle.flow_check.specs.Firsts.{IsFirst}
+use Rattle.flow_net.specs.Firsts.{IsFirst}
 use Rattle.visibility.proofs.Indices.{index_has}
 use Rattle.recon_check.specs.Claims.{IsFirstOf, NoneOf}
 

@@ -4,7 +4,7 @@
 -- stand behind, though rows rise.
 use Rattle.std.proofs.Common.{ℕ, ◌≡◌, ◌<◌, ◌↔◌, sym, subst, ◌∙◌, arith, List, [], length, get_or}
 use Rattle.std.proofs.Common.{All, AllPairs, Contains}
-use Rattle.flow_check.specs.Firsts.{IsFirst, NoneBelow}
+use Rattle.flow_net.specs.Firsts.{IsFirst, NoneBelow}
 use Rattle.geo_sign.specs.Rising.{IsBefore}
 use Rattle.line_text.proofs.Rows.{before_trans}
 use Rattle.visibility.proofs.Indices.{at_index, index_has, not_before_itself}

@@ -5,7 +5,7 @@
 -- and so than that of any cell before (unbalanced_more).
 use Rattle.std.proofs.Common.{below_more, ℕ, ◌≡◌, ◌<◌, ◌≤◌, ◌+◌, ◌⊎◌, inl, inr, refl, sym, subst, arith, Option, Some, None, IfSome}
 use Rattle.cell_net.specs.declared.network.CellNetwork.{CellNetwork}
-use Rattle.flow_check.specs.Firsts.{NoneBelow}
+use Rattle.flow_net.specs.Firsts.{NoneBelow}
 use Rattle.flow_net.specs.declared.Flow.{Flow}
 use Rattle.vote_net.specs.Counts.{row_of}
 use Rattle.vote_net.specs.Gathered.{row_key}

@@ -15,7 +15,7 @@ use Rattle.cell_net.specs.Arcs.{across, is_free}
 use Rattle.cert_text.specs.Certificates.{Claim, IsWellFormed}
 use Rattle.cert_text.specs.declared.certificate.FlowRow.{FlowRow}
 use Rattle.cert_text.specs.declared.certificate.SinkRow.{SinkRow}
-use Rattle.flow_check.specs.Firsts.{IsFirst}
+use Rattle.flow_net.specs.Firsts.{IsFirst}
 use Rattle.flow_net.specs.Nets.{flag_at}
 use Rattle.geo_sign.specs.Rising.{IsBefore}
 use Rattle.geo_sign.specs.Tetrahedron.{facet_at, facet_of}

@@ -24,7 +24,7 @@ use Rattle.cert_text.specs.declared.refusal.CertRefusal.{CertRefusal}
 use Rattle.cert_text.specs.declared.refusal.CertRefusal.TheVariants as refusals
 use Rattle.cert_text.proofs.CertCodes.{cert_code}
 use Rattle.cert_text.proofs.OneRefusal.{refused_once, printed_not_refused}
-use Rattle.flow_check.specs.Firsts.{IsFirst}
+use Rattle.flow_net.specs.Firsts.{IsFirst}
 use Rattle.flow_net.specs.declared.votes.Settings.{Settings}
 use Rattle.mesh_ply.specs.Meshes.{Surface}
 use Rattle.solution.specs.Scans.{scene_of_scan}

@@ -1,4 +1,4 @@
--- What the rows of a certificate say of the cells and facets of a scan.
+-- What the rows of a certificate state about the cells and facets of a scan.
 --
 --   is_among_rows rows row       the row is one of a list
 --   is_inside claim row          the certificate has the cell as inside
@@ -14,7 +14,7 @@ use Rattle.std.specs.Str.{bytes_eq}
 use Rattle.cert_text.specs.Certificates.{Claim}
 use Rattle.cert_text.specs.declared.certificate.FlowRow.{FlowRow}
 use Rattle.cert_text.specs.declared.certificate.SinkRow.{SinkRow}
-use Rattle.flow_check.specs.Firsts.{IsFirst}
+use Rattle.flow_net.specs.Firsts.{IsFirst}
 use Rattle.visibility.specs.Complexes.{Complex}
 
 -- the row is one of the list

@@ -1,13 +1,13 @@
--- `ask IN POINTS OUT`: whether points are inside or outside the best surface of a scan.
+-- `ask IN POINTS OUT`: classifies points as inside or outside the best surface of a scan.
 --
 --   QueryNames                       the names
 --   ask_names names                  those that the program holds
---   too_long_points_line             the line where the file of the points is too long
---   query_refusal_line why           the line of the refusal of points
+--   too_long_points_line             the line for a file of points that is too long
+--   query_refusal_line why           the line for the error of points
 --   ask_line points asked inside     the line
 --   label_line label                 a label, as a line
 --   labels_text labels               the text of labels
---   PointsRefused limit options ..   the file of the points that are asked for is no list of points
+--   PointsRefused limit options ..   the file of the query points is not a list of points
 --   ask_done output points labels    the answer that writes labels
 --   WritesLabels output options ..   the labels of the points are written
 --   PointsAnswered limit output ..   the file is a list of points, whose labels are written
@@ -49,7 +49,7 @@ ask_names names = record { input = names.input.now; points = names.points.now; o
 unfoldable pub too_long_points_line : List ℕ
 too_long_points_line = codes "refused 19 too_long points\n"
 
--- the line of the refusal of points; want of memory has none
+-- the line for the error of points; out of memory has none
 abbrev pub query_refusal_line : QueryRefusal → Option (List ℕ)
 query_refusal_line (queries.BadToken token) = Some (number_line (codes "refused 23 bad_query token ") token)
 query_refusal_line (queries.LongNumber token) = Some (number_line (codes "refused 24 long_query token ") token)
@@ -71,7 +71,7 @@ label_line label = if label then codes "inside\n" else codes "outside\n"
 unfoldable pub labels_text : List Bool → List ℕ
 labels_text labels = codes "answers " ++ (decimal (length labels) ++ (10 ∷ flat_map label_line labels))
 
--- the bytes are no list of points, and the first reason why is said
+-- the bytes are not a list of points, and the first error is printed
 pub record PointsRefused (limit : ℕ) (options : Options) (bytes : List ℕ) (answer : Answer) : Type 0 where
   pub within : length bytes ≤ limit
   pub why : QueryRefusal
@@ -80,7 +80,7 @@ pub record PointsRefused (limit : ℕ) (options : Options) (bytes : List ℕ) (a
   pub line_is : query_refusal_line why ≡ Some line
   pub is : answer ≡ refusal 2 line
 
--- the answer that writes labels, and says how many points the scan has, how many labels there are, and how many are inside
+-- the answer that writes labels, and prints the numbers of points of the scan, of labels, and of those that are inside
 abbrev pub ask_done : (output : List ℕ) → (points : ℕ) → (labels : List Bool) → Answer
 ask_done output points labels =
     record {
@@ -99,7 +99,7 @@ pub record WritesLabels (output : List ℕ) (options : Options) (scan : Shown) (
   pub labelled : AreLabels scan settings points labels
   pub is : answer ≡ ask_done output (length (points_of scan)) labels
 
--- the bytes are a list of points in the unit of these options, whose labels are written
+-- the bytes are a list of points at the scale of these options, whose labels are written
 pub record PointsAnswered (limit : ℕ) (output : List ℕ) (options : Options) (scan : Shown) (bytes : List ℕ)
     (answer : Answer) : Type 0 where
   pub within : length bytes ≤ limit
@@ -107,7 +107,7 @@ pub record PointsAnswered (limit : ℕ) (output : List ℕ) (options : Options) 
   pub read : points_in bytes options.unit ≡ Ok points
   pub answers : WritesLabels output options scan points answer
 
--- the bytes of the points' file are refused, or are points whose labels are written
+-- the bytes of the points' file are rejected, or are points whose labels are written
 abbrev pub IsAsked : (limit : ℕ) → (output : List ℕ) → Options → Shown → (bytes : List ℕ) → Answer → Type 0
 IsAsked limit output options scan bytes answer =
     PointsRefused limit options bytes answer ⊎ PointsAnswered limit output options scan bytes answer
@@ -119,7 +119,7 @@ pub record AskAnswer (limit : ℕ) (names : QueryNames) (options : Options) (fil
   pub there : files names.points ≡ Some bytes
   pub answers : FileTooLong limit 2 too_long_points_line bytes answer ⊎ IsAsked limit names.output options scan bytes answer
 
--- it reads the scan, then the points where the scan is not refused, and writes their labels or refuses one of the two
+-- it reads the scan, then the points if the scan is not rejected, and writes their labels or rejects one of the two
 abbrev pub ask_task : QueryNames → Options → Task
 ask_task names options =
     record {

@@ -1,4 +1,4 @@
--- `build IN MESH CERT`: the best surface of a scan, and the certificate that shows it best.
+-- `build IN MESH CERT`: the best surface of a scan, and the certificate of its optimality.
 --
 --   build_names names                the names that the program holds
 --   build_line counts inside faces   the line
@@ -26,8 +26,7 @@ use Rattle.recon_cmd.specs.declared.status.Status.TheVariants.{Done}
 abbrev pub build_names : BuildNames → SurfaceNames
 build_names names = record { input = names.input.now; mesh = names.mesh.now; cert = names.cert.now }
 
--- `points P scanners S sights R inside I faces F cost C`: the counts and the cost, and how many cells are inside and how
--- many faces there are
+-- `points P scanners S sights R inside I faces F cost C`: the counts and the cost, and the numbers of inside cells and faces
 unfoldable pub build_line : Counts → (inside faces : ℕ) → List ℕ
 build_line counts inside faces =
     labelled (codes "points ") counts.points ++ labelled (codes " scanners ") counts.scanners
@@ -45,8 +44,8 @@ Shows mesh_name cert_name mesh claim answer =
       line = build_line claim.counts (length claim.inside) (length mesh.faces);
     }
 
--- the best surface of the scan at the weights of these options is written, which is closed and whose text is read back, with
--- the certificate that shows it best and is stamped with the scan's file: the mesh first
+-- the best surface of the scan at the weights of these options is written, which is closed and whose text can be read back,
+-- with the certificate of its optimality and the fingerprint of the scan's file: the mesh first
 pub record WritesSurface (names : SurfaceNames) (options : Options) (bytes : List ℕ) (scan : Shown)
     (answer : Answer) : Type 0 where
   pub settings : Settings
@@ -61,7 +60,7 @@ pub record WritesSurface (names : SurfaceNames) (options : Options) (bytes : Lis
   pub stamped : claim.stamp ≡ Some (stamp_for options bytes)
   pub is : Shows names.mesh names.cert mesh claim answer
 
--- it reads the scan, and writes its best surface or refuses it
+-- it reads the scan, and writes its best surface or rejects it
 abbrev pub build_task : SurfaceNames → Options → Task
 build_task names options =
     record { Denies = ⊥; Refuses = ⊤; most = 1; Answers = λ limit. ToScan limit names.input options (WritesSurface names options) }

@@ -1,9 +1,9 @@
 -- `cells IN OUT`: the cells of a scan.
 --
---   cells_keys                       what decides which points a scan has
+--   cells_keys                       the options that determine the points of a scan
 --   cells_names names                the names that the program holds
 --   cells_line points cells          the line
---   row_line numbers                 numbers between single spaces, as a line
+--   row_line numbers                 numbers separated by single spaces, as a line
 --   cells_text rows                  the text of cells
 --   WritesCells output scan answer   the answer that writes the cells of a scan
 --   cells_task names options         the command
@@ -21,7 +21,7 @@ use Rattle.recon_cmd.specs.declared.options.keys.Key.TheVariants.{Unit as unit_k
 use Rattle.recon_cmd.specs.declared.status.Status.TheVariants.{Done}
 use Rattle.recon_cmd.specs.Options.{Options}
 
--- what decides which points a scan has
+-- the options that determine the points of a scan
 abbrev pub cells_keys : List Key
 cells_keys = unit_key ∷ scanner_key ∷ []
 
@@ -33,7 +33,7 @@ cells_names names = record { input = names.input.now; output = names.output.now 
 unfoldable pub cells_line : (points cells : ℕ) → List ℕ
 cells_line points cells = codes "points " ++ (decimal points ++ (codes " cells " ++ (decimal cells ++ (10 ∷ []))))
 
--- the numbers between single spaces, ended by LF
+-- the numbers separated by single spaces, ended by LF
 unfoldable pub row_line : List ℕ → List ℕ
 row_line [] = 10 ∷ []
 row_line (number ∷ []) = decimal number ++ (10 ∷ [])
@@ -54,7 +54,7 @@ pub record WritesCells (output : List ℕ) (scan : Shown) (answer : Answer) : Ty
     line = cells_line (length (points_of scan)) (length rows);
   }
 
--- it reads the scan, and writes its cells or refuses it
+-- it reads the scan, and writes its cells or rejects it
 abbrev pub cells_task : Names → Options → Task
 cells_task names options =
     record {

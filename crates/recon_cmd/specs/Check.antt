@@ -1,31 +1,31 @@
--- `check IN MESH CERT`: whether a mesh is the best surface of a scan, and a certificate shows it best. And
--- `upgrade IN MESH CERT OUT`: where it is so, the certificate with the stamp of this run.
+-- `check IN MESH CERT`: verifies that a mesh is the best surface of a scan, and a certificate of its optimality. And `upgrade
+-- IN MESH CERT OUT`: if so, writes the certificate with the fingerprint of this run.
 --
--- Yes says what was found; each reason against a mesh and a certificate has a number and a word of its own, and says where it is
--- and what was compared. Rows are counted from 0 in their list.
+-- The line for yes states what was found; each reason for no has a number and a name of its own, and states the position and
+-- the compared values. Rows are counted from 0 in their list.
 --
---   check_names, output_of names       the first three names that the program holds, and the file that is written, if one is
---   too_long_cert_line                 the line where the certificate's file is too long
---   upgraded_line cost                 the line of `upgrade` where it says yes
---   which_word which                   a number that a certificate states, in a word
+--   check_names, output_of names       the first three names that the program holds, and the output file, if there is one
+--   too_long_cert_line                 the line for a certificate's file that is too long
+--   upgraded_line cost                 the line of `upgrade` for yes
+--   which_word which                   the name of a number that a certificate states
 --   line_with_numbers text numbers     a line of a text and numbers
---   amounts_line text a b              a line of a text and two amounts behind their labels
---   digests_line text a b              a line of a text, and two digests that are stated and here
+--   amounts_line text a b              a line of a text and two amounts after their labels
+--   digests_line text a b              a line of a text, and two digests, the stated one and this run's
 --   scanner_text p                     a fixed scanner, or `none`
---   scanners_line text a b             a line of a text, and two fixed scanners that are stated and here
+--   scanners_line text a b             a line of a text, and two fixed scanners, the stated one and this run's
 --   reason_line reason                 the line of a reason
 --   yes_line inside faces cost         the line of yes
 --   verdict_line verdict               the line of a verdict
 --   verdict_status verdict             its status
---   restamped stamp claim              a certificate with this stamp
---   IsConcluded output ..              what follows from a verdict: it is said, or a certificate is written
---   HasVerdict output options ..       the verdict on a mesh and a certificate, and what follows from it
+--   restamped stamp claim              a certificate with this fingerprint
+--   IsConcluded output ..              the effect of a verdict: it is printed, or a certificate is written
+--   HasVerdict output options ..       the verdict on a mesh and a certificate, and its effect
 --   CertAnswer, MeshAnswer limit ..    the answer to the bytes of a certificate, and to those of a mesh
 --   CheckAnswer limit names ..         the answer to a scan
---   check_task names output options    the command: `upgrade` where there is a file to write, and `check` where there is none
---   task_for asked                     the command that the program was asked for
---   HasVerdictFor asked held ..        the verdict, for what it was asked for and the scan that it holds with its stamp
---   CertAnswerFor, MeshAnswerFor       the answers to the bytes of a certificate, and to those of a mesh, for the same
+--   check_task names output options    the command: `upgrade` if there is a file to write, and `check` if there is none
+--   task_for asked                     the requested command
+--   HasVerdictFor asked held ..        the verdict, for a request and a scan in memory with its fingerprint
+--   CertAnswerFor, MeshAnswerFor       the answers to the bytes of a certificate, and to those of a mesh, for a request
 use Rattle.std.specs.Fmt.{signed_decimal}
 use Rattle.std.specs.Option.{option_map}
 use Rattle.std.specs.Prelude.{ℕ, List, Option, codes, [], ◌∷◌, ◌++◌, Some, None, ◌≡◌, ◌⊎◌, ◌≤◌, length, ⊤}
@@ -66,7 +66,7 @@ use Rattle.recon_check.specs.declared.answer.Answer.TheVariants as verdicts
 abbrev pub check_names : CheckNames → SurfaceNames
 check_names names = record { input = names.input.now; mesh = names.mesh.now; cert = names.cert.now }
 
--- the file that is written, if one is
+-- the output file, if there is one
 abbrev pub output_of : CheckNames → Option (List ℕ)
 output_of names = option_map (λ name. name.now) names.output
 
@@ -77,7 +77,7 @@ too_long_cert_line = codes "refused 19 too_long cert\n"
 unfoldable pub upgraded_line : (cost : ℕ) → List ℕ
 upgraded_line cost = labelled (codes "upgraded cost ") cost ++ (10 ∷ [])
 
--- a number that a certificate states, in a word
+-- the name of a number that a certificate states
 abbrev pub which_word : Which → List ℕ
 which_word Points = codes "points"
 which_word Scanners = codes "scanners"
@@ -85,11 +85,11 @@ which_word Sights = codes "sights"
 which_word Vote = codes "vote"
 which_word Smooth = codes "smooth"
 
--- a text, and numbers behind it
+-- a text, and numbers after it
 unfoldable pub line_with_numbers : (text numbers : List ℕ) → List ℕ
 line_with_numbers text numbers = text ++ (spaced numbers ++ (10 ∷ []))
 
--- a text, and two amounts behind it, each behind its label
+-- a text, and two amounts after it, each after its label
 unfoldable pub amounts_line : (text first second : List ℕ) → (a b : ℕ) → List ℕ
 amounts_line text first second a b = text ++ (labelled first a ++ (labelled second b ++ (10 ∷ [])))
 
@@ -98,7 +98,7 @@ unfoldable pub digests_line : (text stated here : List ℕ) → List ℕ
 digests_line text stated here =
     text ++ (codes " stated " ++ (encode_lower stated ++ (codes " here " ++ (encode_lower here ++ (10 ∷ [])))))
 
--- where all points were seen from, or that there is no such place
+-- the position from which all points were seen, or `none`
 abbrev pub scanner_text : Option Point → List ℕ
 scanner_text None = codes "none"
 scanner_text (Some p) = signed_decimal p.x ++ (32 ∷ (signed_decimal p.y ++ (32 ∷ signed_decimal p.z)))
@@ -148,12 +148,12 @@ abbrev pub verdict_status : Verdict → Status
 verdict_status (verdicts.Yes inside faces cost) = Done
 verdict_status (verdicts.No reason) = No
 
--- the certificate with this stamp, whichever it had
+-- the certificate with this fingerprint, in place of its own
 abbrev pub restamped : StampView → Claim → Claim
 restamped stamp claim = record claim { stamp = Some stamp }
 
--- The verdict is said. Where it is yes and there is a file to write, the certificate is written there with this stamp, and its
--- cost is said.
+-- The verdict is printed. If it is yes and there is an output file, the certificate is written there with this fingerprint, and
+-- its cost is printed.
 abbrev pub IsConcluded : (output : Option (List ℕ)) → StampView → (cert : List ℕ) → Verdict → Answer → Type 0
 IsConcluded (Some output) stamp cert (verdicts.Yes inside faces cost) answer =
     HasCertificate cert
@@ -166,8 +166,8 @@ IsConcluded (Some output) stamp cert (verdicts.Yes inside faces cost) answer =
 IsConcluded output stamp cert verdict answer =
     answer ≡ record { status = verdict_status verdict; reads = 3; writes = []; line = verdict_line verdict }
 
--- the mesh and the certificate are the best surface of the scan at the weights of these options and the certificate that
--- shows it best, without a stamp or with this one, or the first reason why they are not is said
+-- the mesh and the certificate are the best surface of the scan at the weights of these options and a certificate of its
+-- optimality, without a fingerprint or with this one, or the first reason why they are not is printed
 pub record HasVerdict (output : Option (List ℕ)) (options : Options) (stamp : StampView) (scan : Shown) (mesh cert : List ℕ)
     (answer : Answer) : Type 0 where
   pub settings : Settings
@@ -192,15 +192,15 @@ pub record MeshAnswer (limit : ℕ) (names : SurfaceNames) (Decide : (mesh cert 
   pub answers : FileTooLong limit 2 too_long_mesh_line mesh answer
       ⊎ ((length mesh ≤ limit) × CertAnswer limit names (Decide mesh) files answer)
 
--- the mesh and the certificate decide which verdict there is
+-- the mesh and the certificate determine the verdict
 abbrev pub CheckAnswer : (limit : ℕ) → SurfaceNames → (output : Option (List ℕ)) → Options → Files → (bytes : List ℕ) → Shown
     → Answer
     → Type 0
 CheckAnswer limit names output options files bytes scan =
     MeshAnswer limit names (HasVerdict output options (stamp_for options bytes) scan) files
 
--- It reads the scan, then the mesh where the scan is not refused, then the certificate where the mesh is not too long. It says yes,
--- or no, or refuses what is not readable.
+-- It reads the scan, then the mesh if the scan is not rejected, then the certificate if the mesh is not too long. It answers
+-- yes, or no, or rejects an unreadable file.
 abbrev pub check_task : SurfaceNames → (output : Option (List ℕ)) → Options → Task
 check_task names output options =
     record {
@@ -210,20 +210,19 @@ check_task names output options =
       Answers = λ limit files. ToScan limit names.input options (CheckAnswer limit names output options files) files;
     }
 
--- the command that the program was asked for
+-- the requested command
 abbrev pub task_for : CheckAsked → Task
 task_for asked = check_task (check_names asked.names.now) (output_of asked.names.now) (options_view asked.options.now)
 
--- the verdict on a mesh and a certificate, and what follows from it, for what the program was asked for and the scan that it holds
--- with its stamp
+-- the verdict on a mesh and a certificate, and its effect, for a request and a scan in memory with its fingerprint
 abbrev pub HasVerdictFor : CheckAsked → StampedScan → (mesh cert : List ℕ) → Answer → Type 0
 HasVerdictFor asked held =
     HasVerdict (output_of asked.names.now) (options_view asked.options.now) (stamp_view held.stamp) (shown_of held.scan)
 
--- the file of the certificate that was asked for is too long, or it decides on this mesh
+-- the requested file of the certificate is too long, or it decides on this mesh
 abbrev pub CertAnswerFor : CheckAsked → StampedScan → (mesh : List ℕ) → Files → Answer → Type 0
 CertAnswerFor asked held mesh = CertAnswer asked.limit (check_names asked.names.now) (HasVerdictFor asked held mesh)
 
--- the file of the mesh that was asked for is too long, or it and the certificate decide
+-- the requested file of the mesh is too long, or it and the certificate decide
 abbrev pub MeshAnswerFor : CheckAsked → StampedScan → Files → Answer → Type 0
 MeshAnswerFor asked held = MeshAnswer asked.limit (check_names asked.names.now) (HasVerdictFor asked held)

@@ -1,25 +1,26 @@
--- The commands: the words of each, and what it is.
+-- The commands: their arguments, and their definitions.
 --
 --   Asked                               a command with its names and options
---   asked_by make words                 what is made of names and options, if the words are such
---   cells_of, build_of, check_of, upgrade_of, ask_of    what names and options ask each command for
---   slice_of, demo_of                   what other words ask each command for
---   command_of words                    the command that the words are, if they are one
---   asked command                       what a command of the program is
---   task_of asked                       what it is beside its words
---   bad_words_answer                    the answer of words that are no command
---   AnswerWithin limit asked ..         the answer of a command, or of words that are none, where a file may have so many bytes
+--   asked_by make words                 the result of names and options, if the arguments have this shape
+--   cells_of, build_of, check_of, upgrade_of, ask_of    the command with these names and options
+--   slice_of, demo_of                   the command with other arguments
+--   command_of words                    the command in the arguments, if they are valid
+--   asked command                       the definition of a command of the program
+--   task_of asked                       the command without its arguments
+--   bad_words_answer                    the answer to invalid arguments
+--   AnswerWithin limit asked ..         the answer of a command, or to invalid arguments, for this maximal size of an input
+--                                       file
 --   AnswerOf asked files answer         the same with the limit of `run`
---   most_reads asked                    how many files a command reads at most
---   StatusFits status asked             the statuses that a command may end with at all
---   EndsWith, Tells                     what is told after a run of a command
---   OutcomeWithin limit asked ..        what a run of a command does to its host, where a file may have so many bytes
+--   most_reads asked                    the maximal number of files that a command reads
+--   StatusFits status asked             the possible statuses of a command
+--   EndsWith, Tells                     the exposed state after a run of a command
+--   OutcomeWithin limit asked ..        the effect of a run of a command on its host, for this maximal size of an input file
 --   Outcome asked status before after   the same with the limit of `run`
---   asked_command request               the command that a run is asked for, if it is asked for one
---   asked_export request                what `export` is asked for, if it is that
---   asked_sweep request                 what `sweep` is asked for, if it is that
---   IsCommand request command           it is this command, if there is one, and else nothing
---   AsksForForms forms request          `export` and `sweep` ask for so many forms
+--   asked_command request               the requested command, if there is one
+--   asked_export request                the request of `export`, if there is one
+--   asked_sweep request                 the request of `sweep`, if there is one
+--   IsCommand request command           the request is this command, if there is one, and else nothing
+--   AsksForForms forms request          `export` and `sweep` have this number of writers
 use Rattle.std.specs.Option.{option_map}
 use Rattle.std.specs.Prelude.{ℕ, ℤ, List, Option, [], ◌∷◌, Some, None, if◌then◌else◌, codes, ◌≡◌, ⊤, length}
 use Rattle.std.specs.Str.{bytes_eq}
@@ -51,40 +52,40 @@ use Rattle.recon_cmd.specs.declared.commands.Command.TheVariants as commands
 pub data Asked : Type 0 where
   cells : Names → Options → Asked
   build : SurfaceNames → Options → Asked
-  -- `upgrade` where there is a file to write, and `check` where there is none
+  -- `upgrade` if there is an output file, and `check` if there is none
   check : SurfaceNames → (output : Option (List ℕ)) → Options → Asked
   -- the plane that cuts the mesh is half a unit above this height
   slice : Names → (height : ℤ) → Asked
   ask : QueryNames → Options → Asked
-  -- how many rows, and what their generator starts from
+  -- the number of rows, and the seed of their generator
   demo : (count seed : ℕ) → Asked
 
--- what names and options ask for, if there are any
+-- the result of names and options, if there are any
 abbrev pub asked_by : (List (List ℕ) → Options → Option Asked) → Option NamesAndOptions → Option Asked
 asked_by make words = words >>= λ held. make held.names held.options
 
--- what two names and options ask `cells` for
+-- `cells` with two names and options
 abbrev pub cells_of : List (List ℕ) → Options → Option Asked
 cells_of (input ∷ output ∷ []) options = Some (cells (record { input = input; output = output }) options)
 cells_of names options = None
 
--- what three names and options ask `build` for
+-- `build` with three names and options
 abbrev pub build_of : List (List ℕ) → Options → Option Asked
 build_of (input ∷ mesh ∷ cert ∷ []) options = Some (build (record { input = input; mesh = mesh; cert = cert }) options)
 build_of names options = None
 
--- what three names and options ask `check` for
+-- `check` with three names and options
 abbrev pub check_of : List (List ℕ) → Options → Option Asked
 check_of (input ∷ mesh ∷ cert ∷ []) options = Some (check (record { input = input; mesh = mesh; cert = cert }) None options)
 check_of names options = None
 
--- what four names and options ask `upgrade` for
+-- `upgrade` with four names and options
 abbrev pub upgrade_of : List (List ℕ) → Options → Option Asked
 upgrade_of (input ∷ mesh ∷ cert ∷ output ∷ []) options =
     Some (check (record { input = input; mesh = mesh; cert = cert }) (Some output) options)
 upgrade_of names options = None
 
--- what three names and options ask `ask` for
+-- `ask` with three names and options
 abbrev pub ask_of : List (List ℕ) → Options → Option Asked
 ask_of (input ∷ points ∷ output ∷ []) options = Some (ask (record { input = input; points = points; output = output }) options)
 ask_of names options = None
@@ -97,7 +98,7 @@ slice_of (mesh ∷ height ∷ output ∷ []) =
     else None
 slice_of words = None
 
--- a number of rows that a scan may have, and a seed
+-- a valid number of rows of a scan, and a seed
 abbrev pub demo_of : List (List ℕ) → Option Asked
 demo_of (count ∷ seed ∷ []) = do
   rows ← number_between 1 point_limit count
@@ -105,7 +106,7 @@ demo_of (count ∷ seed ∷ []) = do
   Some (demo rows start)
 demo_of words = None
 
--- the command that the words are, if they are one
+-- the command in the arguments, if they are valid
 abbrev pub command_of : List (List ℕ) → Option Asked
 command_of [] = None
 command_of (word ∷ words) =
@@ -118,7 +119,7 @@ command_of (word ∷ words) =
     else (if bytes_eq word (codes "demo") then demo_of words
     else None))))))
 
--- what a command of the program is
+-- the definition of a command of the program
 abbrev pub asked : Command → Asked
 asked (commands.Cells names options) = cells (cells_names names) (options_view options)
 asked (commands.Build names options) = build (build_names names) (options_view options)
@@ -127,7 +128,7 @@ asked (commands.Slice words) = slice (slice_names words) words.height
 asked (commands.Ask names options) = ask (ask_names names) (options_view options)
 asked (commands.Demo made) = demo made.count made.seed
 
--- what it is beside its words
+-- the command without its arguments
 abbrev pub task_of : Asked → Task
 task_of (cells names options) = cells_task names options
 task_of (build names options) = build_task names options
@@ -136,12 +137,11 @@ task_of (slice names height) = slice_task names height
 task_of (ask names options) = ask_task names options
 task_of (demo count seed) = demo_task count seed
 
--- words that are no command read and write nothing
+-- invalid arguments read and write nothing
 abbrev pub bad_words_answer : Answer
 bad_words_answer = record { status = BadWords; reads = 0; writes = []; line = bad_words_line }
 
--- the answer of a command, or of words that are none, where a file that is read may have as many bytes as the limit, and the files
--- are these
+-- the answer of a command, or to invalid arguments, for these files and this maximal size of an input file
 abbrev pub AnswerWithin : (limit : ℕ) → Option Asked → Files → Answer → Type 0
 AnswerWithin limit None = λ files answer. answer ≡ bad_words_answer
 AnswerWithin limit (Some asked) = (task_of asked).Answers limit
@@ -150,7 +150,7 @@ AnswerWithin limit (Some asked) = (task_of asked).Answers limit
 abbrev pub AnswerOf : Option Asked → Files → Answer → Type 0
 AnswerOf = AnswerWithin file_limit
 
--- how many files a command reads at most
+-- the maximal number of files that a command reads
 abbrev pub most_reads : Option Asked → ℕ
 most_reads None = 0
 most_reads (Some asked) = (task_of asked).most
@@ -159,11 +159,11 @@ most_reads (Some asked) = (task_of asked).most
 abbrev pub EndsWith : Option Asked → Status → Told → Told → Type 0
 EndsWith asked = EndsBy (AnswerOf asked)
 
--- what is told after a run of the command that ended so
+-- the exposed state after a run of the command that ended with this status
 abbrev pub Tells : Option Asked → Status → Told → Told → Type 0
 Tells asked = TellsBy (AnswerOf asked)
 
--- the statuses that a command may end with at all; words that are none are refused as such, or a call fails
+-- the possible statuses of a command; invalid arguments are rejected, or a call fails
 abbrev pub StatusFits : Status → Option Asked → Type 0
 StatusFits status (Some asked) = MayEnd (task_of asked) status
 StatusFits Done None = ⊥
@@ -173,7 +173,7 @@ StatusFits Refused None = ⊥
 StatusFits Failed None = ⊤
 StatusFits NoMemory None = ⊥
 
--- what a run of a command, or on words that are none, does to its host, where a file that is read may have as many bytes as the limit
+-- the effect of a run of a command, or on invalid arguments, on its host, for this maximal size of an input file
 abbrev pub OutcomeWithin : (limit : ℕ) → Option Asked → Status → State → State → Type 0
 OutcomeWithin limit asked = Run (λ status. StatusFits status asked) (most_reads asked) (AnswerWithin limit asked)
 
@@ -188,26 +188,26 @@ asked_command (Some (requests.Command command)) = Some (asked command)
 asked_command (Some (requests.Export words)) = None
 asked_command (Some (requests.Sweep words)) = None
 
--- what `export` is asked for, if it is that
+-- the request of `export`, if there is one
 abbrev pub asked_export : Option Request → Option ExportNames
 asked_export None = None
 asked_export (Some (requests.Command command)) = None
 asked_export (Some (requests.Export words)) = Some (export_names words)
 asked_export (Some (requests.Sweep words)) = None
 
--- what `sweep` is asked for, if it is that
+-- the request of `sweep`, if there is one
 abbrev pub asked_sweep : Option Request → Option SweepAsked
 asked_sweep None = None
 asked_sweep (Some (requests.Command command)) = None
 asked_sweep (Some (requests.Export words)) = None
 asked_sweep (Some (requests.Sweep words)) = Some (sweep_asked words)
 
--- what is asked for is this command, if there is one, and else nothing
+-- the request is this command, if there is one, and else nothing
 abbrev pub IsCommand : Option Request → Option Asked → Type 0
 IsCommand request command =
     (asked_command request ≡ command) × (asked_export request ≡ None) × (asked_sweep request ≡ None)
 
--- `export` and `sweep` ask for so many forms
+-- `export` and `sweep` have this number of writers
 abbrev pub AsksForForms : (forms : ℕ) → Request → Type 0
 AsksForForms forms (requests.Command command) = ⊤
 AsksForForms forms (requests.Export words) = length words.outputs.now ≡ forms

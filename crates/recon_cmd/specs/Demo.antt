@@ -1,9 +1,9 @@
--- `demo N SEED`: what `build` says of a scan that is made from a number.
+-- `demo N SEED`: the result of `build` for a scan that is generated from a seed.
 --
---   seed_of text                     the number that a seed is, if it is one
+--   seed_of text                     the number in a seed, if it is valid
 --   demo_line count seed line        the line, before that of `build`
 --   generated_text count seed        the text of the generated scan
---   Demonstrates count seed answer   what `build` says of a generated scan
+--   Demonstrates count seed answer   the result of `build` for a generated scan
 --   demo_task count seed             the command
 use Rattle.std.specs.Prelude.{ℕ, List, Option, ◌∷◌, ◌++◌, codes, ◌≡◌, []}
 use Rattle.gen_scan.specs.Generated.{generated}
@@ -17,7 +17,7 @@ use Rattle.recon_cmd.specs.Options.{number_of_digits, within, default_options}
 use Rattle.recon_cmd.specs.Words.{SurfaceNames}
 use Rattle.recon_cmd.specs.declared.status.Status.TheVariants.{Done}
 
--- the number that 1 to 20 digits are, if it is below 2 ^ 64
+-- the number with 1 to 20 digits, if it is below 2 ^ 64
 abbrev pub seed_of : List ℕ → Option ℕ
 seed_of text = number_of_digits 20 text >>= within 0 18446744073709551615
 
@@ -29,7 +29,7 @@ demo_line count seed line = labelled (codes "demo ") count ++ (labelled (codes "
 abbrev pub generated_text : (count seed : ℕ) → List ℕ
 generated_text count seed = scan_text (shown_by (generated count seed))
 
--- What `build` at these options says of the text of the generated scan, where it is done. No file is written.
+-- The result of `build` with these options for the text of the generated scan, if it is done. No file is written.
 pub record Demonstrates (count seed : ℕ) (answer : Answer) : Type 0 where
   pub names : SurfaceNames
   pub built : Answer
@@ -37,6 +37,6 @@ pub record Demonstrates (count seed : ℕ) (answer : Answer) : Type 0 where
   pub done : built.status ≡ Done
   pub is : answer ≡ record { status = Done; reads = 0; writes = []; line = demo_line count seed built.line }
 
--- it reads nothing, and refuses nothing
+-- it reads nothing, and rejects nothing
 abbrev pub demo_task : (count seed : ℕ) → Task
 demo_task count seed = record { Denies = ⊥; Refuses = ⊥; most = 0; Answers = λ limit files. Demonstrates count seed }

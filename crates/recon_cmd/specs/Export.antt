@@ -1,20 +1,20 @@
--- `export MESH OUT1 .. OUTn`: a mesh in the forms that were handed in. Its answer is by what these make of the mesh, so it is no
--- command of the program alone.
+-- `export MESH OUT1 .. OUTn`: a mesh in the formats of the writers that were passed. Its answer depends on these writers, so it
+-- is not a command of the program alone.
 --
 --   ExportNames                      the name of the mesh, and the names of the outputs
---   export_behind forms words        what the words behind `export` ask for, if they name so many outputs
---   export_of forms words            what the words ask for, if they are `export` with such words behind
+--   export_behind forms words        the request in the arguments after `export`, if they name this number of outputs
+--   export_of forms words            the request in the arguments, if they are a valid `export`
 --   export_names words               the names that the program holds
 --   exported_line forms points faces
 --                                    the line
---   HaveAll, HaveFronts mesh forms   each form has received the whole mesh; a front of it
---   WritesForms outputs ..           the answer that writes the forms' texts
---   ExportAnswer limit names ..      a refusal of the mesh, or this answer
---   IsFileOf name mesh before        where the host tells its files, the named one is the mesh's text
---   AreHandedFronts name before ..   the forms are as they were, or have received fronts of the mesh
---   FormsAfter name status ..        what the forms have received after a run that ended so
---   FormsHandOut outputs mesh ..     what follows where the mesh was read
---   ExportOutcome limit names ..     what a run does to its host and to the forms
+--   HaveAll, HaveFronts mesh forms   each writer has received the whole mesh; a prefix of it
+--   WritesForms outputs ..           the answer that writes the writers' texts
+--   ExportAnswer limit names ..      an error of the mesh, or this answer
+--   IsFileOf name mesh before        if the host exposes its files, the named one is the mesh's text
+--   AreHandedFronts name before ..   the writers are unchanged, or have received prefixes of the mesh
+--   FormsAfter name status ..        what the writers have received after a run that ended with this status
+--   FormsHandOut outputs mesh ..     the continuation after the mesh was read
+--   ExportOutcome limit names ..     the effect of a run on its host and on the writers
 use Rattle.std.specs.List.{zip}
 use Rattle.std.specs.Prelude.{ℕ, List, [], ◌∷◌, ◌&&◌, ◌==◌, nat_le, length, Option, Some, None, if◌then◌else◌, codes, map, string_bytes}
 use Rattle.std.specs.Prelude.{◌++◌, All, ◌≡◌, IfSome, ◌⊎◌}
@@ -37,7 +37,7 @@ pub record ExportNames : Type 0 where
   pub mesh : List ℕ
   pub outputs : List (List ℕ)
 
--- a mesh, and as many outputs as there are forms, at least one
+-- a mesh, and as many outputs as there are writers, at least one
 abbrev pub export_behind : (forms : ℕ) → List (List ℕ) → Option ExportNames
 export_behind forms (mesh ∷ outputs) =
     if nat_le 1 forms && ((length outputs == forms) && are_names (mesh ∷ outputs))
@@ -45,7 +45,7 @@ export_behind forms (mesh ∷ outputs) =
     else None
 export_behind forms [] = None
 
--- the command, and such words behind it
+-- the command, with these arguments after it
 abbrev pub export_of : (forms : ℕ) → List (List ℕ) → Option ExportNames
 export_of forms (word ∷ words) = if bytes_eq word (codes "export") then export_behind forms words else None
 export_of forms [] = None
@@ -60,15 +60,15 @@ exported_line forms points faces =
     labelled (codes "exported ") forms
     ++ (labelled (codes " points ") points ++ (labelled (codes " faces ") faces ++ (10 ∷ [])))
 
--- each form has received the whole mesh
+-- each writer has received the whole mesh
 abbrev pub HaveAll : Surface → List Received → Type 0
 HaveAll mesh forms = All (λ r. HasAll r mesh.points mesh.faces) forms
 
--- each form has received a front of the mesh, the whole included
+-- each writer has received a prefix of the mesh, possibly all of it
 abbrev pub HaveFronts : Surface → List Received → Type 0
 HaveFronts mesh forms = All (λ r. HasFront r mesh.points mesh.faces) forms
 
--- each form has received the whole mesh, and their texts are written to the outputs, in order
+-- each writer has received the whole mesh, and their texts are written to the outputs, in order
 pub record WritesForms (outputs : List (List ℕ)) (forms : List Received) (texts : List (List ℕ)) (mesh : Surface)
     (answer : Answer) : Type 0 where
   pub each : HaveAll mesh forms
@@ -79,19 +79,19 @@ pub record WritesForms (outputs : List (List ℕ)) (forms : List Received) (text
     line = exported_line (length outputs) (length mesh.points) (length mesh.faces);
   }
 
--- the mesh is refused, or the texts of these forms are written
+-- the mesh is rejected, or the texts of these writers are written
 abbrev pub ExportAnswer : (limit : ℕ) → ExportNames → (forms : List Received) → (texts : List (List ℕ)) → Files → Answer → Type 0
 ExportAnswer limit names forms texts = ToMesh limit names.mesh (WritesForms names.outputs forms texts)
 
--- where the host tells its files, the named one is the mesh's text
+-- if the host exposes its files, the named one is the mesh's text
 abbrev pub IsFileOf : (name : List ℕ) → Surface → State → Type 0
 IsFileOf name mesh before = IfSome before.told (λ told. told.files name ≡ Some (mesh_text mesh.points mesh.faces))
 
--- the forms are as they were, or each has received a front of the mesh of the named file
+-- the writers are unchanged, or each has received a prefix of the mesh of the named file
 abbrev pub AreHandedFronts : (name : List ℕ) → State → (old new : List Received) → Type 0
 AreHandedFronts name before old new = (new ≡ old) ⊎ ((mesh : Surface) × IsFileOf name mesh before × HaveFronts mesh new)
 
--- what the forms have received after a run that ended so
+-- what the writers have received after a run that ended with this status
 abbrev pub FormsAfter : (name : List ℕ) → Status → State → (old new : List Received) → Type 0
 FormsAfter name Done before old new = (mesh : Surface) × IsFileOf name mesh before × HaveAll mesh new
 FormsAfter name Refused before old new = new ≡ old
@@ -100,8 +100,8 @@ FormsAfter name NoMemory before old new = AreHandedFronts name before old new
 FormsAfter name No before old new = ⊥
 FormsAfter name BadWords before old new = ⊥
 
--- What follows where the mesh was read: there was no memory, and each form has received a front of it; or each has received the
--- whole, and their texts are written up to a call that failed.
+-- The continuation after the mesh was read: memory ran out, and each writer has received a prefix of it; or each has received
+-- all of it, and their texts are written up to a call that failed.
 abbrev pub FormsHandOut : (outputs : List (List ℕ)) → Surface → Status → State → State → (new : List Received)
     → (texts : List (List ℕ)) → Type 0
 FormsHandOut outputs mesh status before after new texts =
@@ -109,7 +109,7 @@ FormsHandOut outputs mesh status before after new texts =
     ⊎ (HaveAll mesh new × CarriesOut (zip outputs texts)
     (exported_line (length outputs) (length mesh.points) (length mesh.faces)) Done status before after)
 
--- what a run of `export` does to its host, and to forms that had received `old`, have received `new` and have these texts
+-- the effect of a run of `export` on its host, and on writers that had received `old`, have received `new` and have these texts
 pub record ExportOutcome (limit : ℕ) (names : ExportNames) (status : Status) (before after : State) (old new : List Received)
     (texts : List (List ℕ)) : Type 0 where
   pub run : Run MayRefuse 1 (ExportAnswer limit names new texts) status before after

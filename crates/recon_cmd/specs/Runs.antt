@@ -1,11 +1,11 @@
--- What a run on words does that is handed forms: the promise of `run_forms`, and of `run_forms_within` at any limit.
+-- The effect of a run with mesh writers: the contract of `run_forms`, and of `run_forms_within` at any limit.
 --
--- `limit` is how many bytes a file that is read may have, `received` and `text_of` say of a form what it has received and what its text
--- is, `code` is the exit status, `before` and `after` are the states of the host, and `old` and `new` are the forms.
+-- `limit` is the maximal size of an input file in bytes, `received` and `text_of` give what a writer has received and its text,
+-- `code` is the exit status, `before` and `after` are the states of the host, and `old` and `new` are the writers.
 --
---   Exports limit received text_of ..    what it does where the words are `export` into these forms
---   Sweeps limit received text_of ..     what it does where they are `sweep` into these forms
---   RunsOtherwise limit words ..         what it does on all other words: what `run` does, and the forms are left
+--   Exports limit received text_of ..    its effect if the arguments are `export` into these writers
+--   Sweeps limit received text_of ..     its effect if they are `sweep` into these writers
+--   RunsOtherwise limit words ..         its effect on all other arguments: that of `run`, with the writers unchanged
 use Rattle.std.specs.Prelude.{ℕ, List, ◌≡◌, length, map, IfSome, None}
 use Rattle.host.specs.State.{State}
 use Rattle.mesh_form.specs.Received.{Received}
@@ -15,8 +15,7 @@ use Rattle.recon_cmd.specs.Status.{ExitsWith, code_of}
 use Rattle.recon_cmd.specs.Sweep.{SweepOutcome, sweep_of}
 use Rattle.recon_cmd.specs.declared.status.Status.{Status}
 
--- where the words are `export` with as many outputs as there are forms, the exit status is one with which the outcome of `export`
--- holds
+-- if the arguments are `export` with as many outputs as there are writers, the outcome of `export` holds with the exit status
 abbrev pub Exports : {Form : Type 0} → (limit : ℕ) → (received : Form → Received) → (text_of : Form → List ℕ)
     → (words : List (List ℕ))
     → (code : ℕ) → (before after : State) → (old new : List Form) → Type 0
@@ -25,8 +24,7 @@ Exports limit received text_of words code before after old new =
     (λ names. ExitsWith code
     (λ status. ExportOutcome limit names status before after (map received old) (map received new) (map text_of new)))
 
--- where the words are `sweep` with as many outputs as there are forms, the exit status is one with which the outcome of `sweep`
--- holds
+-- if the arguments are `sweep` with as many outputs as there are writers, the outcome of `sweep` holds with the exit status
 abbrev pub Sweeps : {Form : Type 0} → (limit : ℕ) → (received : Form → Received) → (text_of : Form → List ℕ)
     → (words : List (List ℕ))
     → (code : ℕ) → (before after : State) → (old new : List Form) → Type 0
@@ -35,8 +33,8 @@ Sweeps limit received text_of words code before after old new =
     (λ asked. ExitsWith code
     (λ status. SweepOutcome limit asked status before after (map received old) (map received new) (map text_of new)))
 
--- where the words are neither, the exit status is one with which the outcome of the command that they are holds, or that of words
--- that are none, and the forms are as they were
+-- if the arguments are neither, the outcome of their command, or that of invalid arguments, holds with the exit status, and the
+-- writers are unchanged
 abbrev pub RunsOtherwise : {Form : Type 0} → (limit : ℕ) → (words : List (List ℕ)) → (code : ℕ) → (before after : State)
     → (old new : List Form)
     → Type 0

@@ -1,9 +1,9 @@
--- `slice MESH H OUT`: the closed loops in which a level plane cuts a mesh.
+-- `slice MESH H OUT`: the closed loops in which a horizontal plane cuts a mesh.
 --
---   behind_minus text                what stands behind a minus sign, if there is one
---   height_of text                   the height that a text is, if it is one
+--   behind_minus text                the text after a minus sign, if there is one
+--   height_of text                   the height in a text, if it is valid
 --   slice_names words                the names that the program holds
---   unbalanced_line from to m n      the line where an edge occurs m times, and its reverse n times
+--   unbalanced_line from to m n      the line for an edge that occurs m times, and its reverse n times
 --   slice_line loops steps           the line
 --   slice_done output rings          the answer that writes loops
 --   RefusesSlice, WritesSlice        the mesh has no slice, or its slice is written
@@ -26,12 +26,12 @@ use Rattle.recon_cmd.specs.Words.{Names}
 use Rattle.recon_cmd.specs.declared.commands.slice.words.SliceWords.{SliceWords}
 use Rattle.recon_cmd.specs.declared.status.Status.TheVariants.{Done}
 
--- what stands behind a minus sign, if there is one
+-- the text after a minus sign, if there is one
 abbrev pub behind_minus : List ℕ → List ℕ
 behind_minus [] = []
 behind_minus (byte ∷ bytes) = if byte == 45 then bytes else byte ∷ bytes
 
--- the number that 1 to 7 digits behind an optional minus sign are, if it is no further from 0 than the walls of the box
+-- the number with 1 to 7 digits after an optional minus sign, if it is no further from 0 than the walls of the box
 abbrev pub height_of : List ℕ → Option ℤ
 height_of text = option_map (signed (is_minus text)) (number_of_digits 7 (behind_minus text) >>= within 0 BOX_LIMIT)
 
@@ -39,7 +39,7 @@ height_of text = option_map (signed (is_minus text)) (number_of_digits 7 (behind
 abbrev pub slice_names : SliceWords → Names
 slice_names words = record { input = words.mesh.now; output = words.output.now }
 
--- an edge's two vertices, and how often it occurs there and back
+-- an edge's two vertices, and the numbers of its occurrences there and back
 unfoldable pub unbalanced_line : (from to there back : ℕ) → List ℕ
 unbalanced_line from to there back =
     labelled (codes "refused 28 unbalanced from ") from
@@ -49,7 +49,7 @@ unbalanced_line from to there back =
 unfoldable pub slice_line : (loops steps : ℕ) → List ℕ
 slice_line loops steps = labelled (codes "loops ") loops ++ (labelled (codes " steps ") steps ++ (10 ∷ []))
 
--- some edge occurs another number of times than its reverse, and the smallest such pair is said with both numbers
+-- some edge does not occur as often as its reverse, and the smallest such pair is printed with both numbers
 pub record RefusesSlice (mesh : Surface) (answer : Answer) : Type 0 where
   pub from : ℕ
   pub to : ℕ
@@ -58,7 +58,7 @@ pub record RefusesSlice (mesh : Surface) (answer : Answer) : Type 0 where
   pub unbalanced : IsFirstUnbalanced mesh.faces from to there back
   pub is : answer ≡ refusal 1 (unbalanced_line from to there back)
 
--- the answer that writes the loops of a slice, and says how many they are and how many steps they have together
+-- the answer that writes the loops of a slice, and prints their number and the total number of their steps
 abbrev pub slice_done : (output : List ℕ) → (rings : List (List Step)) → Answer
 slice_done output rings =
     record {
@@ -79,7 +79,7 @@ pub record WritesSlice (output : List ℕ) (height : ℤ) (mesh : Surface) (answ
 abbrev pub SliceAnswer : (output : List ℕ) → (height : ℤ) → Surface → Answer → Type 0
 SliceAnswer output height mesh answer = RefusesSlice mesh answer ⊎ WritesSlice output height mesh answer
 
--- it reads the mesh, and writes its loops or refuses it
+-- it reads the mesh, and writes its loops or rejects it
 abbrev pub slice_task : Names → (height : ℤ) → Task
 slice_task names height =
     record { Denies = ⊥; Refuses = ⊤; most = 1; Answers = λ limit. ToMesh limit names.input (SliceAnswer names.output height) }

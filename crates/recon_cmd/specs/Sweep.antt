@@ -1,26 +1,28 @@
--- `sweep IN FROM STEP N OUT1 .. OUTN`: best surfaces of a scan in the forms that were handed in. Its answer is by what these make
--- of the meshes.
+-- `sweep IN FROM STEP N OUT1 .. OUTN`: best surfaces of a scan in the formats of the writers that were passed. Its answer
+-- depends on these writers.
 --
---   SweepAsked                       the name of the scan, the rise of the weights, the names of the outputs, and the options
+--   SweepAsked                       the name of the scan, the increase of the weights, the names of the outputs, and the
+--                                    options
 --   sweep_keys                       the options that `sweep` may have
---   asked_with input from ..         what is asked for, with these options
---   sweep_behind input from ..       what the words behind the numbers ask for
---   sweep_words_of forms words       what the words behind `sweep` ask for, if they name so many outputs
---   sweep_of forms words             what the words ask for, if they are `sweep` with such words behind
---   sweep_asked words                what the program holds of it
---   entries_behind words             how many forms the words behind `sweep` ask for
---   entries_of words                 the same of words of which the first is `sweep`
---   FitsForms words forms            as many outputs as forms, and weights within their limit
+--   asked_with input from ..         the request with these options
+--   sweep_behind input from ..       the request in the arguments after the numbers
+--   sweep_words_of forms words       the request in the arguments after `sweep`, if they name this number of outputs
+--   sweep_of forms words             the request in the arguments, if they are a valid `sweep`
+--   sweep_asked words                the request that the program holds
+--   entries_behind words             the number of writers for the arguments after `sweep`
+--   entries_of words                 the same for arguments whose first is `sweep`
+--   FitsForms words forms            as many outputs as writers, and weights within their limit
 --   sweep_line n first last          the line
---   WritesSweep asked ..             the answer that writes the forms' texts
---   SweepAnswer limit asked ..       a refusal of the scan, or this answer
---   IsFileOfScan name options ..     where the host tells its files, the named one is a text of the scan
---   AreHandedEntries asked ..        the forms are as they were, or have received fronts of their meshes
---   SweepFormsAfter asked status ..  what the forms have received after a run that ended so
---   HaveEntriesOf asked scan ..      each form has received the mesh of its entry, and the costs of the first and last are these
---   SweepCarries asked scan ..       the meshes have been handed to the forms, and their texts are written
---   SweepHandOut asked scan ..       what follows where the scan was read
---   SweepOutcome limit asked ..      what a run does to its host and to the forms
+--   WritesSweep asked ..             the answer that writes the writers' texts
+--   SweepAnswer limit asked ..       an error of the scan, or this answer
+--   IsFileOfScan name options ..     if the host exposes its files, the named one is a text of the scan
+--   AreHandedEntries asked ..        the writers are unchanged, or have received prefixes of their meshes
+--   SweepFormsAfter asked status ..  what the writers have received after a run that ended with this status
+--   HaveEntriesOf asked scan ..      each writer has received the mesh of its entry, and the costs of the first and last are
+--                                    these
+--   SweepCarries asked scan ..       the meshes have been passed to the writers, and their texts are written
+--   SweepHandOut asked scan ..       the continuation after the scan was read
+--   SweepOutcome limit asked ..      the effect of a run on its host and on the writers
 use Rattle.std.specs.List.{zip}
 use Rattle.std.specs.Prelude.{ℕ, List, [], ◌∷◌, ◌-◌, nat_le, Option, Some, None, if◌then◌else◌, ◌==◌, codes, unwrap_or, map, string_bytes}
 use Rattle.std.specs.Prelude.{◌≡◌, ◌≤◌, length, ◌++◌, IfSome, Ok, ◌⊎◌}
@@ -44,7 +46,8 @@ use Rattle.recon_cmd.specs.declared.options.keys.Key.TheVariants.{Unit as unit_k
 use Rattle.recon_cmd.specs.declared.status.Status.{Status}
 use Rattle.recon_cmd.specs.declared.status.Status.TheVariants.{Done, No, BadWords, Refused, Failed, NoMemory}
 
--- the names of `sweep IN FROM STEP N OUT1 .. OUTN`, the rise from each weight to the next, and the options, at the first weight
+-- the names of `sweep IN FROM STEP N OUT1 .. OUTN`, the increase from each weight to the next, and the options, at the first
+-- weight
 pub record SweepAsked : Type 0 where
   pub input : List ℕ
   pub step : ℕ
@@ -55,13 +58,13 @@ pub record SweepAsked : Type 0 where
 abbrev pub sweep_keys : List Key
 sweep_keys = unit_key ∷ vote_key ∷ scanner_key ∷ []
 
--- what is asked for, with these options at the first weight
+-- the request with these options at the first weight
 abbrev pub asked_with : (input : List ℕ) → (from step : ℕ) → (outputs : List (List ℕ)) → Options → SweepAsked
 asked_with input from step outputs options =
     record { input = input; step = step; outputs = outputs; options = record options { smooth = from } }
 
--- So many names beside that of the scan, and then options in any order, where the largest weight is one that a facet may have.
--- Entry k, of which the first is 0, is at the weight from + k * step.
+-- This number of names beside that of the scan, and then options in any order, with a largest weight within the limit. Entry k,
+-- counted from 0, has the weight from + k * step.
 abbrev pub sweep_behind : (input : List ℕ) → (from step count : ℕ) → List (List ℕ) → Option SweepAsked
 sweep_behind input from step count words =
     if nat_le (smoothing_of from step (count - 1)) WEIGHT_LIMIT
@@ -69,7 +72,7 @@ sweep_behind input from step count words =
     >>= λ held. if is_name input held.names then Some (asked_with input from step held.names held.options) else None)
     else None
 
--- a scan, a weight, a rise, a number that is that of the forms, as many outputs, and options
+-- a scan, a weight, an increase, the number of writers, as many outputs, and options
 abbrev pub sweep_words_of : (forms : ℕ) → List (List ℕ) → Option SweepAsked
 sweep_words_of forms (input ∷ from ∷ step ∷ count ∷ words) = do
   least ← number_between 0 WEIGHT_LIMIT from
@@ -78,22 +81,22 @@ sweep_words_of forms (input ∷ from ∷ step ∷ count ∷ words) = do
   if entries == forms then sweep_behind input least rise forms words else None
 sweep_words_of forms words = None
 
--- the command, and such words behind it
+-- the command, with these arguments after it
 abbrev pub sweep_of : (forms : ℕ) → List (List ℕ) → Option SweepAsked
 sweep_of forms (word ∷ words) = if bytes_eq word (codes "sweep") then sweep_words_of forms words else None
 sweep_of forms [] = None
 
--- how many forms the words behind `sweep` ask for: as many as the fourth says, 1 to 64, and else none
+-- the number of writers for the arguments after `sweep`: that in the fourth, 1 to 64, and else none
 abbrev pub entries_behind : List (List ℕ) → ℕ
 entries_behind (input ∷ from ∷ step ∷ count ∷ words) = unwrap_or (number_between 1 64 count) 0
 entries_behind words = 0
 
--- the same of words of which the first is `sweep`
+-- the same for arguments whose first is `sweep`
 abbrev pub entries_of : List (List ℕ) → Option ℕ
 entries_of [] = None
 entries_of (word ∷ words) = if bytes_eq word (codes "sweep") then Some (entries_behind words) else None
 
--- what the program holds
+-- the request that the program holds
 abbrev pub sweep_asked : SweepWords → SweepAsked
 sweep_asked words = record {
   input = words.input.now;
@@ -102,7 +105,7 @@ sweep_asked words = record {
   options = options_view words.options;
 }
 
--- as many outputs as forms, at least one, and a largest weight that a facet may have
+-- as many outputs as writers, at least one, and a largest weight within the limit
 pub record FitsForms (words : SweepWords) (forms : ℕ) : Type 0 where
   pub as_many : length words.outputs.now ≡ forms
   pub some : 1 ≤ forms
@@ -115,8 +118,8 @@ sweep_line entries first last =
     labelled (codes "sweep ") entries
     ++ (labelled (codes " first_cost ") first ++ (labelled (codes " last_cost ") last ++ (10 ∷ [])))
 
--- there are as many forms as outputs, each has received the mesh of its entry, and these are what the first and the last surface
--- cost
+-- there are as many writers as outputs, each has received the mesh of its entry, and these are the costs of the first and the
+-- last surface
 pub record HaveEntriesOf (asked : SweepAsked) (scan : Shown) (forms : List Received) (first last : ℕ) : Type 0 where
   pub count : length forms ≡ length asked.outputs
   pub each : HaveEntries (given_by scan) asked.options.vote asked.options.smooth asked.step forms
@@ -124,7 +127,7 @@ pub record HaveEntriesOf (asked : SweepAsked) (scan : Shown) (forms : List Recei
   pub last_is : CostsAt (given_by scan) asked.options.vote
       (smoothing_of asked.options.smooth asked.step (length asked.outputs - 1)) last
 
--- each form has received the mesh of its entry, and their texts are written to the outputs, in order
+-- each writer has received the mesh of its entry, and their texts are written to the outputs, in order
 pub record WritesSweep (asked : SweepAsked) (forms : List Received) (texts : List (List ℕ)) (scan : Shown)
     (answer : Answer) : Type 0 where
   pub first : ℕ
@@ -137,24 +140,24 @@ pub record WritesSweep (asked : SweepAsked) (forms : List Received) (texts : Lis
     line = sweep_line (length asked.outputs) first last;
   }
 
--- the scan is refused, or the texts of these forms are written
+-- the scan is rejected, or the texts of these writers are written
 abbrev pub SweepAnswer : (limit : ℕ) → SweepAsked → (forms : List Received) → (texts : List (List ℕ)) → Files → Answer → Type 0
 SweepAnswer limit asked forms texts = ToScan limit asked.input asked.options (λ _. WritesSweep asked forms texts)
 
--- where the host tells its files, the named one is a text of the scan
+-- if the host exposes its files, the named one is a text of the scan
 abbrev pub IsFileOfScan : (name : List ℕ) → Options → Shown → State → Type 0
 IsFileOfScan name options scan before =
     IfSome before.told
     (λ told. (bytes : List ℕ) × (told.files name ≡ Some bytes) × (read_as options bytes ≡ Ok scan))
 
--- the forms are as they were, or each has received a front of the mesh of its entry
+-- the writers are unchanged, or each has received a prefix of the mesh of its entry
 abbrev pub AreHandedEntries : SweepAsked → State → (old new : List Received) → Type 0
 AreHandedEntries asked before old new =
     (new ≡ old)
     ⊎ ((scan : Shown) × IsFileOfScan asked.input asked.options scan before
     × HaveEntryFronts (given_by scan) asked.options.vote asked.options.smooth asked.step new)
 
--- what the forms have received after a run that ended so
+-- what the writers have received after a run that ended with this status
 abbrev pub SweepFormsAfter : SweepAsked → Status → State → (old new : List Received) → Type 0
 SweepFormsAfter asked Done before old new =
     (scan : Shown) × IsFileOfScan asked.input asked.options scan before
@@ -165,7 +168,7 @@ SweepFormsAfter asked NoMemory before old new = AreHandedEntries asked before ol
 SweepFormsAfter asked No before old new = ⊥
 SweepFormsAfter asked BadWords before old new = ⊥
 
--- the forms have received the meshes of their entries, and their texts are written up to the end or a call that failed
+-- the writers have received the meshes of their entries, and their texts are written up to the end or a call that failed
 pub record SweepCarries (asked : SweepAsked) (scan : Shown) (status : Status) (before after : State) (new : List Received)
     (texts : List (List ℕ)) : Type 0 where
   pub first : ℕ
@@ -173,14 +176,14 @@ pub record SweepCarries (asked : SweepAsked) (scan : Shown) (status : Status) (b
   pub entries : HaveEntriesOf asked scan new first last
   pub carried : CarriesOut (zip asked.outputs texts) (sweep_line (length asked.outputs) first last) Done status before after
 
--- What follows where the scan was read: there was no memory, and each form has received a front of its mesh; or each has received
--- the whole, and their texts are written up to a call that failed.
+-- The continuation after the scan was read: memory ran out, and each writer has received a prefix of its mesh; or each has
+-- received all of it, and their texts are written up to a call that failed.
 abbrev pub SweepHandOut : SweepAsked → Shown → Status → State → State → (new : List Received) → (texts : List (List ℕ)) → Type 0
 SweepHandOut asked scan status before after new texts =
     ((status ≡ NoMemory) × HaveEntryFronts (given_by scan) asked.options.vote asked.options.smooth asked.step new × (after ≡ before))
     ⊎ SweepCarries asked scan status before after new texts
 
--- what a run of `sweep` does to its host, and to forms that had received `old`, have received `new` and have these texts
+-- the effect of a run of `sweep` on its host, and on writers that had received `old`, have received `new` and have these texts
 pub record SweepOutcome (limit : ℕ) (asked : SweepAsked) (status : Status) (before after : State) (old new : List Received)
     (texts : List (List ℕ)) : Type 0 where
   pub run : Run MayRefuse 1 (SweepAnswer limit asked new texts) status before after

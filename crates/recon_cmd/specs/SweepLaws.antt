@@ -1,15 +1,15 @@
--- Laws over the definitions of a run of `sweep`, for a reader of the contract of `run_forms`.
+-- Theorems about a run of `sweep`, for readers of the contract of `run_forms`.
 --
---   SweepsOn asked bytes ..       a run of `sweep` over a host that tells these bytes of its scan, in which no call failed
---   AcceptedIsSwept               an accepted scan: the texts are written, or there was no memory
---   RefusedIsNotSwept             a refused scan: it is refused, or there was no memory
---   SweepAnswerIsOne              `sweep` has one answer where the files are given, and what the forms make
+--   SweepsOn asked bytes ..       a run of `sweep` over a host that exposes these bytes of its scan, in which no call failed
+--   AcceptedIsSwept               an accepted scan: the texts are written, or memory ran out
+--   RefusedIsNotSwept             a rejected scan: it is rejected, or memory ran out
+--   SweepAnswerIsOne              `sweep` has one answer if the files are given, and the texts of the writers
 --   entry_options asked k         the options of entry k
 --   Builds asked k names ..       an answer of `build` to the same scan at the weights of entry k
---   HasBuiltMesh names built r    a form has received the mesh that `build` writes
+--   HasBuiltMesh names built r    a writer has received the mesh that `build` writes
 --   HasBuiltCost names built n    the number is the cost that the certificate of `build` states
 --   AreBuilt asked forms ..       the meshes and the costs of a sweep are those of `build`
---   EntriesAreBuilt               so are all that an answer of `sweep` has which is done
+--   EntriesAreBuilt               so is each answer of `sweep` that is done
 use Rattle.std.specs.Prelude.{◌≡◌, ℕ, List, Some, ◌⊎◌, ◌≤◌, length, Ok, ◌<◌, Err, ◌-◌, slice_index_or}
 use Rattle.cert_text.specs.Certificates.{Claim}
 use Rattle.host.specs.Counts.{Rose}
@@ -29,7 +29,7 @@ use Rattle.recon_cmd.specs.Words.{SurfaceNames}
 use Rattle.recon_cmd.specs.declared.status.Status.{Status}
 use Rattle.recon_cmd.specs.declared.status.Status.TheVariants.{Done, NoMemory, Refused}
 
--- a run of `sweep` over a host that tells its files, where the file of the scan has these bytes and no call failed
+-- a run of `sweep` over a host that exposes its files, in which the file of the scan has these bytes and no call failed
 pub record SweepsOn (asked : SweepAsked) (bytes : List ℕ) (status : Status) (before after : State) (old new : List Received)
     (texts : List (List ℕ)) : Type 0 where
   pub told : Told
@@ -38,14 +38,14 @@ pub record SweepsOn (asked : SweepAsked) (bytes : List ℕ) (status : Status) (b
   pub no_failure : ¬ Rose before.faults after.faults
   pub outcome : SweepOutcome file_limit asked status before after old new texts
 
--- the scan is accepted: the texts are written, or there was no memory
+-- the scan is valid: the texts are written, or memory ran out
 abbrev pub AcceptedIsSwept : Type 0
 AcceptedIsSwept =
     (asked : SweepAsked) (bytes : List ℕ) (scan : Shown) (status : Status) (before after : State) (old new : List Received)
     (texts : List (List ℕ)) → SweepsOn asked bytes status before after old new texts → length bytes ≤ file_limit
     → read_as asked.options bytes ≡ Ok scan → (status ≡ Done) ⊎ (status ≡ NoMemory)
 
--- the file is too long, or is no scan for whichever reason: it is refused, or there was no memory
+-- the file is too long, or not a scan for any reason: it is rejected, or memory ran out
 abbrev pub RefusedIsNotSwept : Type 0
 RefusedIsNotSwept =
     (asked : SweepAsked) (bytes : List ℕ) (status : Status) (before after : State) (old new : List Received)
@@ -53,8 +53,8 @@ RefusedIsNotSwept =
     → (file_limit < length bytes) ⊎ ((why : ScanRefusal) × (read_as asked.options bytes ≡ Err why))
     → (status ≡ Refused) ⊎ (status ≡ NoMemory)
 
--- Two runs may hand in other forms. Where these are as many, and make their texts of what they have received in the same ways,
--- the answers are one.
+-- Two runs may pass other writers. If these have the same number, and their texts are the same functions of what they have
+-- received, the answers are equal.
 abbrev pub SweepAnswerIsOne : Type 0
 SweepAnswerIsOne =
     (asked : SweepAsked) (makes : List (Received → List ℕ)) (forms others : List Received) (files : Files)
@@ -70,7 +70,7 @@ pub record Builds (asked : SweepAsked) (k : ℕ) (names : SurfaceNames) (files :
   pub input : names.input ≡ asked.input
   pub answers : AnswerOf (Some (build names (entry_options asked k))) files built
 
--- the form has received exactly the mesh that is built
+-- the writer has received exactly the mesh of the build
 pub record HasBuiltMesh (names : SurfaceNames) (built : Answer) (r : Received) : Type 0 where
   pub mesh : Surface
   pub claim : Claim
@@ -84,8 +84,8 @@ pub record HasBuiltCost (names : SurfaceNames) (built : Answer) (n : ℕ) : Type
   pub shown : Shows names.mesh names.cert mesh claim built
   pub cost_is : n ≡ claim.counts.cost
 
--- each form has received the mesh that `build` writes at the weights of its entry, and the line says the costs that `build` states at
--- those of the first and of the last
+-- each writer has received the mesh that `build` writes at the weights of its entry, and the line states the costs of `build`
+-- at those of the first and of the last
 pub record AreBuilt (asked : SweepAsked) (forms : List Received) (files : Files) (answer : Answer) : Type 0 where
   pub each : (k : ℕ) (d : Received) (names : SurfaceNames) (built : Answer) → k < length forms
       → Builds asked k names files built → HasBuiltMesh names built (slice_index_or forms k d)

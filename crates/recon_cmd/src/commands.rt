@@ -1,5 +1,5 @@
-//! The commands: what the words of a command line ask for, and what each command answers. The words are understood without taking
-//! memory. Each command stands in a file of its own: its words, its answer in memory, and its lines.
+//! The commands: their arguments, and the answer of each. Arguments are parsed without allocating memory. Each command has its
+//! own file: its arguments, its answer in memory, and its lines.
 ghost use Rattle.std.specs.Prelude.{◌≡◌, IfSome, map, string_bytes, false, IfOk};
 ghost use Rattle.recon_cmd.specs.Commands.{AsksForForms, asked_command, asked_export, asked_sweep, command_of, asked, task_of};
 ghost use Rattle.recon_cmd.specs.Export.{export_of};
@@ -31,40 +31,40 @@ pub use sweeping::sweep_scan;
 use sweeping::{SweepWords, sweep_entries, sweep_words};
 use watch::Watch;
 
-/// A command with its names and options, and the files that it opens to be read, in order.
+/// A command with its names and options, and the files that it opens for reading, in order.
 #[derive(Clone, Copy, Debug)]
 pub enum Command<'a> {
-    /// `cells IN OUT`: the Delaunay cells of a scan. It reads the scan. Its weights are the defaults and count for nothing.
+    /// `cells IN OUT`: the Delaunay cells of a scan. It reads the scan. Its weights are the defaults and unused.
     Cells(CellsNames<'a>, Options),
-    /// `build IN MESH CERT`: the best surface of a scan, and the certificate that shows it best. It reads the scan.
+    /// `build IN MESH CERT`: the best surface of a scan, and the certificate of its optimality. It reads the scan.
     Build(BuildNames<'a>, Options),
-    /// `check IN MESH CERT`: whether a mesh is the best surface of a scan, and a certificate shows it best. And
-    /// `upgrade IN MESH CERT OUT`: where it is so, the certificate with the stamp of this run is written. They read the scan, then
-    /// the mesh if the scan is not refused, then the certificate if the mesh is not too long.
+    /// `check IN MESH CERT`: verifies that a mesh is the best surface of a scan, and a certificate of its optimality. And
+    /// `upgrade IN MESH CERT OUT`: if so, writes the certificate with the fingerprint of this run. They read the scan, then the
+    /// mesh if the scan is not rejected, then the certificate if the mesh is not too long.
     Check(CheckNames<'a>, Options),
-    /// `slice MESH H OUT`: the closed loops in which a level plane cuts a mesh. It reads the mesh.
+    /// `slice MESH H OUT`: the closed loops in which a horizontal plane cuts a mesh. It reads the mesh.
     Slice(SliceWords<'a>),
-    /// `ask IN POINTS OUT`: whether points are inside or outside the best surface of a scan. It reads the scan, then the points
-    /// if the scan is not refused.
+    /// `ask IN POINTS OUT`: classifies points as inside or outside the best surface of a scan. It reads the scan, then the
+    /// points if the scan is not rejected.
     Ask(AskNames<'a>, Options),
-    /// `demo N SEED`: what `build` says of a scan that is made from a number. It reads no file, and writes none.
+    /// `demo N SEED`: the result of `build` for a scan that is generated from a seed. It reads no file, and writes none.
     Demo(Demo),
 }
 
-/// What a run is asked for.
+/// A request for a run.
 #[derive(Clone, Copy, Debug)]
 pub enum Request<'a> {
-    /// A command that has one answer whatever forms are handed in.
+    /// A command whose answer does not depend on the writers that are passed.
     Command(Command<'a>),
-    /// `export MESH OUT1 .. OUTn`: a mesh in the forms that are handed in.
+    /// `export MESH OUT1 .. OUTn`: a mesh in the formats of the writers that are passed.
     Export(ExportWords<'a>),
-    /// `sweep IN FROM STEP N OUT1 .. OUTN`: best surfaces of a scan in the forms that are handed in.
+    /// `sweep IN FROM STEP N OUT1 .. OUTN`: best surfaces of a scan in the formats of the writers that are passed.
     Sweep(SweepWords<'a>),
 }
 
 impl<'a> Request<'a> {
-    /// How many forms are to be handed in, where the words say it themselves: as many as the fifth word of `sweep` says, if that is
-    /// 1 to 64 in 1 to 10 digits, and else 0. None where the first word is not `sweep`.
+    /// Returns the number of writers that the arguments state themselves: that of the fifth argument of `sweep`, if it is 1 to
+    /// 64 in 1 to 10 digits, and else 0. Returns `None` if the first argument is not `sweep`.
     pub fn forms_wanted(words: &[String]) -> Option<u32>
         ensures { result ≡ entries_of (map string_bytes words.now) }
     {
@@ -72,11 +72,10 @@ impl<'a> Request<'a> {
     }
 }
 
-/// What the words ask for where so many forms are handed in, and None exactly where they ask for nothing.
+/// Parses the arguments of a run with this number of writers, or returns `None` exactly if they are invalid.
 ///
-/// The words are those after the program's name. Names take the places right after the command, whatever they look
-/// like; they are not empty, and no two are one. Behind them stand options, each a key with its value, in any order, and
-/// none with the key of another.
+/// The arguments are those after the program's name. Names come right after the command, whatever they look like; they are not
+/// empty, and no two are equal. After them come options, each a key with its value, in any order, and no key twice.
 ///
 /// | Command | Options |
 /// |---|---|
@@ -85,12 +84,12 @@ impl<'a> Request<'a> {
 /// | `check IN MESH CERT` | `unit=`, `vote=`, `smooth=`, `scanner=` |
 /// | `upgrade IN MESH CERT OUT` | `unit=`, `vote=`, `smooth=`, `scanner=` |
 /// | `ask IN POINTS OUT` | `unit=`, `vote=`, `smooth=`, `scanner=` |
-/// | `slice MESH H OUT` | none; H is 1 to 7 digits behind an optional `-`, at most 8,388,608 from 0 |
+/// | `slice MESH H OUT` | none; H is 1 to 7 digits after an optional `-`, at most 8,388,608 from 0 |
 /// | `demo N SEED` | none; N is 1 to 1,048,576 in 1 to 10 digits, SEED at most 2^64 - 1 in 1 to 20 |
-/// | `export MESH OUT1 .. OUTn` | none; n is the number of forms, at least 1 |
-/// | `sweep IN FROM STEP N OUT1 .. OUTN` | `unit=`, `vote=`, `scanner=`; N is the number of forms, 1 to 64 |
+/// | `export MESH OUT1 .. OUTn` | none; n is the number of writers, at least 1 |
+/// | `sweep IN FROM STEP N OUT1 .. OUTN` | `unit=`, `vote=`, `scanner=`; N is the number of writers, 1 to 64 |
 ///
-/// FROM of `sweep` is 0 to 65,535 and STEP 1 to 65,535, each in 1 to 10 digits, and FROM + (N - 1) * STEP at most 65,535.
+/// FROM of `sweep` is 0 to 65,535 and STEP 1 to 65,535, each in 1 to 10 digits, and FROM + (N - 1) * STEP is at most 65,535.
 pub fn understand(words: &[String], forms: usize) -> Option<Request<'_>>
     ensures command { asked_command result ≡ command_of (map string_bytes words.now) }
     ensures export { asked_export result ≡ export_of forms (map string_bytes words.now) }
@@ -120,8 +119,7 @@ pub fn understand(words: &[String], forms: usize) -> Option<Request<'_>>
     }
 }
 
-/// Reads what a command reads, each file of as many bytes as the limit at most, and makes its answer. Nothing is written or
-/// said.
+/// Reads the files of a command, each no longer than the limit, and returns its answer. Nothing is written or printed.
 pub fn reply_to<'a, H: Host, W: Watch>(
     alloc: Global,
     host: &mut H,

@@ -1,12 +1,12 @@
-//! The commands of the program, from the words of a command line to the files that are written and the line that is
-//! said.
+//! The commands of the program, from the arguments of a command line to the files that are written and the line that is
+//! printed.
 //!
-//! `run` is the program apart from the system: it works over any `Host`. A command is a value: the words that ask for it, and
-//! how it may end, how many files it reads and which answers it has, a relation on bytes (`specs/Answers`). The commands stand
-//! in `specs/Commands`, and what each is, with its lines, in a file of its own there and in `src/commands`. What a run does to
-//! its host with an answer is said once for all commands (`specs/Outcome`, `src/whole_run`). Options are in `specs/Options`, and
-//! the lines that commands share in `specs/Lines` and `specs/Refusals`. `run_forms` takes the forms of a mesh besides, and the
-//! commands that write their texts.
+//! `run` is the program without the operating system: it works over any `Host`. A command is a value: the arguments that
+//! request it, the statuses with which it may end, the number of files it reads, and its answers, a relation on bytes
+//! (`specs/Answers`). The commands are listed in `specs/Commands`, and each is defined, with its lines, in a file of its own
+//! there and in `src/commands`. The effect of an answer on the host is defined once for all commands (`specs/Outcome`,
+//! `src/whole_run`). Options are in `specs/Options`, and the lines that commands share in `specs/Lines` and `specs/Refusals`.
+//! `run_forms` also takes mesh writers, and has the commands that write their texts.
 #![tactic(auto)]
 
 mod commands;
@@ -32,5 +32,5 @@ pub use status::Status;
 use std::alloc::AllocError;
 pub use whole_run::{FILE_LIMIT, run, run_forms, run_forms_within};
 
-/// There was no memory.
+/// Out of memory.
 pub type NoMemory = AllocError;

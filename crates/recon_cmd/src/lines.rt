@@ -1,4 +1,4 @@
-//! The lines that commands share, and what lines are made of, in memory. It stands on `num_text`, which prints whole numbers.
+//! The lines that commands share, and their parts, in memory. Depends on `num_text`, which prints integers.
 ghost use Rattle.std.specs.Prelude.{◌≡◌, ◌++◌, OnOk};
 ghost use Rattle.recon_cmd.specs.Lines.{bad_words_line, too_long_scan_line, too_long_mesh_line, labelled};
 
@@ -8,7 +8,7 @@ use crate::NoMemory;
 use num_text::push_whole;
 pub use refusals::{line_of_mesh_refusal, line_of_number, line_of_refusal, line_of_text};
 
-/// What is said where the words are no command.
+/// Returns the line for arguments that are no command.
 #[tactic(auto, unfolding(crate::specs::Lines::bad_words_line))]
 pub fn line_of_bad_words() -> &'static [u8]
     ensures { result.now ≡ bad_words_line }
@@ -16,7 +16,7 @@ pub fn line_of_bad_words() -> &'static [u8]
     b"refused words\n"
 }
 
-/// What is said where the scan's file is longer than the limit.
+/// Returns the line for a scan's file that is longer than the limit.
 #[tactic(auto, unfolding(crate::specs::Lines::too_long_scan_line))]
 pub fn line_of_too_long_scan() -> &'static [u8]
     ensures { result.now ≡ too_long_scan_line }
@@ -24,7 +24,7 @@ pub fn line_of_too_long_scan() -> &'static [u8]
     b"refused 19 too_long scan\n"
 }
 
-/// What is said where the mesh's file is longer than the limit.
+/// Returns the line for a mesh's file that is longer than the limit.
 #[tactic(auto, unfolding(crate::specs::Lines::too_long_mesh_line))]
 pub fn line_of_too_long_mesh() -> &'static [u8]
     ensures { result.now ≡ too_long_mesh_line }
@@ -32,7 +32,7 @@ pub fn line_of_too_long_mesh() -> &'static [u8]
     b"refused 19 too_long mesh\n"
 }
 
-/// Adds a label, and a number behind it.
+/// Appends a label, and a number after it.
 pub fn push_labelled(line: &mut Vec<u8>, label: &[u8], number: u64) -> Result<(), NoMemory>
     ensures { OnOk result (line.new.items ≡ line.old.items ++ labelled label.now number) }
 {

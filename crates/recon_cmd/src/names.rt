@@ -1,14 +1,14 @@
-//! Names in their places, and the options behind them, as commands share them. It stands on the options.
+//! Names and the options after them, as commands share them. Depends on the options.
 ghost use Rattle.std.specs.Option.{option_map};
 ghost use Rattle.std.specs.Prelude.{◌≡◌, IfSome, length, map, string_bytes};
 ghost use Rattle.recon_cmd.specs.Words.{named, named_view, are_names, is_name, is_other};
 
 use crate::options::{Key, Options, understand_options};
 
-/// All options, where one best surface is meant.
+/// All options of commands with one best surface.
 pub const ALL_KEYS: [Key; 4] = [Key::Unit, Key::Vote, Key::Smooth, Key::Scanner];
 
-/// Names, and the options behind them.
+/// Names, and the options after them.
 #[derive(Clone, Copy, Debug)]
 pub struct NamesAndOptions<'a> {
     /// The names, in order.
@@ -17,8 +17,8 @@ pub struct NamesAndOptions<'a> {
     pub options: Options,
 }
 
-/// So many names, and then options with these keys, and None exactly where the words are not that. Names are not empty, and no two
-/// are one.
+/// Parses this number of names, and then options with these keys, and returns `None` exactly if the arguments are something
+/// else. Names are not empty, and no two are equal.
 pub fn named<'a>(words: &'a [String], count: usize, keys: &[Key]) -> Option<NamesAndOptions<'a>>
     ensures is { option_map named_view result ≡ named count keys.now (map string_bytes words.now) }
     ensures many { IfSome result (λ held. length held.names.now ≡ count) }
@@ -34,7 +34,7 @@ pub fn named<'a>(words: &'a [String], count: usize, keys: &[Key]) -> Option<Name
     Some(NamesAndOptions { names, options })
 }
 
-/// Whether none of the names is empty, and no two are one.
+/// Returns whether none of the names is empty, and no two are equal.
 pub fn are_names(names: &[String]) -> bool
     ensures { result ≡ are_names (map string_bytes names.now) }
 {
@@ -46,14 +46,14 @@ pub fn are_names(names: &[String]) -> bool
     true
 }
 
-/// Whether the name is not empty, and none of these.
+/// Returns whether the name is not empty, and none of these.
 pub fn is_name(name: &str, others: &[String]) -> bool
     ensures { result ≡ is_name name.now (map string_bytes others.now) }
 {
     !name.is_empty() && is_none_of(name, others)
 }
 
-/// Whether the name is none of these.
+/// Returns whether the name is none of these.
 fn is_none_of(name: &str, others: &[String]) -> bool
     ensures { result ≡ is_other name.now (map string_bytes others.now) }
 {

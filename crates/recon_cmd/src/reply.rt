@@ -1,4 +1,4 @@
-//! What a command comes to, in memory. It stands on nothing.
+//! The result of a command, in memory. Depends on nothing.
 ghost use Rattle.std.specs.Prelude.{◌≡◌, ℕ};
 ghost use Rattle.recon_cmd.specs.Answers.{refusal as refused};
 ghost use Rattle.recon_cmd.specs.Replies.{line_bytes, answer_of};
@@ -7,7 +7,7 @@ ghost use Rattle.recon_cmd.specs.declared.reply.Stop.TheVariants as stops;
 use crate::status::Status;
 use std::alloc::{AllocError, Global};
 
-/// A line that is said last.
+/// The line that is printed last.
 #[derive(Drop)]
 pub enum Line {
     /// A line without numbers.
@@ -17,7 +17,7 @@ pub enum Line {
 }
 
 impl Line {
-    /// The bytes of the line.
+    /// Returns the bytes of the line.
     pub fn as_bytes(&self) -> &[u8]
         ensures { result.now ≡ line_bytes self.now }
     {
@@ -28,14 +28,14 @@ impl Line {
     }
 }
 
-/// A text that is written as a file of this name.
+/// A text to be written to the file of this name.
 #[derive(Drop)]
 pub struct Text<'a> {
     pub name: &'a str,
     pub bytes: Vec<u8>,
 }
 
-/// What a command comes to: its status, the texts that it writes in order, and its line.
+/// The result of a command: its status, the texts that it writes, in order, and its line.
 #[derive(Drop)]
 pub struct Reply<'a> {
     pub status: Status,
@@ -43,12 +43,12 @@ pub struct Reply<'a> {
     pub line: Line,
 }
 
-/// Why a command comes to nothing.
+/// Why a command has no result.
 #[derive(Clone, Copy, Debug, PartialEq, Eq)]
 pub enum Stop {
     /// A call of the host failed.
     Failed,
-    /// There was no memory.
+    /// Out of memory.
     NoMemory,
 }
 
@@ -60,7 +60,7 @@ impl From<AllocError> for Stop {
     }
 }
 
-/// A refusal writes no file, and says this line.
+/// Returns the reply for an error: no file is written, and this line is printed.
 pub fn refusal<'a>(alloc: Global, line: Line) -> Reply<'a>
     ensures { (reads : ℕ) → answer_of reads result ≡ refused reads (line_bytes line) }
 {

@@ -1,16 +1,16 @@
--- How the program ends, by what the system handed in as its words.
+-- How the program ends, given the arguments from the system.
 --
---     WritesFormats outputs ..            the answer that writes a mesh as PLY, OFF and OBJ
---     FormatsAnswer names ..              a refusal of the mesh, or this answer
---     WritesMeshes asked scan ..          the answer that writes the best surface at each weight as PLY
---     MeshesAnswer asked ..               a refusal of the scan, or this answer
---     sweep_in words                      what `sweep` asks for with as many outputs as its fifth word says
---     RunsFor export sweep words ..       what a run on these words does to its host
---     RunsOn words status before after    a run on these words ended with this status
---     DoesNothing status before after     there was no memory for the words or for the forms
---     RunsOrIdles words status ..         one of the two
---     EndsOn args status before after     the program ended so on what the system handed in as words
---     EndsAfterARun status                the program ended so on some words, over that host
+--   WritesFormats outputs ..            the answer that writes a mesh as PLY, OFF and OBJ
+--   FormatsAnswer names ..              an error of the mesh, or this answer
+--   WritesMeshes asked scan ..          the answer that writes the best surface at each weight as PLY
+--   MeshesAnswer asked ..               an error of the scan, or this answer
+--   sweep_in words                      the request of `sweep` with as many outputs as its fifth argument states
+--   RunsFor export sweep words ..       the effect of a run on these arguments on its host
+--   RunsOn words status before after    a run on these arguments ended with this status
+--   DoesNothing status before after     memory ran out for the arguments or for the writers
+--   RunsOrIdles words status ..         one of the two
+--   EndsOn args status before after     the program ended with this status on the arguments from the system
+--   EndsAfterARun status                the program ended with this status on some arguments, over that host
 use Rattle.std.specs.Prelude.{◌≡◌, ◌≢◌, ◌⊎◌, ℕ, ◌-◌, ◌<◌, List, [], ◌∷◌, length, map, slice_index_or, Result, Ok, Err, Option, Some}
 use Rattle.std.specs.Prelude.{None, unwrap_or}
 use Rattle.std.specs.IoError.{error_kind}
@@ -48,12 +48,12 @@ WritesFormats outputs mesh answer =
       line = exported_line (length outputs) (length mesh.points) (length mesh.faces);
     }
 
--- the mesh is refused, or written in the three formats
+-- the mesh is rejected, or written in the three formats
 abbrev pub FormatsAnswer : ExportNames → Files → Answer → Type 0
 FormatsAnswer names files answer =
     (bytes : List ℕ) × (files names.mesh ≡ Some bytes) × MeshFileAnswer file_limit (WritesFormats names.outputs) bytes answer
 
--- the mesh of the best surface at each weight is written as PLY, in order, and what the first and the last cost is said
+-- the mesh of the best surface at each weight is written as PLY, in order, and the costs of the first and the last are printed
 pub record WritesMeshes (asked : SweepAsked) (scan : Shown) (answer : Answer) : Type 0 where
   pub meshes : List Surface
   pub count : length meshes ≡ length asked.outputs
@@ -71,43 +71,44 @@ pub record WritesMeshes (asked : SweepAsked) (scan : Shown) (answer : Answer) : 
     line = sweep_line (length asked.outputs) first last;
   }
 
--- the scan is refused, or its best surfaces are written
+-- the scan is rejected, or its best surfaces are written
 abbrev pub MeshesAnswer : SweepAsked → Files → Answer → Type 0
 MeshesAnswer asked files answer =
     (bytes : List ℕ) × (files asked.input ≡ Some bytes) × ScanAnswer file_limit asked.options (λ _. WritesMeshes asked) bytes answer
 
--- what `sweep` asks for with as many outputs as its fifth word says, if the words are `sweep`
+-- the request of `sweep` with as many outputs as its fifth argument states, if the arguments are `sweep`
 abbrev pub sweep_in : List (List ℕ) → Option SweepAsked
 sweep_in words = sweep_of (unwrap_or (entries_of words) 0) words
 
--- what a run on these words does that ends so: `export` with three outputs, `sweep`, or else a command of `run`
+-- the effect of a run on these arguments that ends with this status: `export` with three outputs, `sweep`, or else a command of
+-- `run`
 abbrev pub RunsFor : Option ExportNames → Option SweepAsked → List (List ℕ) → Status → State → State → Type 0
 RunsFor (Some names) sweep words status before after = Run MayRefuse 1 (FormatsAnswer names) status before after
 RunsFor None (Some asked) words status before after = Run MayRefuse 1 (MeshesAnswer asked) status before after
 RunsFor None None words status before after = Outcome (command_of words) status before after
 
--- a run on these words ended with this status
+-- a run on these arguments ended with this status
 abbrev pub RunsOn : List (List ℕ) → ℕ → State → State → Type 0
 RunsOn words code before after =
     ExitsWith code (λ status. RunsFor (export_of 3 words) (sweep_in words) words status before after)
 
--- there was no memory for the words or for the forms, and nothing is done
+-- memory ran out for the arguments or for the writers, and nothing is done
 abbrev pub DoesNothing : ℕ → State → State → Type 0
 DoesNothing code before after = (code ≡ code_of NoMemory) × (after ≡ before)
 
--- a run on these words, or there was no memory for it
+-- a run on these arguments, or memory ran out for it
 abbrev pub RunsOrIdles : List (List ℕ) → ℕ → State → State → Type 0
 RunsOrIdles words code before after = RunsOn words code before after ⊎ DoesNothing code before after
 
--- a run on the words behind the program's name, where there is memory for them and for the forms; words that are not text are
--- no words
+-- a run on the arguments after the program's name, if there is memory for them and for the writers; arguments that are not text
+-- are no arguments
 abbrev pub EndsOn : {A : Type 0} → Result (IntoIter (String A) A) Error → ℕ → State → State → Type 0
 EndsOn (Ok args) code before after = RunsOrIdles (arguments_of args) code before after
 EndsOn (Err error) code before after =
     ((error_kind error ≡ OutOfMemory) × DoesNothing code before after)
     ⊎ ((error_kind error ≢ OutOfMemory) × RunsOn [] code before after)
 
--- the system handed in something as words, and the program ended so on it, over a fresh host
+-- the program ended with this status on some arguments from the system, over a fresh host
 abbrev pub EndsAfterARun : ℕ → Type 0
 EndsAfterARun code =
     (args : Result (IntoIter (String Global) Global) Error) × (after : State) × EndsOn args code fresh_state after

@@ -1,11 +1,12 @@
-//! What a person is told on standard error beside the line that is promised: how a command is used, and how to mend what was
-//! refused. No clause speaks of these texts. How to mend a refusal is the table of `docs/using.md`, and a test of `tools/tests`
-//! compares the two.
+//! Hints on standard error beside the specified line: the usage of a command, and how to fix an error of a file. No contract
+//! depends on these texts. The table of errors in `docs/howto/import.md` has the same fixes, and a test of `tools/tests` compares
+//! the two.
 
+use crate::against::Weights;
 use real_host::Advice;
 use std::rt::Env;
 
-/// The commands, each with the words behind it.
+/// The commands, each with its arguments.
 pub const USES: [(&str, &str); 9] = [
     (
         "build",
@@ -33,22 +34,22 @@ pub const USES: [(&str, &str); 9] = [
     ("demo", "N SEED"),
 ];
 
-/// The longest name of a command has fewer bytes.
+/// An upper bound of the lengths of the commands' names.
 const COMMAND_LIMIT: usize = 16;
 
-/// What is told of a surface without a face.
+/// The hint for a surface without a face.
 pub const NO_FACE: &str =
-    "no face: are all points one place at this unit (unit=1000 makes millimetres of metres), or is smooth= large beside vote=?";
+    "no face: do all points coincide at this scale (unit=1000 converts metres to millimetres), or is smooth= large compared with vote=?";
 
-/// What a refusal begins with, behind its first word, and how to mend it.
+/// The prefix of each error's reason, and how to fix it.
 const CURES: [(&[&str], &str); 31] = [
     (
         &["1 not_ply"],
-        "another format: make a PLY of it. Or something stands before ply, as the mark that some editors put at the front of a text, or behind it in its line: take it out",
+        "another format: convert the file to PLY. Or something precedes ply, such as a byte-order mark, or follows it in its line: remove it",
     ),
     (
         &["2 bad_line"],
-        "a misspelled word, a type that PLY has not (int64), a name with a space, a version other than 1.0, a property before the first element: mend the line. A name with a letter beyond ASCII: recon-scan makes it plain",
+        "a misspelled keyword, a type that PLY does not have (int64), a name with a space, a version other than 1.0, a property before the first element: fix the line. A name with a non-ASCII letter: recon-scan converts it",
     ),
     (
         &["3 long_line", "4 long_header"],
@@ -56,11 +57,11 @@ const CURES: [(&[&str], &str); 31] = [
     ),
     (
         &["5 twice"],
-        "two properties or elements of one name: recon-scan renames the second property of its element",
+        "two properties or elements with the same name: recon-scan renames the second property of its element",
     ),
     (
         &["6 head_cut", "17 cut"],
-        "the file was cut, or its header states more rows or properties than there are: export or copy it again",
+        "the file is truncated, or its header states more rows or properties than there are: export or copy it again",
     ),
     (
         &[
@@ -69,11 +70,11 @@ const CURES: [(&[&str], &str); 31] = [
             "7 missing vertex_y",
             "7 missing vertex_z",
         ],
-        "the points or their coordinates have other names in this file: rename them. recon-scan takes X, Y, Z for them",
+        "the points or their coordinates have other names in this file: rename them. recon-scan accepts X, Y, Z",
     ),
     (
         &["7 missing vertex_scanner"],
-        "name the scanner of each point (recon-scan with index=), or hand in one place by scanner=; points with normals get scanners by normals=yes",
+        "name the scanner of each point (recon-scan with index=), or give one position by scanner=; for points with normals, normals=yes computes scanners",
     ),
     (
         &[
@@ -82,7 +83,7 @@ const CURES: [(&[&str], &str); 31] = [
             "7 missing scanner_y",
             "7 missing scanner_z",
         ],
-        "the file numbers its scanners and has no positions: recon-scan with positions=",
+        "the file numbers its scanners but has no positions: recon-scan with positions=",
     ),
     (
         &["8 list_property"],
@@ -98,23 +99,23 @@ const CURES: [(&[&str], &str); 31] = [
     ),
     (
         &["10 too_many scanner"],
-        "at most 65,536 places: one for each station, and not for each point",
+        "at most 65,536 scanners: one for each station, not for each point",
     ),
     (
         &["11 two_scanners"],
-        "leave out scanner=, or take the element out",
+        "leave out scanner=, or remove the element",
     ),
     (
         &["12 bad_token"],
-        "a word is no number: nan and inf, a scanner's number with decimals (both: recon-scan), a weight with decimals, or a decimal comma",
+        "a value is not a number: nan or inf, or a scanner's number with decimals (recon-scan fixes both), a weight with decimals, or a decimal comma",
     ),
     (
         &["13 long_number"],
-        "over 30 digits, or 18 in a scanner's number, or 4 in an exponent: write fewer",
+        "over 30 digits, or 18 in a scanner's number, or 4 in an exponent: round the number",
     ),
     (
         &["14 out_of_range"],
-        "farther out than 2,097,151: a smaller unit, or an origin near the object (origin= of recon-scan)",
+        "beyond 2,097,151: use a smaller unit=, or an origin near the object (origin= of recon-scan)",
     ),
     (
         &["15 no_such_scanner"],
@@ -122,44 +123,44 @@ const CURES: [(&[&str], &str); 31] = [
     ),
     (
         &["16 bad_count"],
-        "the length of a list is no number: the body is not what the header says",
+        "the length of a list is not a number: the body does not match the header",
     ),
     (
         &["18 trailing"],
-        "more rows than the header says: mend the count, or cut the file at byte a. Or more values in a row than it has properties",
+        "more rows than the header states: fix the count, or truncate the file at byte a. Or a row has more values than properties",
     ),
     (
         &["19 too_long scan"],
-        "over 4 GiB: fewer points, by recon-scan with side= or with from= and to=",
+        "over 4 GiB: reduce the points by recon-scan with side= or with from= and to=",
     ),
     (
         &["21 bad_weight"],
-        "a weight is 1 to 255: multiply or round the weights of the file into that range, or give a point of weight 0 an empty list of scanners",
+        "a weight is 1 to 255: scale or round the weights of the file, or give a point with weight 0 an empty list of scanners",
     ),
     (
         &["22 too_many_sights"],
-        "at most 8,388,608 sights: name fewer scanners a point, or take fewer points",
+        "at most 8,388,608 sights: name fewer scanners for each point, or use fewer points",
     ),
     (
         &["19 too_long mesh", "19 too_long cert"],
-        "over 4 GiB, so most likely another file than was meant",
+        "over 4 GiB: probably the wrong file",
     ),
     (&["19 too_long points"], "over 4 GiB: ask in parts"),
     (
         &["23 bad_query"],
-        "of ask: value n of the points, counted from 0, is no number: a comma or a semicolon, a header line, nan",
+        "of ask: value n of the points, counted from 0, is not a number: a comma or a semicolon, a header line, nan",
     ),
     (
         &["24 long_query"],
-        "over 30 digits, or 4 in an exponent: write fewer",
+        "over 30 digits, or 4 in an exponent: round the number",
     ),
     (
         &["25 query_range"],
-        "the point is farther out than a scan's can be: a smaller unit, or leave the point out, which is outside",
+        "the point is beyond the range of a scan: use a smaller unit=, or leave the point out, which is outside",
     ),
     (
         &["26 query_cut"],
-        "there are n values, and three make a point: is a column missing, or one too many, or the file cut?",
+        "there are n values, and a point has three: is a column missing or extra, or the file truncated?",
     ),
     (
         &["27 too_many_queries"],
@@ -167,16 +168,16 @@ const CURES: [(&[&str], &str); 31] = [
     ),
     (
         &["28 unbalanced"],
-        "of slice: the mesh is not closed at the edge between points a and b, counted from 0: take a mesh that build wrote",
+        "of slice: the mesh is not closed at the edge between points a and b, counted from 0: use a mesh that build wrote",
     ),
     (
         &["29 mesh_line", "30 mesh_cut"],
-        "of slice and export: the mesh is not as build wrote it: edited, saved by a viewer, brought to floats, with other line ends (then n is 1), or cut: take that file",
+        "of slice and export: the mesh was changed after build wrote it: edited, saved by a viewer, converted to floats or other line ends (then n is 1), or truncated: use the original file",
     ),
 ];
 
-/// The place among [`USES`] of the command that the words behind the program's name begin with, if it is one.
-pub fn command_begun<R: Env>(rt: &R) -> Option<usize> {
+/// Returns the index in [`USES`] of the command that the arguments after the program's name begin with, if it is one.
+fn command_begun<R: Env>(rt: &R) -> Option<usize> {
     let mut word = [0; COMMAND_LIMIT];
     let Ok(length) = rt.arg(1, &mut word) else {
         return None;
@@ -190,7 +191,7 @@ pub fn command_begun<R: Env>(rt: &R) -> Option<usize> {
     None
 }
 
-/// How to mend what was refused, if the line is a refusal of a file.
+/// Returns how to fix the error, if the line is an error of a file.
 pub fn cure_of(line: &[u8]) -> Option<&'static str> {
     let reason = line.strip_prefix(b"refused ")?;
     for (fronts, cure) in &CURES {
@@ -201,7 +202,7 @@ pub fn cure_of(line: &[u8]) -> Option<&'static str> {
     None
 }
 
-/// Whether the reason begins with these words.
+/// Returns whether the reason has this prefix.
 fn is_behind(reason: &[u8], front: &str) -> bool {
     match reason.strip_prefix(front.as_bytes()) {
         Some([b' ' | b'\n', ..]) => true,
@@ -209,7 +210,7 @@ fn is_behind(reason: &[u8], front: &str) -> bool {
     }
 }
 
-/// Whether the line is that of a surface without a face.
+/// Returns whether the line is that of a surface without a face.
 pub fn has_no_face(line: &[u8]) -> bool {
     line.starts_with(b"points ")
         && line
@@ -217,14 +218,26 @@ pub fn has_no_face(line: &[u8]) -> bool {
             .any(|front| front == b" faces 0 ".as_slice())
 }
 
-/// What `recon` tells a person, by the command that the words begin with, at its place among [`USES`].
+/// The hints of `recon` for the command with this index in [`USES`]. The weights are those of a run of `build` that a person sees at a
+/// terminal.
 #[derive(Drop)]
 pub struct Hints {
-    pub command: Option<usize>,
+    command: Option<usize>,
+    weights: Option<Weights>,
 }
 
 impl Hints {
-    /// Tells how the command is used, or where the words begin with none how all are.
+    /// Returns the hints for the arguments of the command line, if standard error is a terminal (`is_seen`) or not.
+    pub fn new<R: Env>(rt: &R, is_seen: bool) -> Hints {
+        let command = command_begun(rt);
+        let weights = match command {
+            Some(0) if is_seen => Some(Weights::stated(rt)),
+            _ => None,
+        };
+        Hints { command, weights }
+    }
+
+    /// Prints the usage of the command, or of all commands if the arguments begin with none.
     fn tell_uses<R: Eprint>(&self, rt: &R) {
         for (place, (name, words)) in USES.iter().enumerate() {
             if self.command.unwrap_or(place) == place {
@@ -246,6 +259,8 @@ impl Advice for Hints {
             let _ = eprintln!(rt; "recon: {cure}");
         } else if has_no_face(line) {
             let _ = eprintln!(rt; "recon: {NO_FACE}");
+        } else if let Some(weights) = self.weights {
+            weights.tell(rt, line);
         }
     }
 }

@@ -1,4 +1,4 @@
-//! How the program ends, by what the system hands in as its words. It stands on `recon_cmd`, and on the forms of `mesh_form`.
+//! How the program ends, given the arguments from the system. Depends on `recon_cmd`, and on the writers of `mesh_form`.
 ghost use Rattle.std.specs.Prelude.{◌≡◌, false, map, string_bytes, IfOk, OnErr, Some, None};
 ghost use Rattle.std.specs.Process.{exit_status};
 ghost use Rattle.recon_cmd.specs.Sweep.{entries_of};
@@ -6,7 +6,7 @@ ghost use Rattle.recon_main.specs.Ends.{EndsOn, EndsAfterARun, RunsOn, RunsOrIdl
 ghost use Rattle.real_host.specs.Real.{real_state};
 ghost use Rattle.real_host.specs.Start.{fresh_state};
 
-use crate::advice::{Hints, command_begun};
+use crate::advice::Hints;
 use host::Host;
 use mesh_form::{Form, ObjForm, OffForm, PlyForm};
 use real_host::{RealHost, Unnamed, arguments_after_name};
@@ -19,43 +19,47 @@ use std::rt::{Env, Files};
 use std::{env, io};
 use watch::Watch;
 
-/// The whole program: it ends with what the system's words come to over the system's files and output.
+/// Runs the whole program: it ends with the status of a run on the system's arguments over the system's files and output.
 ///
-/// Nothing is known of what a system hands in, so the clause names no words: it says that the status is one of [`ends_over`], whose
-/// host is dropped here. The program's name is left out of the words, whatever it is. A watch is told of the stages of the work.
+/// The arguments from the system are unspecified, so the contract does not name them: it states that the status is one of
+/// [`ends_over`], whose host is dropped here. The program's name is left out of the arguments. Reports the stages of the work
+/// to a progress callback.
+/// `is_seen`: standard error is a terminal, so `build` prints hints on the surface there.
 pub fn ends_on<R: Env + Files + Print + Eprint + AllocGlobal + Drop, W: Watch>(
     rt: R,
     watch: &mut W,
+    is_seen: bool,
 ) -> ExitCode
     ensures { EndsAfterARun (exit_status result) }
 {
     let args = env::args(&(Unnamed(&rt), rt.alloc()));
-    let (status, _host) = ends_over(rt, args, watch);
+    let (status, _host) = ends_over(rt, args, watch, is_seen);
     status
 }
 
-/// Runs on these words over the system's files and output, of which nothing was used before. Returns the status that the program
-/// ends with, and the host as the run left it.
+/// Runs on these arguments over the system's files and output, which were not used before. Returns the exit status of the
+/// program, and the host after the run.
 ///
-/// What the system itself hands in as words decides only which lines of use a person is told.
+/// The arguments from the system itself decide only which lines of usage are printed as a hint.
 pub fn ends_over<R: Env + Files + Print + Eprint + AllocGlobal + Drop, W: Watch>(
     rt: R,
     args: io::Result<Args>,
     watch: &mut W,
+    is_seen: bool,
 ) -> (ExitCode, RealHost<R, R::File, Hints>)
     ensures { EndsOn args (exit_status result.0) fresh_state (real_state result.1) }
 {
     let alloc = rt.alloc();
-    let command = command_begun(&rt);
-    let mut host = RealHost::new(rt, Hints { command });
+    let hints = Hints::new(&rt, is_seen);
+    let mut host = RealHost::new(rt, hints);
     let status = ends(alloc, args, &mut host, watch);
     (status, host)
 }
 
-/// The status that the program ends with, after a run on the words behind the program's name.
+/// Returns the exit status of the program, after a run on the arguments after the program's name.
 ///
-/// Words of which one is no text are no command, as if there were none. Where there is no memory for the words or for the forms
-/// of `export` and `sweep`, the status is 5 and nothing is done.
+/// If some argument is not text, the arguments are invalid, as if there were none. If there is no memory for the arguments or
+/// for the writers of `export` and `sweep`, the status is 5 and nothing is done.
 pub fn ends<H: Host, W: Watch>(
     alloc: Global,
     args: io::Result<Args>,
@@ -76,8 +80,8 @@ pub fn ends<H: Host, W: Watch>(
     ExitCode::from(status)
 }
 
-/// The status of a run on these words, where `export` writes PLY, OFF and OBJ, and `sweep` writes PLY. Where there is no memory for
-/// the forms, nothing is done.
+/// Returns the status of a run on these arguments; `export` writes PLY, OFF and OBJ, and `sweep` writes PLY. If there is no
+/// memory for the writers, nothing is done.
 fn run_on<H: Host, W: Watch>(alloc: Global, words: &[String], host: &mut H, watch: &mut W) -> u8
     requires { (H.state host.old).writing ≡ false }
     ensures { RunsOrIdles (map string_bytes words.now) result (H.state host.old) (H.state host.new) }
@@ -88,7 +92,7 @@ fn run_on<H: Host, W: Watch>(alloc: Global, words: &[String], host: &mut H, watc
     }
 }
 
-/// The same, and no status where there is no memory for the forms.
+/// Returns the same, and no status if there is no memory for the writers.
 fn run_in_forms<H: Host, W: Watch>(
     alloc: Global,
     words: &[String],
@@ -105,7 +109,7 @@ fn run_in_forms<H: Host, W: Watch>(
     }
 }
 
-/// The same of words of `sweep`, where each of so many surfaces is written as PLY.
+/// Returns the same for arguments of `sweep`, with each of this number of surfaces written as PLY.
 fn run_in_meshes<H: Host, W: Watch>(
     alloc: Global,
     words: &[String],
@@ -126,7 +130,7 @@ fn run_in_meshes<H: Host, W: Watch>(
     Ok(run_forms_within(alloc, words, host, &mut forms, FILE_LIMIT, watch))
 }
 
-/// The same of other words, where `export` writes a mesh as PLY, OFF and OBJ.
+/// Returns the same for other arguments, with `export` writing a mesh as PLY, OFF and OBJ.
 fn run_in_formats<H: Host, W: Watch>(
     alloc: Global,
     words: &[String],

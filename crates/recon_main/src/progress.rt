@@ -1,9 +1,8 @@
-//! How far the work is, for a person at a terminal: a line that is written over, and taken off in the end. It stands on the trait of
-//! `watch`, and on std's clock and standard error.
+//! Shows the progress on a terminal: a line that is overwritten, and cleared in the end. Depends on the trait of `watch`, and
+//! on std's clock and standard error.
 //!
-//! No clause speaks of the line, and nothing hangs on it: where a write of it is refused, or the clock tells no time, all goes on
-//! without. The start of each stage is written, of which a run has six, and counts four times a second at most: so no more than
-//! eleven lines are written in a second.
+//! No contract depends on the line: if a write of it fails, or the clock fails, the work goes on. The start of each stage is
+//! written, at most six in a run, and counts at most four times a second: so no more than eleven lines are written in a second.
 
 use std::fmt;
 use std::fmt::{Display, Formatter};
@@ -11,21 +10,21 @@ use std::rt::{Clock, Env};
 use std::time::Instant;
 use watch::{Stage, Watch};
 
-/// How many milliseconds pass at least before a count is written.
+/// The minimal time between two written counts, in milliseconds.
 const PAUSE: u64 = 250;
 
-/// What begins a line in the place of the one before.
+/// The prefix of a line that replaces the one before.
 const CLEAR: &str = "\r\x1b[K";
 
-/// A watch that writes to standard error, where a person sees it.
+/// A progress callback that writes to standard error.
 #[derive(Drop)]
 pub struct Progress<R: Drop> {
     rt: R,
-    // when the program began, where a line is to be written at all
+    // when the program began, if lines are written at all
     began: Option<Instant>,
     stage: Stage,
     of: u64,
-    // the milliseconds since then after which a count is written
+    // the time in milliseconds after which the next count is written
     due: u64,
     is_shown: bool,
 }
@@ -48,7 +47,7 @@ impl Display for Grouped {
     }
 }
 
-/// The name of a stage, as the line has it.
+/// Returns the name of a stage, as in the line.
 fn name_of(stage: Stage) -> &'static str {
     match stage {
         Stage::Cells => "cells",
@@ -61,7 +60,7 @@ fn name_of(stage: Stage) -> &'static str {
     }
 }
 
-/// Whether the terminal says of itself that it takes characters alone.
+/// Returns whether the terminal identifies itself as dumb.
 pub fn is_dumb<R: Env>(rt: &R) -> bool {
     let mut word = [0; 8];
     match rt.var("TERM", &mut word) {
@@ -71,7 +70,7 @@ pub fn is_dumb<R: Env>(rt: &R) -> bool {
 }
 
 impl<R: Clock + Eprint + Drop> Progress<R> {
-    /// From now on, where a person sees standard error; else nothing is ever written.
+    /// Returns a callback that writes from now on, if standard error is a terminal; else it never writes.
     pub fn new(rt: R, is_seen: bool) -> Self {
         let began = if is_seen {
             Instant::now(&rt).ok()
@@ -88,14 +87,14 @@ impl<R: Clock + Eprint + Drop> Progress<R> {
         }
     }
 
-    /// How many milliseconds have passed, if a line is to be written.
+    /// Returns the time that has passed in milliseconds, if a line is to be written.
     fn passed(&self) -> Option<u64> {
         let passed = self.began?.elapsed(&self.rt).ok()?;
         let seconds = passed.as_secs().saturating_mul(1000);
         Some(seconds.saturating_add(u64::from(passed.subsec_millis())))
     }
 
-    /// Writes the line of the stage, of which so many are done after so many milliseconds.
+    /// Writes the line of the stage, with its count after this time in milliseconds.
     fn show(&mut self, count: u64, passed: u64) {
         let (name, seconds) = (name_of(self.stage), passed / 1000);
         let (count, of) = (Grouped(count), Grouped(self.of));
@@ -108,7 +107,7 @@ impl<R: Clock + Eprint + Drop> Progress<R> {
         self.due = passed.saturating_add(PAUSE);
     }
 
-    /// Takes the line off.
+    /// Clears the line.
     fn take_off(&mut self) {
         if self.is_shown {
             let _ = eprint!(self.rt; "{CLEAR}");

@@ -1,8 +1,8 @@
-//! Tests of the commands over a host in memory, of what no clause says and the built program cannot show: that nothing is called
-//! behind a call that fails, that the limit of a file is met exactly, and a mesh in a form of a caller's own.
+//! Tests of the commands over a host in memory, for what no contract states and the built program cannot show: that no call
+//! follows a failed one, that the limit of a file is exact, and a mesh in the format of a caller's own writer.
 //!
-//! The crate has tests alone. They call what `recon_cmd` and the crates below it promise to callers, so a check of them proves
-//! no function of those again. What the commands say and write is tested at the built program, in `tools/tests`.
+//! The crate has only tests. They call public functions of `recon_cmd` and the crates below it, so that checking them does not
+//! verify those functions again. What the commands print and write is tested with the built program, in `tools/tests`.
 #![tactic(auto)]
 
 #[cfg(test)]

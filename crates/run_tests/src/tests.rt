@@ -1,4 +1,4 @@
-//! Runs over a host in memory: calls that fail, files that are too long, and a form of a caller's own.
+//! Runs over a host in memory: calls that fail, files that are too long, and a mesh writer of a caller's own.
 
 mod every_call;
 mod export;

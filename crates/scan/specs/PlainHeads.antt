@@ -1,12 +1,12 @@
--- The headers of printed scans, of which there are two: that of the plain form, where each row is one sight of weight 1,
--- and that of the wide form, where a row has a weight and any number of sights.
+-- The two headers of printed scans: that of the plain form, with one sight of weight 1 for each row, and that of the wide form,
+-- with a weight and any number of sights for each row.
 --
---   int_property name     a property of one whole number of four bytes
+--   int_property name     the property of a four-byte integer
 --   axis_properties       the properties of a scanner row: its coordinates
---   seen_properties w     what a vertex row has behind its coordinates: in the plain form the number of its scanner, in the
+--   seen_properties w     the part of a vertex row after its coordinates: in the plain form the number of its scanner, in the
 --                         wide form its weight and the list of its scanners
 --   vertex_properties w   those of a vertex row
---   vertex_element, scanner_element   the elements with so many rows
+--   vertex_element, scanner_element   the elements with this number of rows
 --   printed_head w v s    a text's header with v vertex rows and s scanner rows, in the wide form or in the plain one
 use Rattle.std.specs.Prelude.{ℕ, Bool, true, false, List, [], ◌∷◌, codes}
 use Rattle.ply_head.specs.declared.header.Header.{Header}
@@ -16,15 +16,15 @@ use Rattle.ply_head.specs.declared.header.Shape.TheVariants.{One, Many}
 use Rattle.ply_head.specs.declared.header.Scalar.TheVariants.{Uchar, Int, Uint}
 use Rattle.ply_head.specs.declared.header.Kind.TheVariants.{Ascii}
 
--- a property that is one whole number of four bytes
+-- a property that is a four-byte integer
 abbrev pub int_property : List ℕ → Property
 int_property name = record { name = name; shape = One Int }
 
--- the weight of a row, a whole number of one byte
+-- the weight of a row, a one-byte integer
 abbrev pub weight_property : Property
 weight_property = record { name = codes "weight"; shape = One Uchar }
 
--- the scanners of a row, a list of whole numbers
+-- the scanners of a row, a list of integers
 abbrev pub list_property : Property
 list_property = record { name = codes "scanner"; shape = Many Uint Int }
 
@@ -32,7 +32,7 @@ list_property = record { name = codes "scanner"; shape = Many Uint Int }
 abbrev pub axis_properties : List Property
 axis_properties = int_property (codes "x") ∷ int_property (codes "y") ∷ int_property (codes "z") ∷ []
 
--- what a vertex row has behind its coordinates, in the wide form or in the plain one
+-- the part of a vertex row after its coordinates, in the wide form or in the plain one
 abbrev pub seen_properties : Bool → List Property
 seen_properties false = int_property (codes "scanner") ∷ []
 seen_properties true = weight_property ∷ list_property ∷ []

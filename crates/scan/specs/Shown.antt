@@ -1,27 +1,27 @@
--- What the rows of a scan show: the points, the scanners, and the list of sights. Whoever reads a scan reads this, however
--- it was written.
+-- The content of a scan: the points, the scanners, and the list of sights. Each reader of a scan gets this, whatever its
+-- encoding.
 --
---   Shown              the points, the scanners' places, and what was seen
---   sights_in_row n w ks   the sights of the row with the number n, of weight w, from the scanners ks
+--   Shown              the points, the scanners' positions, and the sights
+--   sights_in_row n w ks   the sights of the row with the number n, with weight w, from the scanners ks
 --   row_seen n row     the sights of the row with the number n, in the order of its scanners
 --   seen_from n rows   the sights of rows that are numbered from n on, row by row
---   shown_by rows      what the rows of a scan show
---   IsSeen p s         a sight of one of p points from one of s scanners, of a weight that a sight may have
---   IsNoEarlier, WeighsAlike   a sight is of no earlier row than one before it, and weighs the same in the same row
---   IsShown            what a scan may show
+--   shown_by rows      the content of the rows of a scan
+--   IsSeen p s         a sight of one of p points from one of s scanners, with a valid weight
+--   IsNoEarlier, WeighsAlike   a sight is of no earlier row than one before it, and has the same weight in the same row
+--   IsShown            the content of a valid scan
 use Rattle.std.specs.Prelude.{ℕ, ◌+◌, ◌≡◌, ◌<◌, ◌≤◌, List, [], ◌∷◌, ◌++◌, length, map, All, AllPairs}
 use Rattle.geo_sign.specs.Point.{Point, IsWithin}
 use Rattle.geo_sign.specs.declared.point.TheConstants.{DATA_LIMIT}
 use Rattle.scan.specs.declared.scan.Seen.{Seen}
 use Rattle.scan.specs.ScanRows.{VertexRow, ScanRows, point_limit, scanner_limit, sight_limit, weight_limit}
 
--- the points in the order of their rows, the scanners' places, and the sights in the order of their points
+-- the points in the order of their rows, the scanners' positions, and the sights in the order of their points
 pub record Shown : Type 0 where
   pub points : List Point
   pub scanners : List Point
   pub seen : List Seen
 
--- sights of the row with this number: one from each of these scanners, of this weight
+-- sights of the row with this number: one from each of these scanners, with this weight
 abbrev pub sights_in_row : ℕ → ℕ → List ℕ → List Seen
 sights_in_row number weight seen_by = map (λ (k : ℕ). record { row = number; scanner = k; weight = weight }) seen_by
 
@@ -34,7 +34,7 @@ abbrev pub seen_from : ℕ → List VertexRow → List Seen
 seen_from number [] = []
 seen_from number (row ∷ rows) = row_seen number row ++ seen_from (number + 1) rows
 
--- what the rows of a scan show
+-- the content of the rows of a scan
 abbrev pub shown_by : ScanRows → Shown
 shown_by rows = record {
   points = map (λ (row : VertexRow). row.point) rows.vertices;
@@ -42,7 +42,7 @@ shown_by rows = record {
   seen = seen_from 0 rows.vertices;
 }
 
--- a sight of one of so many points from one of so many scanners, of a weight of 1 to 255
+-- a sight of one of the points from one of the scanners, with a weight of 1 to 255
 pub record IsSeen (points scanners : ℕ) (seen : Seen) : Type 0 where
   pub row : seen.row < points
   pub scanner : seen.scanner < scanners
@@ -57,8 +57,8 @@ IsNoEarlier before seen = before.row ≤ seen.row
 abbrev pub WeighsAlike : Seen → Seen → Type 0
 WeighsAlike before seen = before.row ≡ seen.row → before.weight ≡ seen.weight
 
--- data points and scanners, no more than a scan may have; sights of these, in the order of their points, those of one point of
--- one weight
+-- data points and scanners, no more than a scan may have; sights of these, in the order of their points, those of one point
+-- with the same weight
 pub record IsShown (shown : Shown) : Type 0 where
   pub points : All (IsWithin DATA_LIMIT) shown.points
   pub scanners : All (IsWithin DATA_LIMIT) shown.scanners

@@ -1,5 +1,4 @@
-//! A body behind its header, and a row of it. It stands on the headers of `ply_head` and the
-//! fields of `ply_rows`.
+//! A body after its header, and a row of it. Depends on the headers of `ply_head` and the fields of `ply_rows`.
 
 ghost use Rattle.std.specs.Prelude.{◌≤◌};
 ghost use Rattle.num_text.specs.declared.decimal.TheConstants.{UNIT_LIMIT};
@@ -7,7 +6,7 @@ ghost use Rattle.num_text.specs.declared.decimal.TheConstants.{UNIT_LIMIT};
 use ply_head::Header;
 use ply_rows::{Field, RowAt};
 
-/// A body: the header in front of it, its bytes, and how many units make one of its numbers.
+/// A body: the header before it, its bytes, and the scale.
 #[derive(Clone, Copy)]
 pub(crate) struct Body<'a> {
     pub head: &'a Header,
@@ -17,7 +16,7 @@ pub(crate) struct Body<'a> {
     pub ghost at_most_a_million: { unit ≤ UNIT_LIMIT },
 }
 
-/// A row of a body: where it stands, and the fields of its properties.
+/// A row of a body: its position, and the fields of its properties.
 #[derive(Clone, Copy)]
 pub(crate) struct Row<'a> {
     pub body: Body<'a>,

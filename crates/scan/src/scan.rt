@@ -1,4 +1,4 @@
-//! The type of scans, and what each of them keeps. It stands on the points of `geo_sign`.
+//! The type of scans, and its invariant. Depends on the points of `geo_sign`.
 
 ghost use Rattle.std.specs.Prelude.{◌≤◌, length, All, AllPairs};
 ghost use Rattle.geo_sign.specs.Point.{IsWithin};
@@ -8,19 +8,19 @@ ghost use Rattle.geo_sign.specs.declared.point.TheConstants.{DATA_LIMIT};
 
 use geo_sign::Point;
 
-/// The most vertex rows of a scan: 2^20.
+/// The maximal number of vertex rows of a scan: 2^20.
 pub const POINT_LIMIT: u32 = geo_sign::POINT_LIMIT;
 
-/// The most scanner rows of a scan: 2^16.
+/// The maximal number of scanner rows of a scan: 2^16.
 pub const SCANNER_LIMIT: u32 = 65_536;
 
-/// The most sights of a scan: those of a network, 2^23.
+/// The maximal number of sights of a scan: that of a network, 2^23.
 pub const SIGHT_LIMIT: usize = flow_net::SIGHT_LIMIT;
 
-/// The largest weight of a sight, as of a network.
+/// The largest weight of a sight, as in a network.
 pub const SIGHT_WEIGHT_LIMIT: u8 = flow_net::SIGHT_WEIGHT_LIMIT as u8;
 
-/// A sight: a point that a scanner saw, and how much that weighs.
+/// A sight: a point that a scanner saw, and its weight.
 #[derive(Clone, Copy, Debug, PartialEq, Eq)]
 pub struct Seen {
     /// The number of the point, counted from 0.
@@ -31,18 +31,17 @@ pub struct Seen {
     pub weight: u8,
 }
 
-/// A scan: points, the scanners' places, and which scanners saw which points.
+/// A scan: points, the scanners' positions, and which scanners saw which points.
 ///
-/// All places are data points: whole coordinates in scaled units, of an absolute value of
-/// at most 2^21 - 1. Points may be equal, a scanner may see no point, and a point may be seen
-/// by no scanner, by several, and by one more than once.
+/// All positions are data points: integer coordinates in scaled units, with absolute values of at most 2^21 - 1. Points may be
+/// equal, a scanner may see no point, and a point may be seen by no scanner, by several, and by one more than once.
 #[derive(Debug, Drop)]
 pub struct Scan {
     /// The points in the order of their rows.
     pub points: Vec<Point>,
-    /// The places that were scanned from.
+    /// The positions of the scanners.
     pub scanners: Vec<Point>,
-    /// The sights in the order of their points; those of one point have one weight.
+    /// The sights in the order of their points; those of one point have the same weight.
     pub seen: Vec<Seen>,
     pub ghost points_are_data: { All (IsWithin DATA_LIMIT) points.items },
     pub ghost scanners_are_data: { All (IsWithin DATA_LIMIT) scanners.items },

@@ -1,7 +1,7 @@
--- The labels of a scene's cells that cost least, and the flow that shows it.
+-- The labels of a scene's cells with the least cost, and the flow that proves it.
 --
---   IsCutOf s slots cut      by the numbers of cells and sides: the least-inside labels of the scene, and a valid flow that is worth
---                            what they cost
+--   IsCutOf s slots cut      by the numbers of cells and sides: the minimum cut with the smallest inside of the scene, and a
+--                            valid flow whose value is its cost
 use Rattle.std.specs.Prelude.{ℕ, ◌≡◌, ◌≤◌, ◌*◌, Bool, Option, List, length, slice_index}
 use Rattle.flow_net.specs.Nets.{flag_at}
 use Rattle.tetra_store.specs.declared.link.Cell.{Cell}
@@ -13,7 +13,7 @@ use Rattle.vote_net.specs.ByNumber.{SaysOfCells, SaysOfSides, IsZeroElsewhere}
 use Rattle.vote_net.specs.StoredComplexes.{stored_complex}
 use Rattle.scan_cut.specs.declared.cutting.MinimumCut.{MinimumCut}
 
--- no labels cost less than the flow is worth; labels and amounts say the same of cells and facets as these functions
+-- no labels cost less than the value of the flow; labels and amounts agree with these functions of cells and facets
 pub record IsCutOf (s : Scene) (slots : List (Option Cell)) (cut : MinimumCut) : Type 0 where
   pub fixed : List Bool
   pub inside : List ℕ → Bool

@@ -1,7 +1,7 @@
 -- The linked cells of a scan.
 --
---   AreRowsOf slots cells          the list has the rising row of each live cell, and no other rows
---   IsStoreOf scan settings s      the Delaunay cells of the scan's points, all inserted, of which a solution speaks
+--   AreRowsOf slots cells          the list has the sorted vertex tuple of each live cell, and nothing else
+--   IsStoreOf scan settings s      the Delaunay cells of the scan's points, all inserted, as in a solution
 use Rattle.std.specs.Prelude.{ℕ, ◌≡◌, ◌<◌, ◌++◌, true, false, List, Option, length, slice_index_or, Contains}
 use Rattle.delaunay.specs.Partition.{IsPartition}
 use Rattle.flow_net.specs.declared.votes.Settings.{Settings}
@@ -16,13 +16,14 @@ use Rattle.tetra_store.specs.declared.link.Cell.{Cell}
 use Rattle.visibility.specs.Complexes.{Complex}
 use Rattle.visibility.specs.Votes.{IsComplexOf}
 
--- each live cell's numbers, rising, are in the list, and each row of the list is that of a live cell
+-- the sorted vertex tuple of each live cell is in the list, and each entry is that of a live cell
 pub record AreRowsOf (slots : List (Option Cell)) (cells : List (List ℕ)) : Type 0 where
   pub row : (id : ℕ) → IsLive (links_of slots) id → (row : List ℕ) × IsRowOf ((links_of slots).at id) row × Contains cells row
   pub cell : (row : List ℕ) → Contains cells row → (id : ℕ) × IsLive (links_of slots) id × IsRowOf ((links_of slots).at id) row
 
 -- The corners of the box and the scan's distinct points in their order, all inserted. The live cells are exactly their Delaunay
--- cells, and part the box. Any complex of the scan, so also that of a solution, has the live cells' rows as its cells.
+-- cells, and partition the box. Any complex of the scan, so also that of a solution, has the live cells' sorted vertex tuples
+-- as its cells.
 pub record IsStoreOf (scan : Shown) (settings : Settings) (s : Store) : Type 0 where
   pub points : s.points ≡ corners ++ points_of scan
   pub inserted : (u : ℕ) → u < length s.points → slice_index_or s.inserted u false ≡ true

@@ -1,5 +1,5 @@
-//! The linked cells of a scan and what the network over them is made from. It stands on `delaunay`, which makes the cells, and on
-//! `votes`, which counts what each sight votes for.
+//! The linked cells of a scan and the counts from which the network over them is made. Depends on `delaunay`, which makes the
+//! cells, and on `votes`, which accumulates the visibility weights.
 
 ghost use Rattle.std.specs.Prelude.{◌≡◌, ◌<◌, ◌^◌, IfOk, length};
 ghost use Rattle.scan.specs.Views.{shown_of};
@@ -20,8 +20,8 @@ use tetra_store::Tetra;
 use votes::{Votes, counted};
 use watch::Watch;
 
-/// The linked Delaunay cells of a scan's points, and what its sights vote for. A watch is told of both stages. The only error is want
-/// of memory, which also stands for 2^32 numbers of cells and more.
+/// Returns the linked Delaunay cells of a scan's points, and the accumulated visibility weights of its sights. Reports both
+/// stages to a progress callback. The only error is out of memory, also for 2^32 numbers of cells and more.
 pub fn counted_cells<W: Watch>(
     alloc: Global,
     scan: &Scan,
@@ -37,7 +37,7 @@ pub fn counted_cells<W: Watch>(
     counted_cells_with(alloc, scan, &seen, settings, watch)
 }
 
-/// The same, where the distinct points and the sights of the scan are at hand.
+/// Returns the same, given the distinct points and the sights of the scan.
 pub fn counted_cells_with<W: Watch>(
     alloc: Global,
     scan: &Scan,

@@ -1,4 +1,4 @@
-//! The minimum cut over linked cells and counts. It stands on these as a network, and on `max_flow`.
+//! The minimum cut over linked cells and counts. Depends on these as a network, and on `max_flow`.
 
 ghost use Rattle.std.specs.Prelude.{◌<◌, ◌^◌, IfOk, length};
 ghost use Rattle.scan.specs.Views.{shown_of};
@@ -16,22 +16,23 @@ use tetra_store::Tetra;
 use votes::Votes;
 use watch::Watch;
 
-/// The minimum cut of a scan's cells, by the numbers of cells and sides in the store: label v is that of the cell with number v, and
-/// over side k of it flows what the flow has at 4 * v + k.
+/// The minimum cut of a scan's cells, by the numbers of cells and sides in the store: label v is that of the cell with number
+/// v, and the flow over side k of it is the entry at 4 * v + k.
 #[derive(Drop)]
 pub struct MinimumCut {
-    /// The least-inside labels of least cost.
+    /// The minimum cut with the smallest inside.
     pub labels: Labels,
-    /// A flow that is worth what they cost.
+    /// A flow whose value is the cost of the labels.
     pub flow: Flow,
-    /// What the labels cost.
+    /// The cost of the labels.
     pub cost: u64,
 }
 
-/// The minimum cut of a scan's cells. What is counted of them is let go of before it returns. A
-/// watch is told of the stage. The only error is want of memory.
+/// Returns the minimum cut of a scan's cells. Their counts are freed before it returns. Reports the stage to a progress
+/// callback. The only error is out of memory.
 ///
-/// The cost fits, since it is no more than to have all cells outside, and that is below 2^47: each sight has one cell behind it.
+/// The cost fits, since it is no more than that of labelling all cells outside, which is below 2^47: each sight has one cell
+/// behind it.
 pub fn minimum_cut_of<W: Watch>(
     alloc: Global,
     scan: &Scan,

@@ -21,7 +21,7 @@ use Rattle.cell_laws.specs.Lists.{count, one_if}
 use Rattle.cell_laws.specs.Paths.{entered_facet, IsSightStep, IsSightPath}
 use Rattle.cell_laws.specs.WalkLaws.{IsPassedOnce, HasPaths, IsWalk}
 use Rattle.cell_laws.proofs.Crossings.{left_turned}
-use Rattle.cell_laws.proofs.RimSides.{same_side}
+use Rattle.cell_laws.proofs.OneFacet.{same_side}
 use Rattle.cell_laws.proofs.Scanners.{near_law}
 use Rattle.cell_laws.proofs.SightLaws.{sight_law, left_of}
 use Rattle.cell_laws.proofs.SightPaths.{path_law}

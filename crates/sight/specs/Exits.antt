@@ -1,9 +1,9 @@
--- Where a sight comes into a cell, and where it goes out.
+-- Where a sight enters a cell and where it leaves it.
 --
---   IsEntered v p s t k                       the sight came into t through side k; or k is 4, and t is the cell at p towards s
---   IsExit v p s t k                          it goes out of t through side k
+--   IsEntered v p s t k                       the sight entered t through side k, or k is 4, and t is the cell at p towards s
+--   IsExit v p s t k                          it leaves t through side k
 --   left_behind first second third            which vertex of facet k three tests leave behind, 0 to 2
---   left_by first second third                the same, where the tests are whether three numbers are above zero
+--   left_by first second third                the same, if the tests are whether three numbers are above zero
 --   past v p s d x                            the side of the facet of p, x and d on which s is
 --   left_among v p s d numbers                which of three vertices is left behind, by the sides of their facets with p and d
 use Rattle.std.specs.Prelude.{ℕ, ◌<◌, ◌≡◌, ◌⊎◌, Bool, true, false, ℤ, List, slice_index}
@@ -17,12 +17,12 @@ use Rattle.geo_sign.specs.Vertices.{Vertices}
 abbrev pub IsEntered : Vertices → (p : ℕ) → RationalPoint → Tetrahedron → ℕ → Type 0
 IsEntered v p s t k = ((k < 4) × (is_crossed v p s (facet_of t k) ≡ true)) ⊎ ((k ≡ 4) × (is_towards v p s t ≡ true))
 
--- the facet turned round is crossed: p is before it and s behind
+-- the opposite facet is crossed: p is before it and s behind
 pub record IsExit (v : Vertices) (p : ℕ) (s : RationalPoint) (t : Tetrahedron) (k : ℕ) : Type 0 where
   pub side_in : k < 4
   pub left : is_crossed v p s (turned (facet_of t k)) ≡ true
 
--- which vertex of the facet through which the sight came in stays behind, by the tests of the planes through the three
+-- which vertex of the entry facet stays behind, by the tests of the planes through the three
 abbrev pub left_behind : (first second third : Bool) → ℕ
 left_behind true second true = 0
 left_behind true second false = 1
@@ -32,11 +32,11 @@ left_behind false false third = 0
 abbrev pub left_by : (first second third : ℤ) → ℕ
 left_by first second third = left_behind (is_positive first) (is_positive second) (is_positive third)
 
--- positive where s is on the inner side
+-- positive if s is on the inner side
 abbrev pub past : Vertices → (p : ℕ) → RationalPoint → (d x : ℕ) → ℤ
 past v p s d x = side (v.at p) (v.at x) (v.at d) s
 
--- of three vertices by number, those of the facet through which the sight came in
+-- of three vertices by number, those of the entry facet
 abbrev pub left_among : Vertices → (p : ℕ) → RationalPoint → (d : ℕ) → List ℕ → ℕ
 left_among v p s d numbers =
     left_by (past v p s d (slice_index numbers 0)) (past v p s d (slice_index numbers 1)) (past v p s d (slice_index numbers 2))

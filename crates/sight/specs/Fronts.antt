@@ -1,13 +1,13 @@
--- The facet through which a sight came into a cell, kept from cell to cell.
+-- The facet through which a sight entered a cell, kept from cell to cell.
 --
 --   IsVertexImage s r n i     i is the image of vertex n
 --   AreSeen s r f             the images of a front are those of its vertices
---   KeepsFront s r c          the front is the facet of the side through which the sight came in, where there is such a side
---   IsNextFront c j i         the facet of side j in the other direction is the front with the vertex that it has not in the
---                             place of its vertex i; or the sight came in through no side
---   GoesOut s r c j           the sight goes out of the cell reached through side j
---   HasArrived s r c          the scanner is in the cell reached
---   IsWayOut s r c way        the way by which the sight goes out of the cell reached
+--   KeepsFront s r c          the front is the facet of the entry side, if there is one
+--   IsNextFront c j i         the opposite facet of side j is the front with the vertex that it does not have in place of its
+--                             vertex i; or there is no entry side
+--   GoesOut s r c j           the sight leaves the current cell through side j
+--   HasArrived s r c          the scanner is in the current cell
+--   IsWayOut s r c way        how the sight leaves the current cell
 use Rattle.std.specs.Prelude.{ℕ, ◌≡◌, ◌<◌, ◌⊎◌, true, length, set, slice_index, slice_index_or, get_or}
 use Rattle.geo_sign.specs.declared.point.TheConstants.{BOX_LIMIT}
 use Rattle.geo_sign.specs.Point.{origin, IsWithin}
@@ -24,7 +24,7 @@ use Rattle.sight.specs.declared.image.Image.{Image}
 use Rattle.sight.specs.Exits.{IsExit}
 use Rattle.sight.specs.Images.{IsImage, no_image}
 
--- the image of a vertex that there is
+-- the image of an existing vertex
 pub record IsVertexImage (s : Store) (r : Ray) (n : ℕ) (i : Image) : Type 0 where
   pub known : n < length s.points
   pub within : IsWithin BOX_LIMIT (get_or s.points n origin)
@@ -49,15 +49,15 @@ IsNextFront c j i =
     × IsTurned (facet_of (tetrahedron_from c.vertices) j)
     (facet_at (set c.front.vertices i (vertex_of (tetrahedron_from c.vertices) c.entered))))
 
--- that side turned round is crossed
+-- the opposite facet of that side is crossed
 abbrev pub GoesOut : Store → Ray → Reached → ℕ → Type 0
 GoesOut s r c j = IsExit (vertices_of s) r.vertex (displaced r.scanner) (tetrahedron_from c.vertices) j
 
--- by its displaced place
+-- by its perturbed position
 abbrev pub HasArrived : Store → Ray → Reached → Type 0
 HasArrived s r c = is_cell_of (vertices_of s) (displaced r.scanner) (tetrahedron_from c.vertices) ≡ true
 
--- the sight goes out through its side, its next front is told rightly, and it has the image of the vertex that the front has not
+-- the sight leaves through its side, its next front is right, and it has the image of the vertex that the front does not have
 abbrev pub IsWayOut : Store → Ray → Reached → WayOut → Type 0
 IsWayOut s r c way =
     GoesOut s r c way.side × IsNextFront c way.side way.behind

@@ -2,10 +2,11 @@
 --
 --   along d            a vector's coordinates
 --   scaled u c         a vector times a number
---   IsScreen w u       the two vectors of a screen are across u: their vector product is u times a number that is not below zero
---   IsLookedAlong s r  a ray has the point of its vertex, and a screen across the way from there to its scanner
+--   IsScreen w u       the two vectors of a screen are perpendicular to u: their vector product is u times a number that is not
+--                      negative
+--   IsLookedAlong s r  a ray has the point of its vertex, and a screen perpendicular to the line from there to its scanner
 --   IsImage w p x i    i is the image of the point x on the screen of a sight from p
---   no_image           what stands for an image that is not there
+--   no_image           the value in place of an image that does not exist
 use Rattle.std.specs.Prelude.{ℤ, pos, ◌≡◌, ◌<◌, ◌≤◌, ◌≤ℤ◌, ◌*◌, ◌^◌, ◌*ℤ◌, unsigned_abs, length, get_or}
 use Rattle.geo_sign.specs.declared.point.TheConstants.{BOX_LIMIT}
 use Rattle.geo_sign.specs.Point.{Point, origin, point, IsWithin, step, cross, dot}
@@ -23,7 +24,7 @@ along d = point d.x d.y d.z
 abbrev pub scaled : Point → ℤ → Point
 scaled u c = point (u.x *ℤ c) (u.y *ℤ c) (u.z *ℤ c)
 
--- two vectors across u
+-- two vectors perpendicular to u
 pub record IsScreen (w : Screen) (u : Point) : Type 0 where
   pub right_within : IsWithin (2 ^ 24) (along w.right)
   pub up_within : IsWithin (2 ^ 24) (along w.up)
@@ -31,7 +32,7 @@ pub record IsScreen (w : Screen) (u : Point) : Type 0 where
   pub not_negative : pos 0 ≤ℤ stretch
   pub product : cross (along w.right) (along w.up) ≡ scaled u stretch
 
--- its vertex is there, and point and screen are as it asks
+-- its vertex exists, and point and screen are those of the sight
 pub record IsLookedAlong (s : Store) (r : Ray) : Type 0 where
   pub known : r.vertex < length s.points
   pub start : r.point ≡ get_or s.points r.vertex origin

@@ -1,12 +1,12 @@
--- What a walk along a sight is seen as.
+-- The view of a walk along a sight in contracts.
 --
---   Walk                        the sight, the cell now reached and the side through which it was entered, the facets to come
+--   Walk                        the sight, the current cell and its entry side, the facets to come
 --   first_of a b c d            which of four tests is the first that holds
---   leaves v p s t k            the sight goes out of t through facet k
---   exit_of v p s t             the side through which it goes out
---   is_some_of n x              the neighbor is the cell x
+--   leaves v p s t k            the sight leaves t through facet k
+--   exit_of v p s t             the side through which it leaves
+--   is_some_of n x              the adjacent cell is the cell x
 --   number_first a b c          which of three tests is the first that holds
---   side_naming links y x       the side of y that names x
+--   side_naming links y x       the side of y whose adjacent cell is x
 --   next_side s p o x           the next facet from the cell x, as a side of the cell that is entered
 --   sides_from s p o x          all facets from there on
 --   IsSight w                   they are exactly the facets that the sight crosses, each once, each nearer than every later one
@@ -14,11 +14,10 @@
 --   IsTaken w v c               and the crossing c is that facet
 --   IsEndCell s o e             the cell e is the scanner's
 --   walk_of s r c               a walk, by its ray and the cell that it has reached
---   IsWalking s r c             what is kept of each walk, beside its screen and front
+--   IsWalking s r c             the invariant of each walk, except its screen and front
 --
--- The list to come follows from the store, the sight and the cell reached, so it is no field of a walk: `sides_from` is
--- that list. What a reader has to believe of it is `IsSight` alone, which leaves one list: the crossed facets, each once,
--- in their order.
+-- The list to come is a function of the store, the sight and the current cell, so it is no field of a walk: `sides_from` is
+-- that list. A reader has to trust `IsSight` alone, which determines the list: the crossed facets, each once, in their order.
 use Rattle.std.specs.Prelude.{ℕ, zero, suc, ◌≡◌, ◌<◌, ◌==◌, Bool, true, false, List, [], ◌∷◌, Option, Some, None, length}
 use Rattle.geo_sign.specs.declared.point.TheConstants.{DATA_LIMIT}
 use Rattle.geo_sign.specs.Point.{Point, IsWithin}
@@ -56,15 +55,15 @@ first_of false false true d = Some 2
 first_of false false false true = Some 3
 first_of false false false false = None
 
--- the facet turned round is crossed: the scanner is behind the facet, and the vertex before it
+-- the opposite facet is crossed: the scanner is behind the facet, and the vertex before it
 abbrev pub leaves : Vertices → (p : ℕ) → RationalPoint → Tetrahedron → ℕ → Bool
 leaves v p s t k = is_crossed v p s (turned (facet_of t k))
 
--- the side through which the sight goes out of the cell
+-- the side through which the sight leaves the cell
 abbrev pub exit_of : Vertices → (p : ℕ) → RationalPoint → Tetrahedron → Option ℕ
 exit_of v p s t = first_of (leaves v p s t 0) (leaves v p s t 1) (leaves v p s t 2) (leaves v p s t 3)
 
--- the neighbor is this cell
+-- the adjacent cell is this cell
 abbrev pub is_some_of : Option ℕ → ℕ → Bool
 is_some_of None x = false
 is_some_of (Some y) x = y == x
@@ -76,17 +75,17 @@ number_first false true c = 1
 number_first false false true = 2
 number_first false false false = 3
 
--- the side of y that names x
+-- the side of y whose adjacent cell is x
 abbrev pub side_naming : Links → (y x : ℕ) → ℕ
 side_naming links y x =
     number_first (is_some_of (links.next y 0) x) (is_some_of (links.next y 1) x) (is_some_of (links.next y 2) x)
 
--- the side of the neighbor, if there is one, that names x
+-- the side of the adjacent cell, if there is one, whose adjacent cell is x
 abbrev pub side_into : Links → ℕ → Option ℕ → Option Side
 side_into links x None = None
 side_into links x (Some y) = Some (record { at = y; side = side_naming links y x })
 
--- that of the neighbor across side k
+-- that of the adjacent cell through side k
 abbrev pub side_through : Links → ℕ → Option ℕ → Option Side
 side_through links x None = None
 side_through links x (Some k) = side_into links x (links.next x k)
@@ -105,7 +104,7 @@ abbrev pub sides_within : Store → (p : ℕ) → Point → ℕ → ℕ → List
 sides_within s p o zero x = []
 sides_within s p o (suc n) x = with_rest (next_side s p o x) (sides_within s p o n)
 
--- no cell comes back, so there are at most as many as slots
+-- no cell is visited twice, so there are at most as many as slots
 unfoldable pub sides_from : Store → (p : ℕ) → Point → ℕ → List Side
 sides_from s p o x = sides_within s p o (length s.slots) x
 
@@ -123,14 +122,14 @@ pub record IsSight (w : Walk) : Type 0 where
   pub crossed : (c : Side) → IsIn w.to_come c
       → IsLive (links_of w.store.slots) c.at × (c.side < 4)
       × (is_crossed (vertices_of w.store) w.vertex (displaced w.scanner) (entered_facet (links_of w.store.slots).at c) ≡ true)
-  -- each facet stands in the list once or not at all, as the sight crosses it or not
+  -- each facet occurs in the list once if the sight crosses it, and else not at all
   pub counted : (c : Side) → IsLive (links_of w.store.slots) c.at → c.side < 4
       → count (is_that c) w.to_come
       ≡ one_if (is_crossed (vertices_of w.store) w.vertex (displaced w.scanner) (entered_facet (links_of w.store.slots).at c))
   -- each is nearer to the vertex than each later one
   pub nearing : AreNearing (vertices_of w.store) (links_of w.store.slots).at w.vertex (displaced w.scanner) w.to_come
 
--- a step from w to v: the cell that v has reached is across the first of the facets to come in w, and v has the others
+-- a step from w to v: the current cell of v is adjacent through the first of the facets to come in w, and v has the others
 pub record IsGoneOn (w v : Walk) : Type 0 where
   pub same : (v.store ≡ w.store) × (v.vertex ≡ w.vertex) × (v.scanner ≡ w.scanner)
   pub first : w.to_come ≡ record { at = v.at; side = v.entered } ∷ v.to_come
@@ -138,8 +137,8 @@ pub record IsGoneOn (w v : Walk) : Type 0 where
   pub live : IsLive (links_of w.store.slots) v.at
   pub across : (links_of w.store.slots).next v.at v.entered ≡ Some w.at
 
--- such a step with its facet: the cell that is entered is the scanner side, and the facet is its own; the cell left is the point
--- side, and is across that facet
+-- such a step with its facet: the cell that is entered is the scanner side, with this facet; the cell left is the point side,
+-- adjacent through that facet
 pub record IsTaken (w v : Walk) (c : Crossing) : Type 0 where
   pub on : IsGoneOn w v
   pub scanner_side : c.scanner_side ≡ v.at
@@ -159,7 +158,7 @@ walk_of s r c =
       to_come = sides_from s r.vertex r.scanner c.at;
     }
 
--- the cell reached has its four vertices, and the sight came into it through its side
+-- the current cell has its four vertices, and the sight entered it through its side
 pub record IsWalking (s : Store) (r : Ray) (c : Reached) : Type 0 where
   pub delaunay : IsDelaunay (vertices_of s) (links_of s.slots)
   pub inserted : Has (vertices_of s) r.vertex

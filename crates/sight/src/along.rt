@@ -26,14 +26,14 @@ pub struct Crossing {
     pub facet: [u32; 3],
     /// The cell whose facet it is.
     pub scanner_side: CellId,
-    /// The cell across.
+    /// The adjacent cell.
     pub point_side: CellId,
 }
 
-/// A walk along the sight from a vertex to a displaced scanner.
+/// A traversal of the cells along the sight from a vertex to a symbolically perturbed scanner.
 ///
-/// Contracts see it as the facets still to come, the nearest to the vertex first, each as a side of the cell that is entered through
-/// it, and the cell now reached with the side through which it was entered.
+/// Contracts describe it by the facets still to come, the nearest to the vertex first, each as a side of the cell that is
+/// entered through it, and by the current cell with its entry side.
 #[derive(Drop)]
 pub struct SightWalk<'a> {
     tetra: &'a Tetra,
@@ -55,7 +55,7 @@ impl<'a> Model for SightWalk<'a> {
     ghost invariant = { λ w. IsWalking w.tetra.now w.ray w.reached × IsLookedAlong w.tetra.now w.ray × KeepsFront w.tetra.now w.ray w.reached × ForSome w.end (λ e. IsEndCell w.tetra.now w.ray.scanner e) };
 }
 
-/// A walk that begins in the cell towards the scanner, whose end may be known.
+/// Returns a walk that begins in the cell towards the scanner; its end may be given.
 fn begin<'a>(t: &'a Tetra, v: u32, s: Point, end: Option<CellId>) -> SightWalk<'a>
     requires delaunay { IsDelaunay (vertices_of t.now) (links_of t.now.slots) }
     requires inserted { Has (vertices_of t.now) v }
@@ -88,10 +88,11 @@ fn begin<'a>(t: &'a Tetra, v: u32, s: Point, end: Option<CellId>) -> SightWalk<'
     }
 }
 
-/// The walk along the sight from an inserted data point, a vertex number of at least 8, to the scanner at a data point, with exactly
-/// the facets to come that the sight crosses, each once, each nearer to the point than every later one. The cells have to be Delaunay.
+/// Returns the walk along the sight from an inserted data point, a vertex number of at least 8, to the scanner at a data point,
+/// with exactly the facets to come that the sight crosses, each once, each nearer to the point than every later one. The cells
+/// have to be Delaunay.
 ///
-/// It takes no memory and does not refuse.
+/// It allocates no memory and does not fail.
 pub fn walk<'a>(t: &'a Tetra, v: u32, s: Point) -> SightWalk<'a>
     requires delaunay { IsDelaunay (vertices_of t.now) (links_of t.now.slots) }
     requires inserted { Has (vertices_of t.now) v }
@@ -103,7 +104,7 @@ pub fn walk<'a>(t: &'a Tetra, v: u32, s: Point) -> SightWalk<'a>
     begin(t, v, s, None)
 }
 
-/// The same walk where the scanner's cell is known, as `locate_scanner` finds it: it takes one sign less a step.
+/// Returns the same walk, given the scanner's cell as `locate_scanner` finds it: a step then takes one sign less.
 pub fn walk_into<'a>(t: &'a Tetra, v: u32, s: Point, end: CellId) -> SightWalk<'a>
     requires delaunay { IsDelaunay (vertices_of t.now) (links_of t.now.slots) }
     requires inserted { Has (vertices_of t.now) v }
@@ -117,8 +118,8 @@ pub fn walk_into<'a>(t: &'a Tetra, v: u32, s: Point, end: CellId) -> SightWalk<'
 }
 
 impl<'a> SightWalk<'a> {
-    /// Goes on to the next facet that the sight crosses, and through it. No exactly where the cell reached is the scanner's, and then
-    /// nothing is to come and the walk stays as it is. It takes no memory.
+    /// Goes through the next facet that the sight crosses. Returns false exactly if the current cell is the scanner's; then no
+    /// facets are left and the walk does not change. Allocates no memory.
     pub fn go_on(&mut self) -> bool
         ensures on { IsTrue result → IsGoneOn self.old self.new }
         ensures more { IsTrue result → is_cell_of (vertices_of self.old.store) (displaced self.old.scanner) ((links_of self.old.store.slots).at self.old.at) ≡ false }
@@ -142,9 +143,9 @@ impl<'a> SightWalk<'a> {
         }
     }
 
-    /// The next facet that the sight crosses, from the point towards the scanner: the first of those to come. Its point side is the
-    /// cell reached before, its scanner side the cell reached now. None exactly where the cell reached is the scanner's, and then
-    /// nothing is to come and the walk stays as it is. It takes no memory.
+    /// Returns the next facet that the sight crosses, from the point towards the scanner: the first of those to come. Its point
+    /// side is the cell before, its scanner side the cell reached now. Returns `None` exactly if the current cell is the
+    /// scanner's; then no facets are left and the walk does not change. Allocates no memory.
     pub fn next(&mut self) -> Option<Crossing>
         ensures some { IfSome result (λ c. IsTaken self.old self.new c) }
         ensures more { IfSome result (λ _. is_cell_of (vertices_of self.old.store) (displaced self.old.scanner) ((links_of self.old.store.slots).at self.old.at) ≡ false) }
@@ -163,15 +164,15 @@ impl<'a> SightWalk<'a> {
         }
     }
 
-    /// The cell now reached: before the first step the one towards the scanner, after None the scanner's.
+    /// Returns the current cell: before the first step the one towards the scanner, after `None` the scanner's.
     pub fn end_cell(&self) -> CellId
         ensures { result ≡ self.now.at }
     {
         self.reached.at
     }
 
-    /// The side, 0 to 3, of the cell now reached through which it was entered, which is the last crossing's facet. Before the first
-    /// step, in the cell at the vertex, it is 4.
+    /// Returns the side, 0 to 3, through which the current cell was entered, which is the last crossing's facet. Before the
+    /// first step, in the cell at the vertex, it is 4.
     pub fn entered(&self) -> usize
         ensures { result ≡ self.now.entered }
     {

@@ -1,15 +1,17 @@
-//! The side through which a line of sight goes out of a cell.
+//! The side through which a line of sight leaves a cell.
 //!
-//! Let the line come in through the facet a b c of a cell with fourth vertex d, and look along it from its point p. The planes through
-//! p, d and each of a, b, c cut what lies ahead into three parts, one before each other facet of the cell. So the sides of two of the
-//! planes on which the scanner is leave one facet. In the cell at the vertex that facet is the one opposite to the vertex.
+//! Let the line enter a cell through its facet a b c, let d be the fourth vertex, and look along the line from its point p. The
+//! planes through p, d and each of a, b, c cut the region ahead into three parts, one before each other facet of the cell. So
+//! the sides of two of the planes on which the scanner is leave one facet. In the cell at the vertex that facet is the one
+//! opposite to the vertex.
 //!
-//! The facet a b c is kept with the images of its vertices from cell to cell. It goes out through the facet opposite to one of them, and
-//! that facet, as the next cell has it, is a b c with d in the place of that one: so a step reads one point and makes one image.
+//! The walk keeps the facet a b c with the images of its vertices from cell to cell. It leaves through the facet opposite to
+//! one of them; in the next cell that facet is a b c with d in place of that vertex. So a step reads one point and computes one
+//! image.
 //!
-//! The functions of a step are inlined, so that its signs share one product and no point goes through memory between them. Which two
-//! of the three planes decide depends on the first, and no sign could be foretold: so all three are computed, and a table of their
-//! signs has the vertex that stays behind.
+//! The functions of a step are inlined, so that its signs share one product and no point goes through memory between them.
+//! Which two of the three planes decide depends on the first, and the signs are unpredictable: so all three are computed, and a
+//! table of their signs gives the vertex that stays behind.
 
 ghost use Rattle.std.specs.Prelude.{◌≡◌, ◌<◌, ◌<ℤ◌, ◌↔◌, ℕ, pos, IsTrue, IfSome, IfNone, length, slice_index, slice_index_or, if◌then◌else◌};
 ghost use Rattle.geo_sign.specs.Rational.{side, displaced};
@@ -29,19 +31,18 @@ use geo_sign::{Point, Sign, side_of_scanner};
 use tetra_store::{CellId, Tetra};
 use tetra_walk::{NO_SIDE, facet};
 
-/// Which vertex stays behind where a sight goes out of the cell at its vertex: none of a facet.
+/// The vertex that stays behind if a sight leaves the cell at its vertex: none of a facet.
 const NO_VERTEX: usize = 3;
 
-/// The facet through which a sight came into a cell: its vertices in the order of its turn as that cell has it, from any of them on,
-/// and their images.
+/// The facet through which a sight entered a cell: its vertices in that cell's orientation, from any of them on, and their
+/// images.
 #[derive(Clone, Copy)]
 pub(crate) struct Front {
     pub(crate) vertices: [u32; 3],
     pub(crate) images: [Image; 3],
 }
 
-/// A cell that a walk has reached, its vertices, the side through which the walk came in, 0 to 3, or 4 where it came in through none,
-/// and the facet of that side.
+/// A cell that a walk has reached: its vertices, its entry side (0 to 3, or 4 if it has none), and the facet of that side.
 #[derive(Clone, Copy)]
 pub(crate) struct Reached {
     pub(crate) at: CellId,
@@ -50,8 +51,8 @@ pub(crate) struct Reached {
     pub(crate) front: Front,
 }
 
-/// How a sight goes out of a cell: through which side, and which vertex of the facet through which it came in it leaves behind, 0 to 2,
-/// or 3 where it came in through none. That vertex is opposite to the side. The image is that of the vertex which the facet has not.
+/// How a sight leaves a cell: through which side, and which vertex of the entry facet stays behind, 0 to 2, or 3 if there is no
+/// entry facet. That vertex is opposite to the side. The image is that of the vertex which the facet does not have.
 #[derive(Clone, Copy)]
 pub(crate) struct WayOut {
     pub(crate) side: usize,
@@ -59,7 +60,7 @@ pub(crate) struct WayOut {
     pub(crate) image: Image,
 }
 
-/// The image of a vertex of a front.
+/// Returns the image of a vertex of a front.
 fn image_of(front: &Front, index: usize) -> Image
     requires { index < 3 }
     ensures { result ≡ slice_index_or front.now.images index no_image }
@@ -67,7 +68,7 @@ fn image_of(front: &Front, index: usize) -> Image
     front.images[index]
 }
 
-/// The side of a cell that is opposite to a vertex of it, with no branch between.
+/// Returns the side of a cell that is opposite to a vertex of it, without a branch.
 fn side_opposite(v: [u32; 4], vertex: u32) -> usize
     requires { IsVertexOf (tetrahedron_from v) vertex }
     ensures side { result < 4 }
@@ -78,19 +79,19 @@ fn side_opposite(v: [u32; 4], vertex: u32) -> usize
     if v[0] == vertex { 0 } else { after_first }
 }
 
-/// The vertex that is left behind by three tests, of the planes through the first, the second and the third vertex of the facet through
-/// which a sight came in: by the bits of the tests, of which the first is the lowest.
+/// The vertex that stays behind, by three tests, of the planes through the first, the second and the third vertex of the entry
+/// facet: indexed by the bits of the tests, the first test in the lowest bit.
 const BEHIND: [usize; 8] = [0, 1, 2, 1, 0, 0, 2, 0];
 
-/// 1 where it holds, and else 0.
+/// Returns 1 if it holds, else 0.
 fn bit(holds: bool) -> usize
     ensures { result ≡ if holds then 1 else 0 }
 {
     if holds { 1 } else { 0 }
 }
 
-/// The vertex that is left behind: of the tests of the three planes, the first and the third or the second leave it. None of them could
-/// be foretold, so there is no branch.
+/// Returns the vertex that stays behind, given the tests of the three planes: the first and the third or the second determine
+/// it. The tests are unpredictable, so there is no branch.
 fn left(first: bool, second: bool, third: bool) -> usize
     ensures side { result < 3 }
     ensures left { result ≡ left_behind first second third }
@@ -98,22 +99,22 @@ fn left(first: bool, second: bool, third: bool) -> usize
     BEHIND[bit(first) + 2 * bit(second) + 4 * bit(third)]
 }
 
-/// Whether a number is zero.
+/// Returns whether a number is zero.
 fn is_zero(number: i128) -> bool
     ensures { IsTrue result ↔ (number ≡ pos 0) }
 {
     number == 0
 }
 
-/// Whether a number is above zero.
+/// Returns whether a number is above zero.
 fn is_positive(number: i128) -> bool
     ensures { IsTrue result ↔ (pos 0 <ℤ number) }
 {
     number > 0
 }
 
-/// Whether the scanner is on the inner side of the facet p a b, by the sign of its displaced place. It is asked for where the scanner's
-/// point is in the facet's plane, which is seldom.
+/// Returns whether the scanner is on the inner side of the facet p a b, by the sign of its perturbed position. Called only if
+/// the scanner's point is in the facet's plane, which is rare.
 #[inline(never)]
 fn is_before_displaced(p: Point, a: Point, b: Point, s: Point) -> bool
     ensures { IsTrue result ↔ (pos 0 <ℤ side p a b (displaced s)) }
@@ -125,9 +126,8 @@ fn is_before_displaced(p: Point, a: Point, b: Point, s: Point) -> bool
     }
 }
 
-/// Which vertex of a front stays behind, by the signs of the scanner's displaced place. It is asked for where the scanner's point is in
-/// one of the three planes, which is seldom. So it takes numbers of vertices and reads the points itself: no step has to put them where
-/// it finds them.
+/// Returns which vertex of a front stays behind, by the signs of the scanner's perturbed position. Called only if the scanner's
+/// point is in one of the three planes, which is rare. So it takes vertex numbers and reads the points itself.
 #[inline(never)]
 fn behind_by_displacement(
     t: &Tetra,
@@ -151,9 +151,10 @@ fn behind_by_displacement(
     )
 }
 
-/// Which vertex of a front stays behind. The scanner is on the inner side of the facet of the sight's vertex, the cell's fourth one and
-/// one of the front where the latter is before the plane of the two others and the scanner's point, as the determinant of its image and
-/// the fourth vertex's tells. Only where one of these is zero the displacement decides: no other branch is taken by a sign.
+/// Returns which vertex of a front stays behind. The scanner is on the inner side of the facet of the sight's vertex, the
+/// cell's fourth one and one of the front if the latter is before the plane of the two others and the scanner's point; the sign
+/// of the determinant of its image and the fourth vertex's shows this. The perturbation decides only if one of these is zero:
+/// no other branch depends on a sign.
 #[inline(always)]
 fn behind_by_images(t: &Tetra, ray: &Ray, front: &Front, fourth: u32, image: Image) -> usize
     requires looked { IsLookedAlong t.now ray.now }
@@ -177,7 +178,7 @@ fn behind_by_images(t: &Tetra, ray: &Ray, front: &Front, fourth: u32, image: Ima
     left(is_positive(first), is_positive(second), is_positive(third))
 }
 
-/// Whether the scanner is behind the facet a b c.
+/// Returns whether the scanner is behind the facet a b c.
 fn is_behind(a: Point, b: Point, c: Point, s: Point) -> bool
     ensures { IsTrue result ↔ (side a b c (displaced s) <ℤ pos 0) }
 {
@@ -188,7 +189,7 @@ fn is_behind(a: Point, b: Point, c: Point, s: Point) -> bool
     }
 }
 
-/// Whether the scanner is beyond a side of a cell.
+/// Returns whether the scanner is beyond a side of a cell.
 fn is_beyond(t: &Tetra, v: [u32; 4], s: Point, side: usize) -> bool
     requires known { (k : ℕ) → k < 4 → slice_index v k < length t.now.points }
     requires side { side < 4 }
@@ -198,7 +199,7 @@ fn is_beyond(t: &Tetra, v: [u32; 4], s: Point, side: usize) -> bool
     is_behind(t.point(a), t.point(b), t.point(c), s)
 }
 
-/// How a sight can go out of a cell: by three signs, of which two decide, or by none in the cell at its vertex.
+/// Returns how a sight can leave a cell: by three signs (two of them decide), or by none in the cell at its vertex.
 #[inline(always)]
 fn ahead(t: &Tetra, ray: &Ray, reached: &Reached) -> WayOut
     requires walking { IsWalking t.now ray.now reached.now }
@@ -226,7 +227,7 @@ fn ahead(t: &Tetra, ray: &Ray, reached: &Reached) -> WayOut
     }
 }
 
-/// How a sight goes out of a cell. None exactly where the scanner is in the cell.
+/// Returns how a sight leaves a cell. Returns `None` exactly if the scanner is in the cell.
 #[tactic(auto, using(crate::proofs::Steps::known_at))]
 fn exit_side(t: &Tetra, ray: &Ray, reached: &Reached) -> Option<WayOut>
     requires walking { IsWalking t.now ray.now reached.now }
@@ -244,8 +245,8 @@ fn exit_side(t: &Tetra, ray: &Ray, reached: &Reached) -> Option<WayOut>
     }
 }
 
-/// How a walk goes out of the cell that it has reached. None exactly where that is the scanner's. Where the scanner's cell is known, it
-/// takes one sign less.
+/// Returns how a walk leaves the cell that it has reached. Returns `None` exactly if that is the scanner's. If the scanner's
+/// cell is known, this takes one sign less.
 #[inline(always)]
 pub(crate) fn exit(t: &Tetra, ray: &Ray, reached: &Reached, end: Option<CellId>) -> Option<WayOut>
     requires walking { IsWalking t.now ray.now reached.now }
@@ -267,7 +268,7 @@ pub(crate) fn exit(t: &Tetra, ray: &Ray, reached: &Reached, end: Option<CellId>)
     }
 }
 
-/// The image of a vertex.
+/// Returns the image of a vertex.
 #[inline(always)]
 fn vertex_seen(t: &Tetra, ray: &Ray, vertex: u32) -> Image
     requires known { vertex < length t.now.points }
@@ -277,7 +278,7 @@ fn vertex_seen(t: &Tetra, ray: &Ray, vertex: u32) -> Image
     seen_at(&ray.screen, ray.point, t.point(vertex))
 }
 
-/// The front of three vertices.
+/// Returns the front of three vertices.
 pub(crate) fn front_of(t: &Tetra, ray: &Ray, vertices: [u32; 3]) -> Front
     requires known { (j : ℕ) → j < 3 → slice_index vertices j < length t.now.points }
     requires looked { IsLookedAlong t.now ray.now }
@@ -295,7 +296,7 @@ pub(crate) fn front_of(t: &Tetra, ray: &Ray, vertices: [u32; 3]) -> Front
     }
 }
 
-/// The facet of a side of a cell in the other direction, as the cell across has it.
+/// Returns the facet of a side of a cell in the opposite direction, as the adjacent cell has it.
 fn turned_facet(v: [u32; 4], side: usize) -> [u32; 3]
     requires { side < 4 }
     ensures three { length result ≡ 3 }
@@ -306,8 +307,8 @@ fn turned_facet(v: [u32; 4], side: usize) -> [u32; 3]
     [a, c, b]
 }
 
-/// Takes a front to the facet through which a sight goes out, as the cell across has it: the vertex left behind gives its place to the
-/// one that the facet before did not have.
+/// Moves a front to the facet through which a sight leaves, as the adjacent cell has it: the vertex that the previous facet did
+/// not have replaces the one that stays behind.
 #[inline(always)]
 pub(crate) fn go_through(t: &Tetra, ray: &Ray, reached: &mut Reached, exit: WayOut)
     requires walking { IsWalking t.now ray.now reached.old }

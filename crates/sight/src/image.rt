@@ -1,9 +1,9 @@
-//! How points look along a line of sight: as places on a screen across it.
+//! How points look along a line of sight: as positions on a screen perpendicular to it.
 //!
-//! Let the screen be two vectors whose vector product is along the line of sight, and the image of a point its two scalar products with
-//! these, taken from the sight's point p. For points a and d, what a determinant of their images is has the sign of the orientation of
-//! p, d, the scanner and a: by an identity it is that times a number that is not below zero. So each sign of a step takes two products
-//! of images that are kept, and a point's image is made once.
+//! Let the screen be two vectors whose vector product is along the line of sight, and the image of a point its two scalar
+//! products with these, taken from the sight's point p. For points a and d, the determinant of their images has the sign of the
+//! orientation of p, d, the scanner and a: by an identity it is that orientation times a number that is not negative. So each
+//! sign of a step takes two products of kept images, and the image of each point is computed once.
 
 ghost use Rattle.std.specs.Prelude.{◌≡◌, ◌≤◌, ◌*◌, ◌^◌, pos, neg_ℤ, unsigned_abs, ◌-ℤ◌, ◌*ℤ◌};
 ghost use Rattle.geo_sign.specs.declared.point.TheConstants.{BOX_LIMIT};
@@ -12,7 +12,7 @@ ghost use Rattle.sight.specs.Images.{along, scaled, IsScreen, IsImage};
 
 use geo_sign::Point;
 
-/// A vector between two points, or across one.
+/// A vector between two points, or perpendicular to one.
 #[derive(Clone, Copy)]
 pub(crate) struct Direction {
     pub(crate) x: i64,
@@ -20,14 +20,14 @@ pub(crate) struct Direction {
     pub(crate) z: i64,
 }
 
-/// Two vectors across a line of sight.
+/// Two vectors perpendicular to a line of sight.
 #[derive(Clone, Copy)]
 pub(crate) struct Screen {
     pub(crate) right: Direction,
     pub(crate) up: Direction,
 }
 
-/// A sight as it is looked along: from the point of its vertex to the scanner's, with a screen across the way.
+/// A ray: from the point of the sight's vertex to the scanner's, with a screen perpendicular to it.
 #[derive(Clone, Copy)]
 pub(crate) struct Ray {
     pub(crate) vertex: u32,
@@ -36,14 +36,14 @@ pub(crate) struct Ray {
     pub(crate) screen: Screen,
 }
 
-/// Where a point is seen on a screen.
+/// The position of a point on a screen.
 #[derive(Clone, Copy)]
 pub(crate) struct Image {
     pub(crate) right: i64,
     pub(crate) up: i64,
 }
 
-/// The vector from p to x.
+/// Returns the vector from p to x.
 fn vector_to(p: Point, x: Point) -> Direction
     requires p_within { IsWithin BOX_LIMIT p }
     requires x_within { IsWithin BOX_LIMIT x }
@@ -57,7 +57,7 @@ fn vector_to(p: Point, x: Point) -> Direction
     }
 }
 
-/// A scalar product.
+/// Returns a scalar product.
 fn scalar(d: Direction, e: Direction) -> i64
     requires first { IsWithin (2 ^ 24) (along d) }
     requires second { IsWithin (2 ^ 24) (along e) }
@@ -67,7 +67,7 @@ fn scalar(d: Direction, e: Direction) -> i64
     d.x * e.x + d.y * e.y + d.z * e.z
 }
 
-/// The image of the point x, where the sight begins at p.
+/// Returns the image of the point xas seen from p.
 pub(crate) fn seen_at(screen: &Screen, p: Point, x: Point) -> Image
     requires p_within { IsWithin BOX_LIMIT p }
     requires x_within { IsWithin BOX_LIMIT x }
@@ -82,14 +82,15 @@ pub(crate) fn seen_at(screen: &Screen, p: Point, x: Point) -> Image
     }
 }
 
-/// The product of two numbers, without loss.
+/// Returns the product of two numbers, without overflow.
 fn widened_product(a: i64, b: i64) -> i128
     ensures { result ≡ a *ℤ b }
 {
     i128::from(a) * i128::from(b)
 }
 
-/// The determinant of two images: it is positive where the second is to the left of the first, as seen from the sight's point.
+/// Returns the determinant of two images: it is positive if the second is to the left of the first, as seen from the sight's
+/// point.
 pub(crate) fn determinant(d: Image, a: Image) -> i128
     requires d_right { unsigned_abs d.right ≤ 3 * 2 ^ 48 }
     requires d_up { unsigned_abs d.up ≤ 3 * 2 ^ 48 }
@@ -101,7 +102,7 @@ pub(crate) fn determinant(d: Image, a: Image) -> i128
     widened_product(a.right, d.up) - widened_product(d.right, a.up)
 }
 
-/// The vector product of the first axis with a vector, with the opposite sign.
+/// Returns the vector product of the first axis with a vector, with the opposite sign.
 fn beside_first(u: Direction) -> Direction
     requires { IsWithin (2 ^ 24) (along u) }
     ensures value { along result ≡ point (pos 0) u.z (neg_ℤ u.y) }
@@ -114,7 +115,7 @@ fn beside_first(u: Direction) -> Direction
     }
 }
 
-/// That of the second axis.
+/// Returns the same for the second axis.
 fn beside_second(u: Direction) -> Direction
     requires { IsWithin (2 ^ 24) (along u) }
     ensures value { along result ≡ point (neg_ℤ u.z) (pos 0) u.x }
@@ -127,7 +128,7 @@ fn beside_second(u: Direction) -> Direction
     }
 }
 
-/// That of the third axis.
+/// Returns the same for the third axis.
 fn beside_third(u: Direction) -> Direction
     requires { IsWithin (2 ^ 24) (along u) }
     ensures value { along result ≡ point u.y (neg_ℤ u.x) (pos 0) }
@@ -140,7 +141,7 @@ fn beside_third(u: Direction) -> Direction
     }
 }
 
-/// The screen of two vectors whose vector product is u times a number: exchanged where that is below zero.
+/// Returns the screen of two vectors whose vector product is u times a number: exchanged if that is negative.
 fn ordered(u: Direction, a: Direction, b: Direction, stretch: i64) -> Screen
     requires a_within { IsWithin (2 ^ 24) (along a) }
     requires b_within { IsWithin (2 ^ 24) (along b) }
@@ -155,7 +156,8 @@ fn ordered(u: Direction, a: Direction, b: Direction, stretch: i64) -> Screen
     }
 }
 
-/// The screen across a vector: of the two axes along which it is shorter, so that the two vectors are not along one another.
+/// Returns the screen perpendicular to a vector: from the two axes along which it is shorter, so that the two vectors are not
+/// parallel.
 fn across(u: Direction) -> Screen
     requires { IsWithin (2 ^ 24) (along u) }
     ensures { IsScreen result (along u) }
@@ -170,7 +172,7 @@ fn across(u: Direction) -> Screen
     ordered(u, beside_first(u), beside_second(u), u.z)
 }
 
-/// The screen of a sight from p to a scanner at s.
+/// Returns the screen of a sight from p to a scanner at s.
 pub(crate) fn screen_of(p: Point, s: Point) -> Screen
     requires p_within { IsWithin BOX_LIMIT p }
     requires s_within { IsWithin BOX_LIMIT s }

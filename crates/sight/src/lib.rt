@@ -1,11 +1,11 @@
-//! Walks along lines of sight through linked Delaunay cells: from the cell at a vertex that is towards a scanner, cell by cell, to the
-//! cell in which the displaced scanner lies.
+//! Traverses linked Delaunay cells along lines of sight: from the cell at a vertex that is towards a scanner, cell by cell, to
+//! the cell that contains the symbolically perturbed scanner.
 //!
-//! A scanner is displaced so that no line of sight meets an edge but at its vertex (`geo_sign`), so each cell on the way is left
-//! through the inside of one facet. The line comes in through a facet of the cell, and its two sides of the planes through the edges
-//! to the fourth vertex leave one facet through which it can go out, as in walks along a line by Devillers, Pion and Teillaud (2002).
-//! It goes out there if the scanner is beyond it, and else the scanner is in the cell. A step loads one cell and takes three signs,
-//! none of them twice, and two where the scanner's cell is known. No walk takes memory, and none refuses.
+//! A scanner is perturbed so that no line of sight meets an edge except at its vertex (`geo_sign`), so the line leaves each
+//! cell through the interior of one facet. The line enters a cell through a facet, and its sides of the planes through the
+//! edges to the fourth vertex determine the one facet through which it can leave, as in walks along a line by Devillers, Pion
+//! and Teillaud (2002). It leaves there if the scanner is beyond that facet; else the scanner is in the cell. A step loads one
+//! cell and computes three signs, or two if the scanner's cell is known. No walk allocates memory, and none fails.
 #![tactic(auto)]
 
 mod along;

@@ -1,8 +1,8 @@
 -- Labels of points.
 --
---   IsLabelOf v cells inside q label     the label of the one of these cells in which the displaced point lies
+--   IsLabelOf v cells inside q label     the label of the one of these cells that contains the perturbed point
 --   AreLabels scan settings points ..    the labels of points in the best surface of a scan
---   IsLabelAt s ids inside q label       the label of the one of these linked cells in which the displaced point lies
+--   IsLabelAt s ids inside q label       the label of the one of these linked cells that contains the perturbed point
 use Rattle.std.specs.Prelude.{ℕ, ◌≡◌, ◌<◌, Bool, true, List, length, slice_index, slice_index_or, Contains}
 use Rattle.flow_net.specs.Nets.{flag_at}
 use Rattle.flow_net.specs.declared.votes.Settings.{Settings}
@@ -21,8 +21,8 @@ use Rattle.visibility.specs.Complexes.{Complex}
 use Rattle.visibility.specs.Cuts.{IsLeastInside}
 use Rattle.visibility.specs.Votes.{IsComplexOf}
 
--- The point is displaced as a scanner is. It then lies strictly inside exactly one of the cells, on the inner side of each of its
--- facets, and has that cell's label.
+-- The point is perturbed as a scanner is. It then lies strictly inside exactly one of the cells, on the inner side of each of
+-- its facets, and has that cell's label.
 pub record IsLabelOf (v : Vertices) (cells : List (List ℕ)) (inside : List ℕ → Bool) (q : Point) (label : Bool) : Type 0 where
   pub cell : List ℕ
   pub listed : Contains cells cell
@@ -30,8 +30,8 @@ pub record IsLabelOf (v : Vertices) (cells : List (List ℕ)) (inside : List ℕ
   pub only : (other : List ℕ) → Contains cells other → is_cell_of v (displaced q) (written v other) ≡ true → other ≡ cell
   pub label_is : label ≡ inside cell
 
--- The labels of these points, one each: those of all Delaunay cells of the scan's distinct points and the box's corners, under the
--- labels of least cost whose inside is contained in that of all labels of that cost. True stands for inside.
+-- The labels of these points, one each: those of all Delaunay cells of the scan's distinct points and the box's corners, under
+-- the labels of least cost whose inside is contained in that of all labels of that cost. True means inside.
 pub record AreLabels (scan : Shown) (settings : Settings) (points : List Point) (labels : List Bool) : Type 0 where
   pub complex : Complex
   pub inside : List ℕ → Bool
@@ -41,7 +41,7 @@ pub record AreLabels (scan : Shown) (settings : Settings) (points : List Point) 
   pub each : (k : ℕ) → k < length points
       → IsLabelOf (boxed_vertices (points_of scan)) complex.cells inside (slice_index_or points k origin) (flag_at labels k)
 
--- the one of the cells with these numbers in which the displaced point lies has this label
+-- the one of the cells with these numbers that contains the perturbed point has this label
 pub record IsLabelAt (s : Store) (ids : List ℕ) (inside : List Bool) (q : Point) (label : Bool) : Type 0 where
   pub index : ℕ
   pub within : index < length ids

@@ -1,9 +1,9 @@
--- What holds of all labels of points.
+-- Properties of all labels of points.
 --
---   LabelsAreUnique     points have no two lists of labels
---   PointsHaveLabels    among labelled cells each data point has a label, and no two
---   HasPoint scan cells q    the displaced point lies in one of these cells
---   LabelsAreCertified  a point is inside exactly where an inside cell of the scan's certificate has it
+--   LabelsAreUnique     the list of labels of points is unique
+--   PointsHaveLabels    among labelled cells each data point has exactly one label
+--   HasPoint scan cells q    the perturbed point lies in one of these cells
+--   LabelsAreCertified  a point is inside exactly if an inside cell of the scan's certificate has it
 use Rattle.std.specs.Prelude.{ℕ, ◌≡◌, ◌<◌, ◌↔◌, Bool, true, List, length, slice_index_or}
 use Rattle.std.specs.List.{Any}
 use Rattle.cert_text.specs.Certificates.{Claim}
@@ -28,19 +28,19 @@ LabelsAreUnique =
     (scan : Shown) (settings : Settings) (points : List Point) (labels other : List Bool) → AreLabels scan settings points labels
     → AreLabels scan settings points other → labels ≡ other
 
--- also where the point is a vertex, or lies on a facet
+-- even if the point is a vertex, or lies on a facet
 abbrev pub PointsHaveLabels : Type 0
 PointsHaveLabels =
     (v : Vertices) (cells : List (List ℕ)) (inside : List ℕ → Bool) (q : Point) → IsBoxed v → IsCellList v cells
     → IsWithin DATA_LIMIT q
     → (label : Bool) × IsLabelOf v cells inside q label × ((other : Bool) → IsLabelOf v cells inside q other → other ≡ label)
 
--- the displaced point lies in one of these cells of the scan
+-- the perturbed point lies in one of these cells of the scan
 abbrev pub HasPoint : Shown → (cells : List (List ℕ)) → Point → Type 0
 HasPoint scan cells q =
     Any (λ row. is_cell_of (boxed_vertices (points_of scan)) (displaced q) (written (boxed_vertices (points_of scan)) row) ≡ true) cells
 
--- whichever flow the certificate states
+-- for any flow that the certificate states
 abbrev pub LabelsAreCertified : Type 0
 LabelsAreCertified =
     (scan : Shown) (settings : Settings) (mesh : Surface) (claim : Claim) (points : List Point) (labels : List Bool)

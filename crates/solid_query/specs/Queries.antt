@@ -1,12 +1,12 @@
 -- Points as a text of decimals.
 --
 --   tokens_of bytes          the runs of bytes other than white space
---   units_or_refusal n number   the number of units that token n is, or why it is none
+--   units_or_refusal n number   the number of units in token n, or its error
 --   token_coordinate unit n token  the same, of the token
---   point_or_refusal x y z   the point of three coordinates, or the first refusal among them
---   points_from unit n ..    the points of these tokens, the first of which is token n, or the first refusal among them
---   points_in bytes unit     the points that a text is, or why it is none
---   Gives                    what a call returned is what a definition says, unless memory ran out
+--   point_or_refusal x y z   the point of three coordinates, or the first error among them
+--   points_from unit n ..    the points of these tokens, counted from n, or the first error among them
+--   points_in bytes unit     the points in a text, or its error
+--   Gives                    the result of a call is that of a definition, unless memory ran out
 use Rattle.std.specs.Prelude.{ℕ, ℤ, ◌≡◌, ◌+◌, ◌%◌, ◌==◌, nat_lt, not, List, [], ◌∷◌, length, filter, Result, Ok, Err}
 use Rattle.std.specs.Prelude.{if◌then◌else◌}
 use Rattle.std.specs.List.{slice_split}
@@ -23,7 +23,7 @@ use Rattle.solid_query.specs.declared.refusal.QueryRefusal.TheVariants.{BadToken
 abbrev pub tokens_of : List ℕ → List (List ℕ)
 tokens_of bytes = filter (λ token. not (length token == 0)) (slice_split is_white_space bytes)
 
--- the number of units that token n is, or why it is none
+-- the number of units in token n, or its error
 abbrev pub units_or_refusal : ℕ → Result ℤ NumRefusal → Result ℤ QueryRefusal
 units_or_refusal n (Ok units) = Ok units
 units_or_refusal n (Err numbers.NotANumber) = Err (BadToken n)
@@ -33,14 +33,14 @@ units_or_refusal n (Err numbers.OutOfRange) = Err (OutOfRange n)
 abbrev pub token_coordinate : (unit n : ℕ) → List ℕ → Result ℤ QueryRefusal
 token_coordinate unit n token = units_or_refusal n (scaled_of token unit)
 
--- the point of three coordinates, or the first refusal among them
+-- the point of three coordinates, or the first error among them
 abbrev pub point_or_refusal : (x y z : Result ℤ QueryRefusal) → Result Point QueryRefusal
 point_or_refusal (Ok x) (Ok y) (Ok z) = Ok (point x y z)
 point_or_refusal (Ok x) (Ok y) (Err why) = Err why
 point_or_refusal (Ok x) (Err why) z = Err why
 point_or_refusal (Err why) y z = Err why
 
--- a point, and the points behind it, or the first refusal
+-- a point, and the points after it, or the first error
 abbrev pub before : Result Point QueryRefusal → Result (List Point) QueryRefusal → Result (List Point) QueryRefusal
 before (Ok p) (Ok points) = Ok (p ∷ points)
 before (Ok p) (Err why) = Err why
@@ -53,23 +53,23 @@ points_from unit n (x ∷ y ∷ z ∷ tokens) =
     (points_from unit (n + 3) tokens)
 points_from unit n tokens = Ok []
 
--- the points of so many tokens
+-- the points of this number of tokens
 abbrev pub points_among : (unit : ℕ) → List (List ℕ) → Result (List Point) QueryRefusal
 points_among unit tokens =
     if nat_lt TOKEN_LIMIT (length tokens) then Err (TooMany (length tokens))
     else (if length tokens % 3 == 0 then points_from unit 0 tokens
     else Err (Uneven (length tokens)))
 
--- the points that a text is, or why it is none
+-- the points in a text, or its error
 unfoldable pub points_in : List ℕ → (unit : ℕ) → Result (List Point) QueryRefusal
 points_in bytes unit = points_among unit (tokens_of bytes)
 
--- the refusal is what reading gives, unless memory ran out
+-- the error is that of the definition, unless memory ran out
 abbrev pub Fails : {Y : Type 0} → QueryRefusal → Result Y QueryRefusal → Type 0
 Fails NoMemory read = Unit {0}
 Fails why read = read ≡ Err why
 
--- what a call returned, seen by view, is what reading gives, unless memory ran out
+-- the result of a call, seen by view, is that of the definition, unless memory ran out
 abbrev pub Gives : {X Y : Type 0} → (X → Y) → Result X QueryRefusal → Result Y QueryRefusal → Type 0
 Gives view (Ok x) read = read ≡ Ok (view x)
 Gives view (Err why) read = Fails why read

@@ -1,8 +1,8 @@
 -- The linked cells of a scan, with labels by their numbers.
 --
 --   IsSolid scan settings s flags     the linked cells, and which are inside
---   IsFlaggedAs s flags q flag        the cell in which the displaced point lies has this flag
---   AreFlagged s flags points found   the same of points, one each
+--   IsFlaggedAs s flags q flag        the cell that contains the perturbed point has this flag
+--   AreFlagged s flags points found   the same for points, one each
 use Rattle.std.specs.Prelude.{ℕ, ◌≡◌, ◌<◌, ◌++◌, Bool, true, List, length, slice_index_or}
 use Rattle.flow_net.specs.Nets.{flag_at}
 use Rattle.flow_net.specs.declared.votes.Settings.{Settings}
@@ -20,7 +20,8 @@ use Rattle.visibility.specs.Cuts.{IsLeastInside}
 use Rattle.visibility.specs.Votes.{IsComplexOf}
 use Rattle.vote_net.specs.Counts.{AreCellsOf, row_of}
 
--- the Delaunay cells of the box's corners and the scan's distinct points, and of each by its number whether it is in the least inside
+-- the Delaunay cells of the box's corners and the scan's distinct points, and for each by its number whether it is in the
+-- minimum cut with the smallest inside
 pub record IsSolid (scan : Shown) (settings : Settings) (s : Store) (flags : List Bool) : Type 0 where
   pub points : s.points ≡ corners ++ points_of scan
   pub delaunay : IsDelaunay (vertices_of s) (links_of s.slots)
@@ -32,14 +33,14 @@ pub record IsSolid (scan : Shown) (settings : Settings) (s : Store) (flags : Lis
   pub fits : (id : ℕ) → IsLive (links_of s.slots) id → id < length flags
   pub flags_are : (id : ℕ) → IsLive (links_of s.slots) id → flag_at flags id ≡ inside (row_of s.slots id)
 
--- the live cell in which the displaced point lies has this flag
+-- the live cell that contains the perturbed point has this flag
 pub record IsFlaggedAs (s : Store) (flags : List Bool) (q : Point) (flag : Bool) : Type 0 where
   pub cell : ℕ
   pub live : IsLive (links_of s.slots) cell
   pub has : is_cell_of (vertices_of s) (displaced q) ((links_of s.slots).at cell) ≡ true
   pub flag_is : flag ≡ flag_at flags cell
 
--- the same of points, one each
+-- the same for points, one each
 pub record AreFlagged (s : Store) (flags : List Bool) (points : List Point) (found : List Bool) : Type 0 where
   pub count : length found ≡ length points
   pub each : (k : ℕ) → k < length points → IsFlaggedAs s flags (slice_index_or points k origin) (flag_at found k)

@@ -21,8 +21,8 @@ use tetra_store::Tetra;
 use tetra_walk::locate_displaced;
 use watch::{Silent, Stage, Watch, tell};
 
-/// The flags of the cells in which points lie, displaced. `flags` has one for each cell by its number in the store. Each walk
-/// begins in the cell that the one before it found. A watch is told of how many points.
+/// Returns the flags of the cells that contain the perturbed points. `flags` has one for each cell by its number in the store.
+/// Each walk begins in the cell that the previous one found. Reports the number of points to a progress callback.
 fn flags_at<W: Watch>(
     alloc: Global,
     t: &Tetra,
@@ -46,8 +46,8 @@ fn flags_at<W: Watch>(
     Ok(found)
 }
 
-/// The same, where the points are gone through along a space-filling curve, so that each is near the one before it wherever
-/// they stand in the list.
+/// Returns the same, but visits the points along a space-filling curve, so that each is near the one before it, whatever their
+/// order in the list.
 fn flags_along<W: Watch>(
     alloc: Global,
     t: &Tetra,
@@ -74,8 +74,8 @@ fn flags_along<W: Watch>(
     Ok(found)
 }
 
-/// Whether each of these data points is inside the best surface of a scan at these settings: true exactly where the cell in
-/// which the displaced point lies is in the least-inside labels of least cost. The only error is want of memory.
+/// Returns whether each of these data points is inside the best surface of a scan at these settings: true exactly if the cell
+/// that contains the perturbed point is in the minimum cut with the smallest inside. The only error is out of memory.
 pub fn ask(
     alloc: Global,
     scan: &Scan,
@@ -88,7 +88,7 @@ pub fn ask(
     ask_watched(alloc, scan, settings, queries, &mut Silent)
 }
 
-/// The same, where a watch is told of the stages of the work, and of how many of these points are found among the cells.
+/// Returns the same, and reports the stages of the work, and the number of located points, to a progress callback.
 pub fn ask_watched<W: Watch>(
     alloc: Global,
     scan: &Scan,

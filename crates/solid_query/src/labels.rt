@@ -14,7 +14,7 @@ use geo_sign::Point;
 use tetra_store::{CellId, Tetra};
 use tetra_walk::locate_scanner;
 
-/// Where a number stands in a list.
+/// Returns the index of a number in a list.
 fn index_of(ids: &[CellId], id: CellId) -> usize
     requires { Contains ids.now id }
     ensures within { result < length ids.now }
@@ -25,14 +25,14 @@ fn index_of(ids: &[CellId], id: CellId) -> usize
             return index;
         }
     }
-    // It stands in the list.
+    // It is in the list.
     unreachable!()
 }
 
-/// Whether a data point is inside, by the label of the cell in which the displaced point lies. The cells have to be Delaunay, `ids` all
-/// live cells, each once, with one label for each.
+/// Returns whether a data point is inside, by the label of the cell that contains the perturbed point. The cells have to be
+/// Delaunay, `ids` all live cells, each once, with one label for each.
 ///
-/// It takes no memory and does not refuse. It goes through `ids` once: for many points of a scan there is [`ask`](crate::ask).
+/// It allocates no memory and does not fail. It scans `ids` once: for many points of a scan use [`ask`](crate::ask).
 pub fn label_at(t: &Tetra, ids: &[CellId], labels: &Labels, q: Point) -> bool
     requires delaunay { IsDelaunay (vertices_of t.now) (links_of t.now.slots) }
     requires ids { AreAllLive t.now.slots ids.now }

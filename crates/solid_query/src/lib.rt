@@ -1,15 +1,15 @@
-//! Whether points are inside or outside the best surface of a scan.
+//! Classifies points as inside or outside the best surface of a scan.
 //!
-//! A point stands for a place displaced by less than 2^-63 units, as a scanner does, so that it lies strictly inside exactly one
-//! Delaunay cell, also where it is a vertex or lies on a facet. It is inside where that cell is in the least-inside labels of least
-//! cost.
+//! A point is perturbed by less than 2^-63 units, as a scanner is, so that it lies strictly inside exactly one Delaunay cell,
+//! even if it is a vertex or lies on a facet. It is inside if that cell is in the minimum cut with the smallest inside.
 //!
-//! `label_at` tells the label of one point among labelled cells, without taking memory. `read_queries` reads points from a text of
-//! decimals, and `ask` and `ask_watched` answer for a list of points and a scan. `labels` and `solid` hold what both stand on.
+//! `label_at` returns the label of one point among labelled cells, without allocating memory. `read_queries` reads points from
+//! a text of decimals, and `ask` and `ask_watched` classify a list of points in a scan. `labels` and `solid` have the common
+//! parts.
 //!
-//! No mesh is read: what is asked is the scan's best surface, and not a file that somebody made. The crate stands on `scan_cut` (the
-//! cells of a scan and their labels), `solution` (what the best surface is), `tetra_walk` (the cell of a point), `curve_order` (the order
-//! in which points are asked for) and `num_text` (decimals).
+//! No mesh is read: the answer is for the scan's best surface, not for a given mesh file. The crate depends on `scan_cut` (the
+//! cells of a scan and their labels), `solution` (the best surface), `tetra_walk` (the cell of a point), `curve_order` (the
+//! order in which points are visited) and `num_text` (decimals).
 #![tactic(auto)]
 
 mod asking;
@@ -26,5 +26,5 @@ pub use queries::{TOKEN_LIMIT, read_queries};
 pub use refusal::QueryRefusal;
 use std::alloc::AllocError;
 
-/// Want of memory: the one answer that any input may get.
+/// Out of memory: the one error that any input may cause.
 pub type NoMemory = AllocError;

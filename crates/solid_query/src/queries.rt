@@ -1,4 +1,4 @@
-//! Points from a text of decimals. It stands on `num_text`, which reads a decimal in units.
+//! Reads points from a text of decimals. Depends on `num_text`, which reads a decimal in scaled units.
 
 ghost use Rattle.std.specs.Prelude.{◌≡◌, ◌≤◌, ◌<◌, ◌+◌, ◌*◌, ◌%◌, ◌^◌, IfOk, All, length, map, [], unsigned_abs};
 ghost use Rattle.geo_sign.specs.declared.point.TheConstants.{DATA_LIMIT};
@@ -13,17 +13,17 @@ use geo_sign::Point;
 use num_text::{NumRefusal, scaled};
 use std::alloc::Global;
 
-/// How many tokens a text of points may have: three for each of 1,048,576 points.
+/// The maximal number of tokens in a text of points: three for each of 1,048,576 points.
 pub const TOKEN_LIMIT: u32 = 3_145_728;
 
-/// Whether a byte is space, tab, CR or LF.
+/// Returns whether a byte is space, tab, CR or LF.
 fn is_white_space(byte: u8) -> bool
     ensures { result ≡ is_white_space_in byte }
 {
     byte == b' ' || byte == b'\t' || byte == b'\r' || byte == b'\n'
 }
 
-/// How many tokens a text has.
+/// Returns the number of tokens of a text.
 fn token_count(bytes: &[u8]) -> usize
     ensures { result ≡ length (tokens_in bytes.now) }
 {
@@ -33,7 +33,7 @@ fn token_count(bytes: &[u8]) -> usize
         .count()
 }
 
-/// The tokens of a text.
+/// Returns the tokens of a text.
 fn tokens_of<'a>(alloc: Global, bytes: &'a [u8]) -> Result<Vec<&'a [u8]>, NoMemory>
     ensures { IfOk result (λ tokens. map (λ token. token.now) tokens.items ≡ tokens_in bytes.now) }
 {
@@ -43,7 +43,7 @@ fn tokens_of<'a>(alloc: Global, bytes: &'a [u8]) -> Result<Vec<&'a [u8]>, NoMemo
         .collect(alloc)
 }
 
-/// The number of units that a token with this number is, or why it is none.
+/// Returns the number of units in the token with this number, or its error.
 fn told(number: u32, units: Result<i64, NumRefusal>) -> Result<i64, QueryRefusal>
     ensures { result ≡ units_or_refusal number units }
 {
@@ -55,7 +55,7 @@ fn told(number: u32, units: Result<i64, NumRefusal>) -> Result<i64, QueryRefusal
     }
 }
 
-/// The coordinate that the token with this number is.
+/// Returns the coordinate in the token with this number.
 fn coordinate(unit: u32, number: u32, token: &[u8]) -> Result<i64, QueryRefusal>
     requires at_least_one { 1 ≤ unit }
     requires at_most_a_million { unit ≤ UNIT_LIMIT }
@@ -65,7 +65,7 @@ fn coordinate(unit: u32, number: u32, token: &[u8]) -> Result<i64, QueryRefusal>
     told(number, scaled(token, unit))
 }
 
-/// The point of three tokens, the first of which has this number.
+/// Returns the point of three tokens, the first with this number.
 fn point_at(unit: u32, number: u32, x: &[u8], y: &[u8], z: &[u8]) -> Result<Point, QueryRefusal>
     requires at_least_one { 1 ≤ unit }
     requires at_most_a_million { unit ≤ UNIT_LIMIT }
@@ -83,7 +83,7 @@ fn point_at(unit: u32, number: u32, x: &[u8], y: &[u8], z: &[u8]) -> Result<Poin
     }
 }
 
-/// The points of tokens, three a point.
+/// Returns the points of tokens, three a point.
 fn points_of(alloc: Global, unit: u32, tokens: &[&[u8]]) -> Result<Vec<Point>, QueryRefusal>
     requires at_least_one { 1 ≤ unit }
     requires at_most_a_million { unit ≤ UNIT_LIMIT }
@@ -101,10 +101,11 @@ fn points_of(alloc: Global, unit: u32, tokens: &[&[u8]]) -> Result<Vec<Point>, Q
     Ok(points)
 }
 
-/// The points that a text of decimals is, in units: tokens between white space (space, tab, CR and LF), three for each point.
+/// Reads points from a text of decimals, in scaled units: tokens between white space (space, tab, CR and LF), three for each
+/// point.
 ///
-/// Refused are, in this order, more tokens than [`TOKEN_LIMIT`], a number of tokens that is no multiple of three, and the first token
-/// that is no number of units within the limit of a scan's coordinates.
+/// Rejects, in this order, more tokens than [`TOKEN_LIMIT`], a number of tokens that is no multiple of three, and the first
+/// token that is not a number of scaled units within the limit of a scan's coordinates.
 #[tactic(auto, unfolding(crate::specs::Queries::points_in))]
 pub fn read_queries(alloc: Global, bytes: &[u8], unit: u32) -> Result<Vec<Point>, QueryRefusal>
     requires at_least_one { 1 ≤ unit }

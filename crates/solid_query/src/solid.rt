@@ -1,4 +1,4 @@
-//! The linked cells of a scan, and which of them are inside by the least-inside labels of least cost.
+//! The linked cells of a scan, and which of them are inside by the minimum cut with the smallest inside.
 
 ghost use Rattle.std.specs.Prelude.{IfOk};
 ghost use Rattle.scan.specs.Views.{shown_of};
@@ -21,8 +21,8 @@ pub(crate) struct Solid {
     pub(crate) labels: Labels,
 }
 
-/// The linked cells of a scan, and which of them are inside by the least-inside labels of least cost at these settings. A watch is told
-/// of the stages.
+/// Returns the linked cells of a scan, and which of them are inside by the minimum cut with the smallest inside at these
+/// settings. Reports the stages to a progress callback.
 pub(crate) fn solid_of<W: Watch>(
     alloc: Global,
     scan: &Scan,

@@ -1,4 +1,4 @@
--- The faces that go through the height, by the edges on which they do.
+-- The faces that cross the height, by the edges that cross it.
 --
 --   goes_up points h u v         whether u is below the height and v above
 --   key_of_crossing c            the number of a crossing's edge
@@ -33,11 +33,11 @@ crossings_at (Some edge) f = record { edge = edge; face = f } ∷ []
 abbrev pub faces_of_pair : ℕ → List Crossing → List ℕ
 faces_of_pair k crossings = map the_crossed (filter (λ c. key_of_crossing c == k) crossings)
 
--- face f goes up through the height on the edge from u to v
+-- face f crosses the height upwards on the edge from u to v
 abbrev pub is_upward : List Point → List (List ℕ) → ℤ → (u v f : ℕ) → Bool
 is_upward points faces h u v f = goes_up points h u v && has_edge u v (face_at faces f)
 
--- it goes down through the height on the same edge, which it has from v to u
+-- it crosses the height downwards on the same edge, which it has from v to u
 abbrev pub is_downward : List Point → List (List ℕ) → ℤ → (u v f : ℕ) → Bool
 is_downward points faces h u v f = goes_up points h u v && has_edge v u (face_at faces f)
 

@@ -3,10 +3,10 @@
 --   is_above points h v           whether vertex v is above the height
 --   is_cut_face points h face     whether the face has vertices above and below
 --   is_cut_at points faces h f    whether face number f is cut
---   IsUpEdge points h face u v    the edge from u to v is one of the face's, and goes up through the height
---   IsDownEdge points h face u v  it is one of the face's, and goes down through it
+--   IsUpEdge points h face u v    the edge from u to v is one of the face's, and crosses the height upwards
+--   IsDownEdge points h face u v  it is one of the face's, and crosses the height downwards
 --   rise u v, climb h u           twice the heights from u to v, and from u to h + 1/2
---   at_height h u v from to       the coordinate where the edge from u to v has the height, times its rise
+--   at_height h u v from to       the coordinate where the edge from u to v crosses the height, times its rise
 --   IsStep points faces h s       the step's point is that of its face: the one on the face's up edge
 use Rattle.std.specs.Prelude.{ℕ, ◌≡◌, ◌&&◌, not, Bool, true, false, List, ℤ, pos, ◌+ℤ◌, ◌-ℤ◌, ◌*ℤ◌}
 use Rattle.std.specs.Int.Signed.{lt_z}
@@ -48,11 +48,11 @@ rise u v = pos 2 *ℤ (v.z -ℤ u.z)
 abbrev pub climb : ℤ → Point → ℤ
 climb h u = (pos 2 *ℤ h +ℤ pos 1) -ℤ pos 2 *ℤ u.z
 
--- the coordinate at the height, where the edge from u to v goes from one coordinate to another: times the edge's rise
+-- the coordinate where the edge from u to v, whose coordinates are given, crosses the height, times the edge's rise
 abbrev pub at_height : ℤ → (u v : Point) → (from to : ℤ) → ℤ
 at_height h u v from to = from *ℤ rise u v +ℤ (to -ℤ from) *ℤ climb h u
 
--- the step's point is where its face's up edge has the height
+-- the step's point is where its face's up edge crosses the height
 pub record IsStep (points : List Point) (faces : List (List ℕ)) (h : ℤ) (s : Step) : Type 0 where
   pub lower : ℕ
   pub upper : ℕ

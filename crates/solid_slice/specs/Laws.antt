@@ -1,10 +1,10 @@
--- What holds of all slices.
+-- Properties of all slices.
 --
 --   SliceIsOne              a mesh has one slice at a height
---   RefusalIsOne            a mesh has one refusal, but for want of memory
---   LacksMemoryAlone faces  nothing but want of memory refuses these faces
---   BalancedIsSliced        so it is where each directed edge occurs as often as its reverse
---   ClosedIsSliced          nothing but want of memory refuses a closed mesh
+--   RefusalIsOne            a mesh has one error, except out of memory
+--   LacksMemoryAlone faces  only out of memory rejects these faces
+--   BalancedIsSliced        this holds if each directed edge occurs as often as its reverse
+--   ClosedIsSliced          only out of memory rejects a closed mesh
 use Rattle.std.specs.Prelude.{ℕ, ℤ, ◌≡◌, ◌≢◌, List, map}
 use Rattle.geo_sign.specs.Point.{Point}
 use Rattle.geo_sign.specs.Tetrahedron.{facet_at}
@@ -23,23 +23,23 @@ SliceIsOne =
     (points : List Point) (faces : List (List ℕ)) (h : ℤ) (rings others : List (List Step)) → IsSlice points faces h rings
     → IsSlice points faces h others → rings ≡ others
 
--- a mesh has one refusal, but for want of memory
+-- a mesh has one error, except out of memory
 abbrev pub RefusalIsOne : Type 0
 RefusalIsOne =
     (faces : List (List ℕ)) (refusal other : SliceRefusal) → IsRefusedSlice faces refusal → IsRefusedSlice faces other
     → refusal ≢ NoMemory
     → other ≢ NoMemory → refusal ≡ other
 
--- nothing but want of memory refuses these faces
+-- only out of memory rejects these faces
 abbrev pub LacksMemoryAlone : List (List ℕ) → Type 0
 LacksMemoryAlone faces = (refusal : SliceRefusal) → IsRefusedSlice faces refusal → refusal ≡ NoMemory
 
--- each directed edge occurs as often as its reverse, so no pair is told whose two counts differ
+-- each directed edge occurs as often as its reverse, so no pair with different counts is reported
 abbrev pub BalancedIsSliced : Type 0
 BalancedIsSliced = (faces : List (List ℕ)) → IsBalanced faces → LacksMemoryAlone faces
 
--- each directed edge is met by its reverse equally often, where all edges of all faces are counted: no face of a mesh has one
--- edge twice, so its edges are balanced
+-- each directed edge occurs as often as its reverse, counting all edges of all faces: no face of a mesh has one edge twice, so
+-- its edges are balanced
 abbrev pub ClosedIsSliced : Type 0
 ClosedIsSliced =
     (points : List Point) (faces : List (List ℕ)) → IsMesh points faces

@@ -4,7 +4,7 @@
 --   IsLoop points faces h ring    the ring's faces, each the next of the one before, round the ring, the smallest first
 --   the_face s, ring_faces r      the faces of a ring's steps
 --   AreLoops points faces h rings
---                                 each cut face in exactly one ring, once, and the rings by rising first faces
+--                                 each cut face in exactly one ring, once, and the rings sorted by their first faces
 use Rattle.std.specs.Prelude.{ℕ, ◌≡◌, ◌+◌, ◌-◌, ◌<◌, ◌≤◌, ◌==◌, List, [], length, take, slice_index, slice_index_or, map, All}
 use Rattle.std.specs.Prelude.{count_by, if◌then◌else◌, ℤ}
 use Rattle.std.specs.List.{concat}
@@ -14,8 +14,8 @@ use Rattle.solid_slice.specs.Cuts.{is_cut_at, IsUpEdge, IsDownEdge}
 use Rattle.solid_slice.specs.declared.step.Step.{Step}
 use Rattle.solid_slice.specs.declared.step.Ring.{Ring}
 
--- The up edge of g is the reverse of the down edge of f, and as many faces before f have this down edge as faces before g
--- have the up edge: where f is the i-th of its down edge, g is the i-th of its up edge.
+-- The up edge of g is the reverse of the down edge of f, and as many faces before f have this down edge as faces before g have
+-- the up edge: if f is the i-th of its down edge, g is the i-th of its up edge.
 pub record IsNext (points : List Point) (faces : List (List ℕ)) (h : ℤ) (f g : ℕ) : Type 0 where
   pub upper : ℕ
   pub lower : ℕ
@@ -36,7 +36,7 @@ the_face s = s.face
 abbrev pub ring_faces : Ring → List ℕ
 ring_faces r = map the_face r.steps.items
 
--- each ring is a loop, each cut face stands in the rings once and no other face at all, and first faces rise
+-- each ring is a loop, each cut face occurs in the rings once and no other face at all, and the first faces ascend
 pub record AreLoops (points : List Point) (faces : List (List ℕ)) (h : ℤ) (rings : List (List ℕ)) : Type 0 where
   pub each : All (IsLoop points faces h) rings
   pub once : (f : ℕ) → count_by (λ g. g == f) (concat rings) ≡ (if is_cut_at points faces h f then 1 else 0)

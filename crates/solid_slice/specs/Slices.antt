@@ -1,4 +1,4 @@
--- What a slice is.
+-- The slice of a mesh.
 --
 --   steps_of ring                 a ring's steps
 --   IsSlice points faces h rings  the loops of all cut faces, each face with its point

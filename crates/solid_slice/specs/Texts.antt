@@ -1,6 +1,6 @@
 -- The text of a slice, each line ended by a line feed.
 --
---   loops_word, loop_word   how the lines with the counts begin
+--   loops_word, loop_word   the first words of the lines with the counts
 --   numbers_line face x y d, step_line s   `A X Y D`: a step's face, its point's x and y times d, and d
 --   ring_text steps         `loop N`, and a line for each of the N steps
 --   slice_text rings        `loops L`, and the L loops

@@ -1,4 +1,4 @@
-//! The faces that go through the height, listed by the edges on which they do.
+//! The faces that cross the height, listed by the edges that cross it.
 
 ghost use Rattle.std.specs.Prelude.{◌≡◌, ◌++◌, ℕ, OnOk, IfOk, length, map};
 ghost use Rattle.std.specs.List.Sorted.{IsNonDecreasingBy};
@@ -11,7 +11,7 @@ use crate::{Mesh, NoMemory};
 use mesh_edges::Pair;
 use std::alloc::Global;
 
-/// A face, and the edge on which it goes through the height, its lower vertex first.
+/// A face, and an edge of it that crosses the height, its lower vertex first.
 #[derive(Clone, Copy)]
 pub(crate) struct Crossing {
     pub(crate) edge: Pair,
@@ -25,7 +25,7 @@ pub(crate) struct Crossings {
     pub(crate) downs: Vec<Crossing>,
 }
 
-/// A face's crossing more, if it has one.
+/// Appends a face's crossing, if it has one.
 fn push_crossing(list: &mut Vec<Crossing>, edge: Option<Pair>, face: u32) -> Result<(), NoMemory>
     ensures { OnOk result (list.new.items ≡ list.old.items ++ crossings_at edge face) }
 {
@@ -35,7 +35,7 @@ fn push_crossing(list: &mut Vec<Crossing>, edge: Option<Pair>, face: u32) -> Res
     Ok(())
 }
 
-/// The crossings, in face order.
+/// Returns the crossings, in face order.
 fn crossings_of(alloc: Global, mesh: &Mesh, height: i32) -> Result<Crossings, NoMemory>
     requires { IsMesh mesh.now.points.items mesh.now.faces.items }
     ensures { IfOk result (λ c. AreCrossings mesh.now.points.items mesh.now.faces.items height (length mesh.now.faces.items) c.ups.items c.downs.items) }
@@ -51,7 +51,7 @@ fn crossings_of(alloc: Global, mesh: &Mesh, height: i32) -> Result<Crossings, No
     Ok(Crossings { ups, downs })
 }
 
-/// Puts crossings in the order of their edges, those of one edge in face order.
+/// Sorts crossings by their edges, those of one edge in face order.
 fn sort_crossings(list: &mut Vec<Crossing>) -> Result<(), NoMemory>
     ensures sorted { OnOk result (IsNonDecreasingBy key_of_crossing list.new.items) }
     ensures stable { OnOk result ((k : ℕ) → faces_of_pair k list.new.items ≡ faces_of_pair k list.old.items) }
@@ -60,8 +60,8 @@ fn sort_crossings(list: &mut Vec<Crossing>) -> Result<(), NoMemory>
     Ok(())
 }
 
-/// The crossings of a balanced mesh, so that at each position of the two lists stands the same edge: of a face's up edge and
-/// of the down edge of a face whose next face it is.
+/// Returns the crossings of a balanced mesh, sorted so that the two lists have the same edge at each index: that of a face's up
+/// edge and of the down edge of the face that it follows.
 pub(crate) fn matched_crossings(
     alloc: Global,
     mesh: &Mesh,

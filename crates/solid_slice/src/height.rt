@@ -1,4 +1,4 @@
-//! Which vertices are above the height, and the edges of a face that go through it.
+//! Which vertices are above the height, and the edges of a face that cross it.
 
 ghost use Rattle.std.specs.Prelude.{◌≡◌, ◌+◌, ◌<◌, ◌≤◌, ◌^◌, IfSome, IfNone, true, false, length, unsigned_abs, ◌+ℤ◌, ◌-ℤ◌, ◌*ℤ◌};
 ghost use Rattle.mesh_ply.specs.Meshes.{IsFace, IsMesh, point_at};
@@ -9,7 +9,7 @@ use crate::step::Step;
 use geo_sign::Point;
 use mesh_edges::Pair;
 
-/// Whether a vertex is above `height + 1/2`.
+/// Returns whether a vertex is above `height + 1/2`.
 fn is_vertex_above(points: &[Point], height: i32, vertex: u32) -> bool
     requires { vertex < length points.now }
     ensures { result ≡ is_above points.now height vertex }
@@ -17,7 +17,7 @@ fn is_vertex_above(points: &[Point], height: i32, vertex: u32) -> bool
     points[vertex as usize].z() > height
 }
 
-/// The edge of a face that goes up through the height, if the face is cut.
+/// Returns the edge of a face that crosses the height upwards, if the face is cut.
 pub(crate) fn up_edge(points: &[Point], height: i32, face: [u32; 3]) -> Option<Pair>
     requires { IsFace (length points.now) face }
     ensures some { IfSome result (λ e. IsUpEdge points.now height face e.first e.second) }
@@ -48,8 +48,8 @@ pub(crate) fn up_edge(points: &[Point], height: i32, face: [u32; 3]) -> Option<P
     None
 }
 
-/// The edge of a face that goes down through the height, its lower vertex first, if the face is cut. In the face turned
-/// round it goes up.
+/// Returns the edge of a face that crosses the height downwards, its lower vertex first, if the face is cut. In the reversed
+/// face it goes up.
 pub(crate) fn down_edge(points: &[Point], height: i32, face: [u32; 3]) -> Option<Pair>
     requires { IsFace (length points.now) face }
     ensures some { IfSome result (λ e. IsDownEdge points.now height face e.second e.first) }
@@ -59,7 +59,7 @@ pub(crate) fn down_edge(points: &[Point], height: i32, face: [u32; 3]) -> Option
     up_edge(points, height, [a, c, b])
 }
 
-/// Whether a face has vertices above and below.
+/// Returns whether a face has vertices above and below.
 pub(crate) fn is_face_cut(points: &[Point], height: i32, face: [u32; 3]) -> bool
     requires { IsFace (length points.now) face }
     ensures { result ≡ is_cut_face points.now height face }
@@ -71,8 +71,8 @@ pub(crate) fn is_face_cut(points: &[Point], height: i32, face: [u32; 3]) -> bool
     (over_a || over_b || over_c) && (!over_a || !over_b || !over_c)
 }
 
-/// The coordinate where an edge has the height, times its rise `d`: twice the height from its lower end to its upper one,
-/// and `climb` that to the plane.
+/// Returns the coordinate where an edge crosses the height, times its rise `d`: twice the height from its lower end to its
+/// upper one; `climb` is twice the height to the plane.
 fn along_edge(from: i64, to: i64, d: i64, climb: i64) -> i64
     requires from_within { unsigned_abs from ≤ 2 ^ 23 }
     requires to_within { unsigned_abs to ≤ 2 ^ 23 }
@@ -83,7 +83,7 @@ fn along_edge(from: i64, to: i64, d: i64, climb: i64) -> i64
     from * d + (to - from) * climb
 }
 
-/// The step of a face with this up edge: the point where the edge has the height.
+/// Returns the step of a face with this up edge: the point where the edge crosses the height.
 fn step_on(points: &[Point], height: i32, edge: Pair, face: u32) -> Step
     requires lower { edge.first < length points.now }
     requires upper { edge.second < length points.now }
@@ -106,7 +106,7 @@ fn step_on(points: &[Point], height: i32, edge: Pair, face: u32) -> Step
     Step { face, x, y, d }
 }
 
-/// The step of a cut face: the point on its up edge.
+/// Returns the step of a cut face: the point on its up edge.
 pub(crate) fn step_of(mesh: &Mesh, height: i32, face: u32) -> Step
     requires valid { IsMesh mesh.now.points.items mesh.now.faces.items }
     requires cut { is_cut_at mesh.now.points.items mesh.now.faces.items height face ≡ true }

@@ -9,8 +9,9 @@ use thiserror::Error;
 /// Why a mesh has no slice.
 #[derive(Clone, Copy, Debug, PartialEq, Eq, Drop, Error)]
 pub enum SliceRefusal {
-    /// Some directed edge occurs another number of times than its reverse. The smallest pair of vertices whose two counts
-    /// differ, so `from` is below `to`: how many faces have the edge from `from` to `to`, and how many that back.
+    /// Some directed edge does not occur as often as its reverse. Of the pairs of vertices whose two counts differ this is the
+    /// smallest, so `from` is below `to`: with the number of faces that have the edge from `from` to `to`, and of those that
+    /// have its reverse.
     #[error("the edge from {from} to {to} occurs {there} times, and {back} times back")]
     Unbalanced {
         from: u32,
@@ -18,7 +19,7 @@ pub enum SliceRefusal {
         there: u32,
         back: u32,
     },
-    /// Want of memory.
+    /// Out of memory.
     #[error("out of memory")]
     NoMemory,
 }

@@ -1,4 +1,4 @@
-//! Loops, by following next faces.
+//! Computes loops by following next faces.
 
 ghost use Rattle.std.specs.Prelude.{◌≡◌, ◌+◌, ◌<◌, ◌==◌, ℕ, true, false, not, IfOk, All, map, count_by, slice_index};
 ghost use Rattle.mesh_ply.specs.Meshes.{IsMesh};
@@ -11,7 +11,7 @@ use crate::step::{Ring, Step};
 use crate::{Mesh, NoMemory};
 use std::alloc::Global;
 
-/// The loop through a cut face that was not visited, from it on. Its faces are visited then.
+/// Returns the loop through a cut face that was not visited, starting there, and marks its faces as visited.
 fn follow(
     alloc: Global,
     mesh: &Mesh,
@@ -43,7 +43,7 @@ fn follow(
     }
 }
 
-/// A list of the faces that are not cut.
+/// Returns a list of the faces that are not cut.
 fn uncut_faces(alloc: Global, mesh: &Mesh, height: i32) -> Result<Vec<bool>, NoMemory>
     requires { IsMesh mesh.now.points.items mesh.now.faces.items }
     ensures { IfOk result (λ uncut. uncut.items ≡ map (λ face. not (is_cut_face mesh.now.points.items height face)) mesh.now.faces.items) }
@@ -55,7 +55,7 @@ fn uncut_faces(alloc: Global, mesh: &Mesh, height: i32) -> Result<Vec<bool>, NoM
     Ok(uncut)
 }
 
-/// The loops of all cut faces, where the faces that are not cut are marked as visited.
+/// Returns the loops of all cut faces; faces that are not cut are marked as visited.
 fn loops_of(
     alloc: Global,
     mesh: &Mesh,
@@ -79,7 +79,7 @@ fn loops_of(
     Ok(rings)
 }
 
-/// The loops of all cut faces.
+/// Returns the loops of all cut faces.
 pub(crate) fn rings_of(
     alloc: Global,
     mesh: &Mesh,

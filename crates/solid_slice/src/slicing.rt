@@ -14,7 +14,7 @@ use crate::{Mesh, SliceRefusal};
 use mesh_edges::first_unbalanced;
 use std::alloc::Global;
 
-/// Refuses a mesh in which some directed edge occurs another number of times than its reverse.
+/// Rejects a mesh in which some directed edge does not occur as often as its reverse.
 fn check_balance(alloc: Global, mesh: &Mesh) -> Result<(), SliceRefusal>
     requires { IsMesh mesh.now.points.items mesh.now.faces.items }
     ensures balanced { IfOk result (λ _. IsBalanced mesh.now.faces.items) }
@@ -31,14 +31,14 @@ fn check_balance(alloc: Global, mesh: &Mesh) -> Result<(), SliceRefusal>
     }
 }
 
-/// The loops in which the plane at `height + 1/2` cuts a valid mesh.
+/// Returns the loops in which the plane at `height + 1/2` cuts a valid mesh.
 ///
-/// Each cut face stands in one ring, once, with the point on its up edge. Round a ring each face is followed by its next
-/// face: with the down edge from u to v, and being the i-th in face order of the faces that have it, by the i-th of those
-/// with the edge from v to u. A ring begins with its smallest face, and the rings stand by rising first faces.
+/// Each cut face occurs in one ring, once, with the point on its up edge. In a ring each face is followed by its next face: if
+/// it is the i-th in face order of the faces with the down edge from u to v, by the i-th of those with the up edge from v to u.
+/// A ring begins with its smallest face, and the rings are sorted by their first faces.
 ///
-/// `Unbalanced` exactly where some directed edge occurs another number of times than its reverse: then no loops need close.
-/// `NoMemory` says nothing of the mesh.
+/// Returns `Unbalanced` exactly if some directed edge does not occur as often as its reverse: then loops need not close.
+/// `NoMemory` says nothing about the mesh.
 pub fn slice(alloc: Global, mesh: &Mesh, height: i32) -> Result<Vec<Ring>, SliceRefusal>
     requires { IsMesh mesh.now.points.items mesh.now.faces.items }
     ensures balanced { IfOk result (λ _. IsBalanced mesh.now.faces.items) }

@@ -1,6 +1,6 @@
 //! The steps of a loop.
 
-/// One step of a loop: a face, and the point on its up edge, `(x/d, y/d)` in scaled whole units.
+/// A step of a loop: a face, and the point on its up edge, `(x/d, y/d)` in scaled units.
 #[derive(Clone, Copy, Debug, PartialEq, Eq)]
 pub struct Step {
     /// The face's number.

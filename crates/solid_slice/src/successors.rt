@@ -9,8 +9,8 @@ use crate::crossings::Crossings;
 use crate::{Mesh, NoMemory};
 use std::alloc::Global;
 
-/// A list with the next face of each cut face. At each position of the two lists of crossings stands one edge, and the face
-/// that goes up on it is the next of the one that goes down.
+/// Returns a list with the next face of each cut face. At each index the two lists of crossings have the same edge, and the
+/// face that goes up on it is the next of the one that goes down.
 pub(crate) fn successors(
     alloc: Global,
     mesh: &Mesh,

@@ -1,4 +1,4 @@
-//! The text of a slice. It stands on `line_text`.
+//! The text of a slice. Depends on `line_text`.
 
 ghost use Rattle.std.specs.Prelude.{◌≡◌, ◌++◌, OnOk, OnErr, length, take, map};
 ghost use Rattle.std.specs.List.{flat_map};
@@ -23,7 +23,7 @@ fn one_loop() -> &'static [u8]
     b"loop "
 }
 
-/// The line of a step with these numbers.
+/// Appends the line of a step with these numbers.
 fn push_numbers(out: &mut Vec<u8>, face: u32, x: i64, y: i64, d: i64) -> Result<(), NoMemory>
     ensures ok { OnOk result (out.new.items ≡ out.old.items ++ numbers_line face x y d) }
     ensures kept { OnErr result (take (length out.old.items) out.new.items ≡ out.old.items) }
@@ -35,7 +35,7 @@ fn push_numbers(out: &mut Vec<u8>, face: u32, x: i64, y: i64, d: i64) -> Result<
     Ok(())
 }
 
-/// The line of a step.
+/// Appends the line of a step.
 fn push_step(out: &mut Vec<u8>, step: Step) -> Result<(), NoMemory>
     ensures ok { OnOk result (out.new.items ≡ out.old.items ++ step_line step) }
     ensures kept { OnErr result (take (length out.old.items) out.new.items ≡ out.old.items) }
@@ -43,7 +43,7 @@ fn push_step(out: &mut Vec<u8>, step: Step) -> Result<(), NoMemory>
     push_numbers(out, step.face, step.x, step.y, step.d)
 }
 
-/// The lines of steps, in order.
+/// Appends the lines of steps, in order.
 fn push_steps(out: &mut Vec<u8>, steps: &[Step]) -> Result<(), NoMemory>
     ensures ok { OnOk result (out.new.items ≡ out.old.items ++ flat_map step_line steps.now) }
     ensures kept { OnErr result (take (length out.old.items) out.new.items ≡ out.old.items) }
@@ -54,7 +54,7 @@ fn push_steps(out: &mut Vec<u8>, steps: &[Step]) -> Result<(), NoMemory>
     Ok(())
 }
 
-/// The number of steps of a loop, and their lines.
+/// Appends the number of steps of a loop, and their lines.
 fn push_ring(out: &mut Vec<u8>, steps: &[Step]) -> Result<(), NoMemory>
     ensures ok { OnOk result (out.new.items ≡ out.old.items ++ ring_text steps.now) }
     ensures kept { OnErr result (take (length out.old.items) out.new.items ≡ out.old.items) }
@@ -64,7 +64,7 @@ fn push_ring(out: &mut Vec<u8>, steps: &[Step]) -> Result<(), NoMemory>
     Ok(())
 }
 
-/// The loops, in order.
+/// Appends the loops, in order.
 fn push_rings(out: &mut Vec<u8>, rings: &[Ring]) -> Result<(), NoMemory>
     ensures ok { OnOk result (out.new.items ≡ out.old.items ++ flat_map ring_text (map steps_of rings.now)) }
     ensures kept { OnErr result (take (length out.old.items) out.new.items ≡ out.old.items) }
@@ -84,11 +84,11 @@ fn push_parts(out: &mut Vec<u8>, rings: &[Ring]) -> Result<(), NoMemory>
     Ok(())
 }
 
-/// Adds the text of a slice at the end of `out`: a line `loops L`, and for each loop a line `loop N` and N lines
-/// `A X Y D`, one for each step, with its face's number, its point's x and y times `d`, and `d`. Each line is ended by
-/// LF, and numbers are decimal without leading zeros.
+/// Appends the text of a slice to `out`: a line `loops L`, and for each loop a line `loop N` and N lines `A X Y D`, one for
+/// each step, with its face's number, its point's x and y times `d`, and `d`. Each line is ended by LF, and numbers are decimal
+/// without leading zeros.
 ///
-/// After `NoMemory`, `out` is as it was.
+/// After `NoMemory`, `out` is unchanged.
 pub fn push_slice(out: &mut Vec<u8>, rings: &[Ring]) -> Result<(), NoMemory>
     ensures printed { OnOk result (out.new.items ≡ out.old.items ++ slice_text (map steps_of rings.now)) }
     ensures kept { OnErr result (out.new.items ≡ out.old.items) }

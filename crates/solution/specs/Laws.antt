@@ -1,8 +1,8 @@
--- What holds of all solutions.
+-- Properties of all solutions.
 --
---   IsSame          two solutions have one mesh, and certificates that differ in their flows alone
+--   IsSame          two solutions have the same mesh, and certificates that differ only in their flows
 --   LeastCostLaw    the least cost of a scan's surface is below 2^47, however many points it has
---   SolutionLaw     two solutions of one scan at the same settings are the same but for the flow
+--   SolutionLaw     two solutions of one scan at the same settings are the same except for the flow
 use Rattle.std.specs.Prelude.{ℕ, ◌≡◌, ◌<◌, ◌^◌, Bool, List}
 use Rattle.cert_text.specs.Certificates.{Claim}
 use Rattle.flow_net.specs.declared.votes.Settings.{Settings}
@@ -14,14 +14,14 @@ use Rattle.visibility.specs.Complexes.{Complex}
 use Rattle.visibility.specs.Cuts.{cost, IsLeastCost}
 use Rattle.visibility.specs.Votes.{IsComplexOf}
 
--- one mesh, the same counts, weights and cost, and the same inside cells; the stamp, which says which file was read, is no part
--- of a solution
+-- one mesh, the same counts, weights and cost, and the same inside cells; the fingerprint, which identifies the file that was
+-- read, is not part of a solution
 pub record IsSame (mesh : Surface) (claim : Claim) (other_mesh : Surface) (other : Claim) : Type 0 where
   pub mesh_is : mesh ≡ other_mesh
   pub counts_are : claim.counts ≡ other.counts
   pub inside_is : claim.inside ≡ other.inside
 
--- two solutions of one scan at the same settings are the same but for the flow
+-- two solutions of one scan at the same settings are the same except for the flow
 abbrev pub SolutionLaw : Type 0
 SolutionLaw =
     (scan : Shown) (settings : Settings) (mesh other_mesh : Surface) (claim other : Claim) → IsSolution scan settings mesh claim

@@ -1,6 +1,6 @@
--- What a scan shows, as a scene: its points as vertices, and its sights of them.
+-- The content of a scan as a scene: its points as vertices, and its sights of these.
 --
---   points_of scan               where the points are, once each
+--   points_of scan               the positions of the points, once each
 --   sight_of scan seen           a sight as one of a vertex
 --   sights_of scan               the sights, in the order of their rows
 --   scene_of_scan scan settings  corners and points as vertices, scanners, sights, and the weights
@@ -15,16 +15,16 @@ use Rattle.scan.specs.Shown.{Shown}
 use Rattle.scan.specs.declared.scan.Seen.{Seen}
 use Rattle.visibility.specs.Scenes.{Scene, scene_of}
 
--- where the points are, once each, in the order of their first rows: also those that no scanner saw
+-- the positions of the points, once each, in the order of their first rows: also those that no scanner saw
 abbrev pub points_of : Shown → List Point
 points_of scan = distinct_points scan.points
 
--- a sight of the row's point from its scanner, of its weight: the first point is vertex CORNERS, after the box's corners
+-- a sight of the row's point from its scanner, with its weight: the first point is vertex CORNERS, after the box's corners
 abbrev pub sight_of : Shown → Seen → Sight
 sight_of scan seen =
     record { vertex = CORNERS + index_among (points_of scan) (point_at scan.points seen.row); scanner = seen.scanner; weight = seen.weight }
 
--- the sights, row by row, and within a row in the order of its scanners: equal ones stand as often as they were seen
+-- the sights, row by row, and within a row in the order of its scanners: equal ones are repeated
 abbrev pub sights_of : Shown → List Sight
 sights_of scan = map (sight_of scan) scan.seen
 

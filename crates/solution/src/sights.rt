@@ -1,4 +1,4 @@
-//! The distinct points and the sights of a scan. It stands on `merge` and on `flow_net`, which holds the type of sights.
+//! The distinct points and the sights of a scan. Depends on `merge` and on `flow_net`, which has the type of sights.
 
 ghost use Rattle.std.specs.Prelude.{◌≡◌, IfOk, map};
 ghost use Rattle.merge.specs.Merging.{index_among};
@@ -19,12 +19,12 @@ use visibility::Scene;
 pub struct SeenPoints {
     /// The distinct points in the order of their first rows. The first is vertex 8, after the box's eight corners.
     pub points: Vec<Point>,
-    /// The sights in the order of their rows: each of its row's point, from its scanner, of its weight. Equal ones stand as often as
-    /// they were seen.
+    /// The sights in the order of their rows: each of its row's point, from its scanner, of its weight. Equal ones are
+    /// repeated.
     pub sights: Vec<Sight>,
 }
 
-/// The sights of a scan. `of_row` has the index of each row's point among the distinct points.
+/// Returns the sights of a scan. `of_row` has the index of each row's point among the distinct points.
 fn sights_of(alloc: Global, scan: &Scan, of_row: &[u32]) -> Result<Vec<Sight>, NoMemory>
     requires { of_row.now ≡ map (index_among (points_of (shown_of scan.now))) scan.now.points.items }
     ensures { IfOk result (λ sights. sights.items ≡ sights_in (shown_of scan.now)) }
@@ -41,7 +41,7 @@ fn sights_of(alloc: Global, scan: &Scan, of_row: &[u32]) -> Result<Vec<Sight>, N
 }
 
 impl SeenPoints {
-    /// The scene of the scan whose points and sights these are.
+    /// Returns the scene of the scan with these points and sights.
     pub fn scene<'a>(&'a self, scan: &'a Scan, settings: Settings) -> Scene<'a>
         requires points { self.now.points.items ≡ points_of (shown_of scan.now) }
         requires sights { self.now.sights.items ≡ sights_in (shown_of scan.now) }
@@ -58,7 +58,7 @@ impl SeenPoints {
     }
 }
 
-/// The distinct points and the sights of a scan. The only error is want of memory.
+/// Returns the distinct points and the sights of a scan. The only error is out of memory.
 pub fn seen_in(alloc: Global, scan: &Scan) -> Result<SeenPoints, NoMemory>
     ensures points { IfOk result (λ seen. seen.points.items ≡ points_of (shown_of scan.now)) }
     ensures sights { IfOk result (λ seen. seen.sights.items ≡ sights_in (shown_of scan.now)) }

@@ -15,7 +15,7 @@ use Rattle.geo_sign.specs.Writings.{IsRewritten}
 use Rattle.geo_sign.proofs.Among.{found}
 use Rattle.geo_sign.proofs.Rising.{rising_law}
 use Rattle.geo_sign.proofs.Members.{here, there}
-use Rattle.cell_laws.proofs.RimLists.{facet_law}
+use Rattle.cell_laws.proofs.OneFacet.{facet_law}
 use Rattle.cell_laws.proofs.RisingRows.{list_law, is_listed}
 use Rattle.visibility.specs.Scenes.{Scene}
 use Rattle.visibility.specs.Complexes.{Complex, has_facet, HasFacet, cell_index, cell_of}

@@ -1,6 +1,6 @@
 -- Closed faces.
 --
---   IsClosed faces     each directed edge is met by its reverse equally often
+--   IsClosed faces     each directed edge occurs as often as its reverse
 use Rattle.std.specs.Prelude.{ℕ, ◌≡◌, List, map}
 use Rattle.geo_sign.specs.Tetrahedron.{facet_at}
 use Rattle.cell_laws.specs.ClosedLaws.{edge_count}

@@ -1,16 +1,19 @@
--- Labels of a store's cells, as a test of the numbers that cells have in it, and the mesh that they cut.
+-- Labels of a store's cells, as a test of their numbers in the store, and the mesh that they cut.
 --
---   AreDistinctNumbers ids                    no number stands twice
+--   AreDistinctNumbers ids                    no number occurs twice
 --   AreAllLive slots ids                      all live cells, each once
---   listed_label ids labels id                the label of a cell where the labels are in the order of a list of cells
+--   listed_label ids labels id                the label of a cell, if the labels are in the order of a list of cells
 --   NoneHasCorner slots inside                no cell inside has a corner of the box
---   IsCutFacet slots inside facet             a facet of an outside cell with an inside cell across
---   AreCutFacets slots inside facets          all of these, rising
+--   IsCutFacet slots inside facet             a facet of an outside cell whose adjacent cell is inside
+--   AreCutFacets slots inside facets          all of these, ascending
 --   IsCutMesh points slots inside mesh        the mesh of these facets
---   AreLabelsOver scene rising slots ..       the cells are those of the scene, labelled as by a test, and no fixed cell is inside
---   OverScenes slots inside claim             the claim is true of each scene, rising complex and test that the labels are over
+--   AreLabelsOver scene rising slots ..       the cells are those of the scene, labelled as by a test, and no cell that is
+--                                             fixed outside is inside
+--   OverScenes slots inside claim             the claim holds for each scene, ascending complex and test that the labels are
+--                                             over
 --   mesh_over points scene rising test        the mesh of the scene's facets that the test cuts, among these points
---   IsSortedCut slots outside facets          the facets, sorted, of the sides of cells with a flag whose neighbor has none
+--   IsSortedCut slots outside facets          the facets, sorted, of the sides of cells with a flag whose adjacent cell has
+--                                             none
 use Rattle.std.specs.Prelude.{ℕ, ◌≡◌, ◌<◌, ◌==◌, Bool, true, false, List, Option, Some, map, length, slice_index, AllPairs, Contains}
 use Rattle.std.specs.List.{position_or_len}
 use Rattle.std.specs.List.Sorted.{IsNonDecreasingBy}
@@ -33,7 +36,7 @@ use Rattle.vote_net.specs.CutSides.{AreCutSides}
 use Rattle.vote_net.specs.Gathered.{key_of_side}
 use Rattle.vote_net.specs.Tables.{facet_of_side}
 
--- equal numbers stand at one index
+-- equal numbers have the same index
 abbrev pub AreDistinctNumbers : List ℕ → Type 0
 AreDistinctNumbers ids = (i j : ℕ) → i < length ids → j < length ids → slice_index ids i ≡ slice_index ids j → i ≡ j
 
@@ -43,7 +46,7 @@ pub record AreAllLive (slots : List (Option Cell)) (ids : List ℕ) : Type 0 whe
   pub all : (id : ℕ) → IsLive (links_of slots) id → Contains ids id
   pub once : AreDistinctNumbers ids
 
--- at the index of the cell; a cell that is not in the list is outside, where there are as many labels as cells
+-- at the index of the cell; a cell that is not in the list is outside, if there are as many labels as cells
 abbrev pub listed_label : List ℕ → List Bool → ℕ → Bool
 listed_label ids labels id = flag_at labels (position_or_len (λ other. other == id) ids)
 
@@ -52,7 +55,8 @@ abbrev pub NoneHasCorner : List (Option Cell) → (ℕ → Bool) → Type 0
 NoneHasCorner slots inside =
     (id : ℕ) → IsLive (links_of slots) id → inside id ≡ true → has_corner ((links_of slots).at id) ≡ false
 
--- The cell across the side of a live one that is outside is inside. The facet is that of the outside cell, the least vertex first.
+-- The cell adjacent through the side of a live outside cell is inside. The facet is that of the outside cell, the least vertex
+-- first.
 pub record IsCutFacet (slots : List (Option Cell)) (inside : ℕ → Bool) (facet : List ℕ) : Type 0 where
   pub own : ℕ
   pub side : ℕ
@@ -64,7 +68,7 @@ pub record IsCutFacet (slots : List (Option Cell)) (inside : ℕ → Bool) (face
   pub is_inside : inside other ≡ true
   pub facet_is : facet ≡ facet_row ((links_of slots).at own) side
 
--- there are no others, and they rise, so each stands once
+-- there are no others, and they ascend, so each occurs once
 pub record AreCutFacets (slots : List (Option Cell)) (inside : ℕ → Bool) (facets : List (List ℕ)) : Type 0 where
   pub only : (f : List ℕ) → Contains facets f → IsCutFacet slots inside f
   pub all : (f : List ℕ) → IsCutFacet slots inside f → Contains facets f
@@ -86,13 +90,13 @@ pub record AreLabelsOver (s : Scene) (rising : Complex) (slots : List (Option Ce
   pub says : SaysOfCells slots inside test
   pub admissible : IsAdmissible s rising test
 
--- over each such scene, its rising complex and the test
+-- over each such scene, its ascending complex and the test
 abbrev pub OverScenes : List (Option Cell) → (ℕ → Bool) → (Scene → Complex → (List ℕ → Bool) → Type 0) → Type 0
 OverScenes slots inside claim =
     (scene : Scene) (rising : Complex) (test : List ℕ → Bool) → AreLabelsOver scene rising slots inside test
     → claim scene rising test
 
--- its faces are numbered by the points that they have
+-- its faces are numbered by the points that they use
 abbrev pub mesh_over : List Point → Scene → Complex → (List ℕ → Bool) → Surface
 mesh_over points scene rising test = mesh_of points (cut_facets scene.vertices rising test)
 

@@ -1,4 +1,4 @@
-//! The directed facets of outside cells with an inside cell across.
+//! The facets between outside and inside cells, directed as in the outside cell.
 
 ghost use Rattle.std.specs.Prelude.{◌≡◌, ◌<◌, ℕ, IfOk, not, map};
 ghost use Rattle.flow_net.specs.Nets.{flag_at};
@@ -10,7 +10,7 @@ use std::alloc::Global;
 use tetra_store::Tetra;
 use vote_net::{Side, sorted_cut};
 
-/// Which cells are outside, by their numbers in the store, which are below `limit`.
+/// Returns which cells are outside, by their numbers in the store, which are below `limit`.
 pub(crate) fn outside_flags(
     alloc: Global,
     inside: &[bool],
@@ -26,7 +26,7 @@ pub(crate) fn outside_flags(
     Ok(outside)
 }
 
-/// The facets of sides.
+/// Returns the facets of sides.
 fn facets_of(alloc: Global, sides: &[Side]) -> Result<Vec<[u32; 3]>, NoMemory>
     ensures { IfOk result (λ v. v.items ≡ map facet_of_side sides.now) }
 {
@@ -37,7 +37,7 @@ fn facets_of(alloc: Global, sides: &[Side]) -> Result<Vec<[u32; 3]>, NoMemory>
     Ok(facets)
 }
 
-/// The facets of outside cells with an inside cell across, in rising order.
+/// Returns the facets of outside cells whose adjacent cell is inside, in ascending order.
 pub(crate) fn cut_facets(
     alloc: Global,
     t: &Tetra,

@@ -16,7 +16,7 @@ use mesh_ply::{Mesh, mesh_of_facets};
 use std::alloc::Global;
 use tetra_store::{CellId, Tetra};
 
-/// Where the vertices are, in order of their numbers.
+/// Returns the positions of the vertices, in order of their numbers.
 fn points_of(alloc: Global, t: &Tetra) -> Result<Vec<Point>, NoMemory>
     ensures { IfOk result (λ points. points.items ≡ t.now.points) }
 {
@@ -27,15 +27,16 @@ fn points_of(alloc: Global, t: &Tetra) -> Result<Vec<Point>, NoMemory>
     Ok(points)
 }
 
-/// Makes the mesh of labels of linked cells: the facets of outside cells with an inside cell across, as outside cells have them, so that
-/// a face's three points turn counterclockwise as seen from outside. Nothing is asked of the cells but what each store keeps.
+/// Returns the mesh of labels of linked cells: the facets of outside cells whose adjacent cell is inside, directed as in the
+/// outside cell, so that a face's three points are counterclockwise as seen from outside. The cells need only satisfy the
+/// invariant of the store.
 ///
-/// `ids` are all live cells of the store, each once, in any order, and `labels` has one label for each of them, in this order. No cell
-/// inside has a corner of the box. Points that no face has are left out, and the others are numbered in the order of their vertex
-/// numbers. The faces have their smallest number first and ascend. They are closed: each directed edge is met by its reverse equally
-/// often. If the cells are all cells of a scene and none inside is fixed, the facets are those of the scene that the labels cut. The only
-/// error is out of memory, which also stands for 2^32 faces and more. With the labels at the cells' numbers, `facets_by_number` makes the
-/// same mesh and copies no labels.
+/// `ids` are all live cells of the store, each once, in any order, and `labels` has one label for each of them, in this order.
+/// No cell inside has a corner of the box. Points without a face are left out, and the others are numbered in the order of
+/// their vertex numbers. The faces have their smallest number first and ascend. They are closed: each directed edge occurs as
+/// often as its reverse. If the cells are all cells of a scene and no cell that is fixed outside is inside, the facets are
+/// those of the scene that the labels cut. The only error is out of memory, also for 2^32 faces and more. With the labels at
+/// the cells' numbers, `facets_by_number` makes the same mesh and copies no labels.
 pub fn facets(alloc: Global, t: &Tetra, ids: &[CellId], labels: &Labels) -> Result<Mesh, NoMemory>
     requires ids { AreAllLive t.now.slots ids.now }
     requires labels { length labels.now.inside ≡ length ids.now }

@@ -1,4 +1,4 @@
-//! Labels at the numbers that cells have in the store, of labels in any order.
+//! Reorders labels to the numbers of cells in the store.
 
 ghost use Rattle.std.specs.Prelude.{◌≡◌, ◌<◌, ℕ, IfOk, length, slice_index};
 ghost use Rattle.flow_net.specs.Nets.{flag_at};

@@ -1,16 +1,16 @@
--- What the best surface of a scene is and costs, and what forms receive of the surfaces of a sweep.
+-- The best surface of a scene and its cost, and what writers receive of the surfaces of a sweep.
 --
---   AreBestLabels s complex inside   the least-inside labels of least cost, over all cells of the scene
---   CostsLeast s n                the number is what they cost
---   IsSurfaceOf s points mesh     the mesh is that of the facets of outside cells with an inside cell across
+--   AreBestLabels s complex inside   the minimum cut with the smallest inside, over all cells of the scene
+--   CostsLeast s n                the number is the cost of these labels
+--   IsSurfaceOf s points mesh     the mesh is that of the facets of outside cells whose adjacent cell is inside
 --   Given                         points, scanners and sights
 --   given_by scan                 those of a scan
 --   given_scene g settings        their scene at these weights
---   AreWeights settings v l       the settings of a vote and a smoothing
---   IsSurfaceAt, CostsAt          the mesh and the cost of the best surface at a vote and a smoothing
---   smoothing_of from step k      the smoothing of entry k of a sweep
---   HasEntry, HasEntryFront       what a form has received of the mesh of an entry
---   HaveEntries, HaveEntryFronts  what each form has of the mesh of its own entry
+--   AreWeights settings v l       the settings with a visibility weight and an area weight
+--   IsSurfaceAt, CostsAt          the mesh and the cost of the best surface at a visibility weight and an area weight
+--   smoothing_of from step k      the area weight of entry k of a sweep
+--   HasEntry, HasEntryFront       what a writer has received of the mesh of an entry
+--   HaveEntries, HaveEntryFronts  what each writer has received of the mesh of its own entry
 use Rattle.std.specs.Prelude.{ℕ, ◌≡◌, ◌⊎◌, ◌<◌, ◌+◌, ◌*◌, ◌++◌, Bool, List, length, slice_index_or}
 use Rattle.flow_net.specs.declared.votes.Settings.{Settings}
 use Rattle.flow_net.specs.declared.votes.Sight.{Sight}
@@ -25,21 +25,21 @@ use Rattle.visibility.specs.Cuts.{cost, cut_facets, IsLeastInside}
 use Rattle.visibility.specs.Scenes.{Scene, scene_of}
 use Rattle.visibility.specs.Votes.{IsComplexOf}
 
--- all cells of the scene and all facets that have a capacity, and labels of least cost whose inside is contained in that of all
+-- all cells of the scene and all facets with a capacity, and labels of least cost whose inside is contained in that of all
 -- labels of that cost
 pub record AreBestLabels (s : Scene) (complex : Complex) (inside : List ℕ → Bool) : Type 0 where
   pub complex_is : IsComplexOf s complex
   pub least : IsLeastInside s complex inside
 
--- the number is what these labels cost
+-- the number is the cost of these labels
 pub record CostsLeast (s : Scene) (n : ℕ) : Type 0 where
   pub complex : Complex
   pub inside : List ℕ → Bool
   pub best : AreBestLabels s complex inside
   pub cost_is : n ≡ cost s complex inside
 
--- the mesh is that of the facets of outside cells with an inside cell across, by these labels; the vertices are the corners of
--- the box and these points
+-- the mesh is that of the facets of outside cells whose adjacent cell is inside, by these labels; the vertices are the corners
+-- of the box and these points
 pub record IsSurfaceOf (s : Scene) (points : List Point) (mesh : Surface) : Type 0 where
   pub complex : Complex
   pub inside : List ℕ → Bool
@@ -60,7 +60,7 @@ given_by scan = record { points = points_of scan; scanners = scan.scanners; sigh
 abbrev pub given_scene : Given → Settings → Scene
 given_scene g settings = scene_of g.points g.scanners g.sights settings
 
--- the settings of a vote and a smoothing
+-- the settings with a visibility weight and an area weight
 pub record AreWeights (settings : Settings) (vote smooth : ℕ) : Type 0 where
   pub vote_is : settings.vote ≡ vote
   pub smooth_is : settings.smooth ≡ smooth
@@ -71,33 +71,33 @@ pub record IsSurfaceAt (g : Given) (vote smooth : ℕ) (mesh : Surface) : Type 0
   pub weights : AreWeights settings vote smooth
   pub surface : IsSurfaceOf (given_scene g settings) g.points mesh
 
--- the number is what the best surface costs at these weights
+-- the number is the cost of the best surface at these weights
 pub record CostsAt (g : Given) (vote smooth n : ℕ) : Type 0 where
   pub settings : Settings
   pub weights : AreWeights settings vote smooth
   pub cost_is : CostsLeast (given_scene g settings) n
 
--- the smoothing of entry k of a sweep, of which the first is entry 0
+-- the area weight of entry k of a sweep, whose first is entry 0
 abbrev pub smoothing_of : (from step k : ℕ) → ℕ
 smoothing_of from step k = from + k * step
 
--- a form has received exactly the mesh at these weights
+-- a writer has received exactly the mesh at these weights
 pub record HasEntry (g : Given) (vote smooth : ℕ) (r : Received) : Type 0 where
   pub mesh : Surface
   pub surface : IsSurfaceAt g vote smooth mesh
   pub all : HasAll r mesh.points mesh.faces
 
--- a form is fresh, or has received a front of the mesh at these weights, the whole included
+-- a writer is fresh, or has received a prefix of the mesh at these weights, possibly all of it
 abbrev pub HasEntryFront : (g : Given) → (vote smooth : ℕ) → Received → Type 0
 HasEntryFront g vote smooth r =
     IsFresh r ⊎ ((mesh : Surface) × IsSurfaceAt g vote smooth mesh × HasFront r mesh.points mesh.faces)
 
--- each form has received exactly the mesh of its entry
+-- each writer has received exactly the mesh of its entry
 abbrev pub HaveEntries : (g : Given) → (vote from step : ℕ) → List Received → Type 0
 HaveEntries g vote from step forms =
     (k : ℕ) (d : Received) → k < length forms → HasEntry g vote (smoothing_of from step k) (slice_index_or forms k d)
 
--- each form is fresh, or has received a front of the mesh of its entry
+-- each writer is fresh, or has received a prefix of the mesh of its entry
 abbrev pub HaveEntryFronts : (g : Given) → (vote from step : ℕ) → List Received → Type 0
 HaveEntryFronts g vote from step forms =
     (k : ℕ) (d : Received) → k < length forms → HasEntryFront g vote (smoothing_of from step k) (slice_index_or forms k d)

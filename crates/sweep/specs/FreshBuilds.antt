@@ -1,7 +1,7 @@
--- A fresh build beside a sweep.
+-- A fresh build compared with a sweep.
 --
 --   IsAsBuilt s points mesh cost     every surface of the scene is this mesh, and every least cost this number
---   FreshBuildLaw                    so it is of what a fresh build makes
+--   FreshBuildLaw                    this holds for the result of a fresh build
 use Rattle.std.specs.Prelude.{ℕ, ◌≡◌, List}
 use Rattle.cert_text.specs.Certificates.{Claim}
 use Rattle.flow_net.specs.declared.votes.Settings.{Settings}

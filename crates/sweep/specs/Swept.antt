@@ -1,13 +1,13 @@
--- What a sweep holds.
+-- The content of a sweep.
 --
 --   Swept                        the points, the sights, the scanners, the weights, the cells, and a flow through them
 --   given_in w                   the points, the scanners and the sights
 --   scene_in w                   the scene of these at its weights
---   sink_amount w id             what leaves at the sink of the cell with this number
+--   sink_amount w id             the flow into the sink of the cell with this number
 --   IsOf w scan                  it is of this scan
---   HasLargest w                 the flow is a largest one of the scene's network, and its value is the least cost
---   IsRaised old new smooth      the smoothing has risen, all else is as before, and no less leaves at any sink
---   IsKept                       what the fields of a sweep keep
+--   HasLargest w                 the flow is a maximum flow of the scene's network, and its value is the least cost
+--   IsRaised old new smooth      the area weight has increased, everything else is unchanged, and no less flows into any sink
+--   IsKept                       the invariant of the fields of a sweep
 use Rattle.std.specs.Prelude.{ℕ, ◌≡◌, ◌<◌, ◌≤◌, ◌++◌, ◌^◌, Bool, List, Option, length, slice_index}
 use Rattle.cell_net.specs.Arcs.{IsShape}
 use Rattle.cell_net.specs.Shape.{numbered_with}
@@ -26,8 +26,8 @@ use Rattle.visibility.specs.Scenes.{Scene, scene_of}
 use Rattle.vote_net.specs.Counts.{AreCountsOf}
 use Rattle.sweep.specs.Entries.{CostsLeast, Given, given_scene}
 
--- the distinct points, the scanners, the sights, the weights, the cell at each number, and an amount for each side and for each cell:
--- over side k of the cell with number id flows what stands at 4 * id + k
+-- the distinct points, the scanners, the sights, the weights, the cell at each number, and an amount for each side and for each
+-- cell: the flow over side k of the cell with number id is the entry at 4 * id + k
 pub record Swept : Type 0 where
   pub points : List Point
   pub scanners : List Point
@@ -44,7 +44,7 @@ given_in w = record { points = w.points; scanners = w.scanners; sights = w.sight
 abbrev pub scene_in : Swept → Scene
 scene_in w = given_scene (given_in w) w.settings
 
--- what leaves at the sink of the cell with this number
+-- the flow into the sink of the cell with this number
 abbrev pub sink_amount : Swept → ℕ → ℕ
 sink_amount w = slice_index w.flow.on_sink
 
@@ -54,10 +54,10 @@ pub record IsOf (w : Swept) (scan : Shown) : Type 0 where
   pub scanners : w.scanners ≡ scan.scanners
   pub sights : w.sights ≡ sights_of scan
 
--- The cells are those of the scene, and the flow is valid and of the largest value in the network of these with the counts of the scene.
--- This value is the least cost of labels over the scene's cells and facets. So the flow is a largest one over these too: what it says
--- there is valid and has the same value, and no valid flow there has a larger value than labels cost (StoreNetworkLaw: valid, value_is,
--- at_most), in whatever order cells and facets are listed (ListingsAgree).
+-- The cells are those of the scene, and the flow is valid and maximal in the network of these with the counts of the scene.
+-- This value is the least cost of labels over the scene's cells and facets. So the flow is maximal over these too: its amounts
+-- there are a valid flow with the same value, and no valid flow there has a larger value than the cost of labels
+-- (StoreNetworkLaw: valid, value_is, at_most), for any order of cells and facets (ListingsAgree).
 pub record HasLargest (w : Swept) : Type 0 where
   pub crossed : List ℕ
   pub behind : List ℕ
@@ -67,7 +67,8 @@ pub record HasLargest (w : Swept) : Type 0 where
   pub largest : IsLargest (numbered_with w.slots crossed behind fixed w.settings shape) w.flow
   pub equal : CostsLeast (scene_in w) (value_of (numbered_with w.slots crossed behind fixed w.settings shape) w.flow)
 
--- it is at this smoothing, of the same points, scanners, sights, vote and cells, and no less leaves at the sink of any cell
+-- it is at this area weight, with the same points, scanners, sights, visibility weight and cells, and no less flows into the
+-- sink of any cell
 pub record IsRaised (old new : Swept) (smooth : ℕ) : Type 0 where
   pub smooth_is : new.settings.smooth ≡ smooth
   pub vote : new.settings.vote ≡ old.settings.vote
@@ -77,8 +78,9 @@ pub record IsRaised (old new : Swept) (smooth : ℕ) : Type 0 where
   pub slots : new.slots ≡ old.slots
   pub sinks : (id : ℕ) → sink_amount old id ≤ sink_amount new id
 
--- What the fields keep: they are of a scan; the counts are those of the scene over the store's cells; in the network of these the flow
--- is a largest one, and the labels are the least inside and cost what it is worth.
+-- The invariant of the fields: they are those of a scan; the counts are those of the scene over the store's cells; in the
+-- network of these the flow is maximal, and the labels are the minimum cut with the smallest inside, whose cost is the value of
+-- the flow.
 pub record IsKept (points scanners : List Point) (sights : List Sight) (settings : Settings) (store : Store)
     (crossed behind : List ℕ) (fixed : List Bool) (flow : Flow) (labels : Labels) : Type 0 where
   pub scan : Shown

@@ -1,4 +1,4 @@
-//! The surfaces of a sweep, handed to forms. It stands on the sweep and on `mesh_form`.
+//! The surfaces of a sweep, passed to writers. Depends on the sweep and on `mesh_form`.
 
 ghost use Rattle.std.specs.Prelude.{◌≡◌, ◌≤◌, ◌+◌, ◌*◌, ◌-◌, IfOk, OnOk, OnErr, All, length, map};
 ghost use Rattle.flow_net.specs.declared.votes.TheConstants.{WEIGHT_LIMIT};
@@ -15,16 +15,16 @@ use scan::Scan;
 use std::alloc::Global;
 use watch::{Silent, Stage, Watch};
 
-/// What the first and the last surface of a sweep cost.
+/// The costs of the first and the last surface of a sweep.
 #[derive(Clone, Copy, Debug, PartialEq, Eq)]
 pub struct Costs {
-    /// At the least smoothing.
+    /// At the smallest area weight.
     pub first: u64,
-    /// At the largest smoothing.
+    /// At the largest area weight.
     pub last: u64,
 }
 
-/// Hands the surface of a sweep to a fresh form.
+/// Passes the surface of a sweep to a fresh writer.
 fn hand_surface(sweep: &Sweep, form: &mut Box<dyn Form>) -> Result<(), NoMemory>
     requires { IsFresh (received form.old) }
     ensures all { OnOk result (HasEntry (given_in sweep.now) sweep.now.settings.vote sweep.now.settings.smooth (received form.new)) }
@@ -36,7 +36,7 @@ fn hand_surface(sweep: &Sweep, form: &mut Box<dyn Form>) -> Result<(), NoMemory>
     Ok(())
 }
 
-/// Raises the smoothing of a sweep to this one, if it is not there already.
+/// Raises the area weight of a sweep to this one, unless it is there already.
 fn raise_to(sweep: &mut Sweep, smooth: u32) -> Result<(), NoMemory>
     requires above { sweep.old.settings.smooth ≤ smooth }
     requires within { smooth ≤ WEIGHT_LIMIT }
@@ -50,8 +50,8 @@ fn raise_to(sweep: &mut Sweep, smooth: u32) -> Result<(), NoMemory>
     Ok(())
 }
 
-/// Hands the surface of a sweep to the first of these fresh forms, and to each further one that at a smoothing larger by a step. A watch
-/// is told of the stage and of how many surfaces are handed on.
+/// Passes the surface of a sweep to the first of these fresh writers, and to each further one the surface at an area weight
+/// larger by a step. Reports the stage and the number of surfaces to a progress callback.
 fn hand_rising<W: Watch>(
     sweep: &mut Sweep,
     step: u32,
@@ -78,10 +78,10 @@ fn hand_rising<W: Watch>(
     Ok(())
 }
 
-/// Hands the best surface of a scan to the first of these fresh forms, and to each further one that at a smoothing larger by a step.
-/// Answers what the first and the last cost.
+/// Passes the best surface of a scan to the first of these fresh writers, and to each further one the surface at an area weight
+/// larger by a step. Returns the costs of the first and the last.
 ///
-/// After `NoMemory` each form is fresh, or has received a front of its surface, the whole included.
+/// After `NoMemory` each writer is fresh, or has received a prefix of its surface, possibly all of it.
 pub fn hand_surfaces(
     alloc: Global,
     scan: &Scan,
@@ -101,7 +101,7 @@ pub fn hand_surfaces(
     hand_surfaces_watched(alloc, scan, settings, step, forms, &mut Silent)
 }
 
-/// The same, where a watch is told of the stages of the work.
+/// Returns the same, and reports the stages of the work to a progress callback.
 pub fn hand_surfaces_watched<W: Watch>(
     alloc: Global,
     scan: &Scan,

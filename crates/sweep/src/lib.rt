@@ -1,12 +1,13 @@
-//! The best surfaces of a scan at rising smoothing weights, the old flow kept.
+//! Computes the best surfaces of a scan at increasing area weights, and reuses the flow.
 //!
-//! Cells and votes do not depend on the smoothing, so they are made once. A larger smoothing adds the same to each capacity,
-//! and a largest flow stays valid: it is kept from weight to weight, and only more is sent. Where all sinks are full, nothing is.
+//! Cells and visibility weights do not depend on the area weight, so they are computed once. A larger area weight adds the same
+//! to each capacity, and a maximum flow stays valid: it is kept from weight to weight, and only augmented. If all sinks are
+//! full, nothing is done.
 //!
-//! `sweeping` has the type, and `handing` hands its surfaces to forms. What a sweep holds stands in `specs/Swept`, and what its
-//! cost and its surface are in `specs/Entries`; `laws` says that they are those of a fresh build. The crate stands on `delaunay`
-//! and `votes` (cells and the network over them), on `max_flow` (flow and labels), on `surface` (the mesh of labels) and on
-//! `mesh_form` (forms that a mesh is handed to).
+//! `sweeping` has the type, and `handing` passes its surfaces to writers. `specs/Swept` defines the content of a sweep, and
+//! `specs/Entries` its cost and its surface; `laws` states that they are those of a fresh build. The crate depends on
+//! `delaunay` and `votes` (cells and the network over them), on `max_flow` (flow and labels), on `surface` (the mesh of labels)
+//! and on `mesh_form` (mesh writers).
 #![tactic(auto)]
 
 mod handing;
@@ -18,5 +19,5 @@ pub use laws::a_sweep_is_as_a_fresh_build;
 use std::alloc::AllocError;
 pub use sweeping::Sweep;
 
-/// Want of memory: the one answer that any input may get.
+/// Out of memory: the one error that any input may cause.
 pub type NoMemory = AllocError;

@@ -1,5 +1,5 @@
-//! A sweep: a scan's best surface at one smoothing, which can be raised. It stands on the linked cells and counts of a scan as a
-//! network, on `max_flow` and on `surface`.
+//! A sweep: a scan's best surface at one area weight, which can be raised. Depends on the linked cells and counts of a scan as
+//! a network, on `max_flow` and on `surface`.
 
 ghost use Rattle.std.specs.Prelude.{◌≡◌, ◌<◌, ◌≤◌, IfOk, OnOk, OnErr};
 ghost use Rattle.flow_net.specs.declared.votes.TheConstants.{WEIGHT_LIMIT};
@@ -26,31 +26,31 @@ use tetra_store::Tetra;
 use votes::Votes;
 use watch::{Silent, Watch};
 
-/// The best surface of a scan at one smoothing, with a largest flow, which is kept when the smoothing is raised.
+/// The best surface of a scan at one area weight, with a maximum flow, which is kept when the weight is raised.
 ///
 /// Contracts see its points, scanners and sights, the weights, the cells by their numbers in the store, and the flow.
 ///
-/// For the next raise it holds 4 bytes a side of a cell, or 8 where capacities are large, and 24 a cell. While a raise runs it takes as
-/// much once more, beside a second flow.
+/// For the next raise it holds 4 bytes a side of a cell, or 8 if capacities are large, and 24 a cell. During a raise it takes
+/// the same again, and a second flow.
 #[derive(Drop)]
 pub struct Sweep {
-    /// The memory that it was made with.
+    /// The allocator with which it was made.
     alloc: Global,
     /// The distinct points and the sights.
     seen: SeenPoints,
     /// The scanners.
     scanners: Vec<Point>,
-    /// The vote, and the smoothing that it is at.
+    /// The visibility weight, and the current area weight.
     settings: Settings,
     /// The linked cells.
     tetra: Tetra,
-    /// What the sights vote for.
+    /// The accumulated visibility weights.
     votes: Votes,
-    /// A largest flow, by the numbers of cells and sides.
+    /// A maximum flow, by the numbers of cells and sides.
     flow: Flow,
-    /// The least-inside labels, by the numbers of cells.
+    /// The minimum cut with the smallest inside, by the numbers of cells.
     labels: Labels,
-    /// What the next raise goes on from, if there is anything: how long it takes hangs on it, and nothing else.
+    /// The preflow from which the next raise resumes, if there is one: it affects only the time.
     kept: Option<KeptPreflow>,
 }
 
@@ -65,7 +65,7 @@ impl Model for Sweep {
 }
 
 impl Sweep {
-    /// The best surface of a scan at these weights. The only error is want of memory.
+    /// Returns the best surface of a scan at these weights. The only error is out of memory.
     pub fn start(alloc: Global, scan: &Scan, settings: Settings) -> Result<Sweep, NoMemory>
         ensures scan { IfOk result (λ sweep. IsOf sweep (shown_of scan.now)) }
         ensures settings { IfOk result (λ sweep. sweep.settings ≡ settings) }
@@ -74,7 +74,7 @@ impl Sweep {
         Sweep::start_watched(alloc, scan, settings, &mut Silent)
     }
 
-    /// The same, where a watch is told of the stages of the work.
+    /// Returns the same, and reports the stages of the work to a progress callback.
     pub fn start_watched<W: Watch>(
         alloc: Global,
         scan: &Scan,
@@ -103,9 +103,9 @@ impl Sweep {
         })
     }
 
-    /// Raises the smoothing. The flow goes on from where it was, so that no less leaves at the sink of any cell.
+    /// Raises the area weight. The flow resumes from its previous state, so that no less flows into the sink of any cell.
     ///
-    /// Without memory all that contracts see is as it was, and the next raise may take longer.
+    /// After `NoMemory` everything that contracts see is unchanged, and the next raise may take longer.
     pub fn raise(&mut self, smooth: u32) -> Result<(), NoMemory>
         requires above { self.old.settings.smooth < smooth }
         requires within { smooth ≤ WEIGHT_LIMIT }
@@ -125,14 +125,14 @@ impl Sweep {
         Ok(())
     }
 
-    /// The smoothing that it is at.
+    /// Returns the current area weight.
     pub fn smooth(&self) -> u32
         ensures { result ≡ self.now.settings.smooth }
     {
         self.settings.smooth
     }
 
-    /// What the best surface costs: the least cost of labels of the scan's cells at these weights.
+    /// Returns the cost of the best surface: the least cost of labels of the scan's cells at these weights.
     pub fn cost(&self) -> u64
         ensures { CostsLeast (scene_in self.now) result }
     {
@@ -140,8 +140,8 @@ impl Sweep {
         cost(&net, &self.labels) as u64
     }
 
-    /// The mesh of the best surface: that of the facets of outside cells with an inside cell across, by the labels of least cost whose
-    /// inside is smallest. It is closed. The only error is want of memory.
+    /// Returns the mesh of the best surface: that of the facets of outside cells whose adjacent cell is inside, by the labels
+    /// of least cost whose inside is smallest. It is closed. The only error is out of memory.
     pub fn mesh(&self) -> Result<Mesh, NoMemory>
         ensures surface { IfOk result (λ mesh. IsSurfaceOf (scene_in self.now) self.now.points (surface_of mesh)) }
         ensures valid { IfOk result (λ mesh. IsMesh mesh.points.items mesh.faces.items) }

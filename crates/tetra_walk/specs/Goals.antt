@@ -1,6 +1,6 @@
--- The places to which walks go.
+-- The goals of walks.
 --
---   place_of goal       the place
+--   place_of goal       the position
 --   IsGoal goal         it is made of data points
 use Rattle.geo_sign.specs.declared.point.TheConstants.{DATA_LIMIT}
 use Rattle.geo_sign.specs.Point.{IsWithin}
@@ -9,7 +9,7 @@ use Rattle.geo_sign.specs.NearPlaces.{towards_place, behind_place}
 use Rattle.tetra_walk.specs.declared.goal.Goal.{Goal}
 use Rattle.tetra_walk.specs.declared.goal.Goal.TheVariants.{Point, Scanner, Towards, Behind}
 
--- each is a place of the box, those near a point too, so that one walk serves all
+-- each is a position in the box, so that one walk serves all
 abbrev pub place_of : Goal → RationalPoint
 place_of (Point q) = rational q
 place_of (Scanner s) = displaced s

@@ -1,4 +1,4 @@
-//! Where walks go.
+//! Goals of walks.
 
 ghost use Rattle.std.specs.Prelude.{◌≡◌, ◌↔◌, ◌<ℤ◌, pos, IsTrue};
 ghost use Rattle.geo_sign.specs.declared.point.TheConstants.{BOX_LIMIT};
@@ -10,20 +10,20 @@ ghost use Rattle.tetra_walk.specs.Goals.{place_of, IsGoal};
 
 use geo_sign::{Point, Sign, orient, side_of_scanner};
 
-/// Where a walk goes.
+/// The goal of a walk.
 #[derive(Clone, Copy)]
 pub(crate) enum Goal {
-    /// To a point.
+    /// A point.
     Point(Point),
-    /// To a displaced scanner.
+    /// A symbolically perturbed scanner.
     Scanner(Point),
-    /// As near to the first point as is wanted, towards a displaced scanner at the second.
+    /// A position arbitrarily near to the first point, towards a symbolically perturbed scanner at the second.
     Towards(Point, Point),
-    /// As near to the first point as is wanted, away from a displaced scanner at the second.
+    /// A position arbitrarily near to the first point, away from a symbolically perturbed scanner at the second.
     Behind(Point, Point),
 }
 
-/// The sign of the opposite number.
+/// Returns the sign of the opposite number.
 fn opposite(sign: Sign) -> Sign
     ensures { result ≡ opposite_sign sign }
 {
@@ -34,15 +34,15 @@ fn opposite(sign: Sign) -> Sign
     }
 }
 
-/// Whether two points are the same.
+/// Returns whether two points are the same.
 fn is_at(a: Point, p: Point) -> bool
     ensures { IsTrue result → a ≡ p }
 {
     a == p
 }
 
-/// The sign of the orientation of a b c p. Most walks to a vertex are among the cells at it, where p is mostly one of the others: then
-/// it is zero, and no product is computed.
+/// Returns the sign of the orientation of a b c p. In most walks to a vertex, p is one of the other points: then the sign is
+/// zero, and no product is computed.
 fn orient_to(a: Point, b: Point, c: Point, p: Point) -> Sign
     ensures { result ≡ sign_of (orientation a b c p) }
 {
@@ -59,8 +59,8 @@ fn orient_to(a: Point, b: Point, c: Point, p: Point) -> Sign
 }
 
 impl Goal {
-    /// The side of the facet a b c on which the goal is. A place near to p is on the side of p, and where p is in the facet's plane on
-    /// that of the scanner, or on the other one.
+    /// Returns the side of the facet a b c on which the goal is. A position near to p is on the side of p; if p is in the
+    /// facet's plane, on the scanner's side or the opposite one.
     fn side(&self, a: Point, b: Point, c: Point) -> Sign
         requires goal { IsGoal self.now }
         requires a_within { IsWithin BOX_LIMIT a }
@@ -76,7 +76,7 @@ impl Goal {
         }
     }
 
-    /// Whether the goal is behind the facet a b c.
+    /// Returns whether the goal is behind the facet a b c.
     pub(crate) fn is_behind(&self, a: Point, b: Point, c: Point) -> bool
         requires goal { IsGoal self.now }
         requires a_within { IsWithin BOX_LIMIT a }

@@ -4,8 +4,8 @@ ghost use Rattle.std.specs.Prelude.{◌≡◌, ◌<◌};
 ghost use Rattle.geo_sign.specs.Tetrahedron.{facet_of, facet_at};
 ghost use Rattle.tetra_store.specs.Links.{tetrahedron_from};
 
-/// The directed facet of a side of the cell with these vertices: three vertex numbers, which turn counterclockwise as seen from the
-/// vertex opposite to the side where the cell is written positively.
+/// Returns the directed facet of a side of the cell with these vertices: three vertex numbers, counterclockwise as seen from
+/// the vertex opposite to the side if the cell is positively oriented.
 pub fn facet(v: [u32; 4], side: usize) -> [u32; 3]
     requires { side < 4 }
     ensures { facet_at result ≡ facet_of (tetrahedron_from v) side }

@@ -18,7 +18,7 @@ use crate::side::facet;
 use geo_sign::Point;
 use tetra_store::{CellId, Tetra};
 
-/// Whether the goal is behind a side of the cell with these vertices.
+/// Returns whether the goal is behind a side of the cell with these vertices.
 fn is_behind_side(t: &Tetra, goal: &Goal, v: [u32; 4], side: usize) -> bool
     requires goal { IsGoal goal.now }
     requires side { side < 4 }
@@ -30,7 +30,8 @@ fn is_behind_side(t: &Tetra, goal: &Goal, v: [u32; 4], side: usize) -> bool
     goal.is_behind(t.point(a), t.point(b), t.point(c))
 }
 
-/// The first side that the goal is behind, but for one that it is known not to be behind. A number above 3 is no side.
+/// Returns the first side that the goal is behind, except for one that the goal is known not to be behind. A number above 3 is
+/// no side.
 fn side_behind(t: &Tetra, goal: &Goal, v: [u32; 4], entered: usize) -> Option<usize>
     requires goal { IsGoal goal.now }
     requires known { (k : ℕ) → k < 4 → slice_index v k < length t.now.points }
@@ -46,11 +47,11 @@ fn side_behind(t: &Tetra, goal: &Goal, v: [u32; 4], entered: usize) -> Option<us
     None
 }
 
-/// The side through which no walk came, before its first step.
+/// The entry side before the first step: none.
 pub const NO_SIDE: usize = 4;
 
-/// Walks to a cell in which the goal lies. The side through which it came into a cell is never tested: the goal was behind that
-/// facet's other direction.
+/// Walks to a cell that contains the goal. Never tests the side through which it entered a cell: the goal was behind the
+/// opposite facet.
 fn walk_to(t: &Tetra, goal: &Goal, from: CellId) -> CellId
     requires delaunay { IsDelaunay (vertices_of t.now) (links_of t.now.slots) }
     requires goal { IsGoal goal.now }
@@ -77,9 +78,10 @@ fn walk_to(t: &Tetra, goal: &Goal, from: CellId) -> CellId
     }
 }
 
-/// A cell in which a data point lies, inside or on a facet, found by a walk from any live cell. The cells have to be Delaunay.
+/// Returns a cell that contains a data point, inside or on a facet, found by a walk from any live cell. The cells have to be
+/// Delaunay.
 ///
-/// It takes no memory and does not refuse: each data point lies in some cell. The nearer the start, the shorter the walk.
+/// It allocates no memory and does not fail: each data point lies in some cell. The nearer the start, the shorter the walk.
 pub fn locate(t: &Tetra, q: Point, from: CellId) -> CellId
     requires delaunay { IsDelaunay (vertices_of t.now) (links_of t.now.slots) }
     requires data_point { IsWithin DATA_LIMIT q }
@@ -90,10 +92,10 @@ pub fn locate(t: &Tetra, q: Point, from: CellId) -> CellId
     walk_to(t, &Goal::Point(q), from)
 }
 
-/// The cell in which the displaced place of a data point lies, as a scanner at the point is displaced, found by a walk from any live
-/// cell. There is exactly one, also where the point is a vertex or lies on a facet. The cells have to be Delaunay.
+/// Returns the cell that contains the symbolically perturbed scanner at a data point, found by a walk from any live cell. There
+/// is exactly one, even if the point is a vertex or lies on a facet. The cells have to be Delaunay.
 ///
-/// It takes no memory and does not refuse. The nearer the start, the shorter the walk.
+/// It allocates no memory and does not fail. The nearer the start, the shorter the walk.
 pub fn locate_displaced(t: &Tetra, s: Point, from: CellId) -> CellId
     requires delaunay { IsDelaunay (vertices_of t.now) (links_of t.now.slots) }
     requires data_point { IsWithin DATA_LIMIT s }
@@ -106,9 +108,10 @@ pub fn locate_displaced(t: &Tetra, s: Point, from: CellId) -> CellId
     walk_to(t, &Goal::Scanner(s), from)
 }
 
-/// The cell in which the displaced scanner at a data point lies. There is exactly one. The cells have to be Delaunay.
+/// Returns the cell that contains the symbolically perturbed scanner at a data point. There is exactly one. The cells have to
+/// be Delaunay.
 ///
-/// It takes no memory and does not refuse. The walk begins at a corner: from a cell nearby, [`locate_displaced`] is shorter.
+/// It allocates no memory and does not fail. The walk begins at a corner: from a cell nearby, [`locate_displaced`] is shorter.
 pub fn locate_scanner(t: &Tetra, s: Point) -> CellId
     requires delaunay { IsDelaunay (vertices_of t.now) (links_of t.now.slots) }
     requires data_point { IsWithin DATA_LIMIT s }
@@ -120,10 +123,12 @@ pub fn locate_scanner(t: &Tetra, s: Point) -> CellId
     locate_displaced(t, s, t.cell_at(0))
 }
 
-/// The cell at a vertex into which the sight to a scanner leads: the scanner is on the inner side of each of its facets there. There
-/// is exactly one. The cells have to be Delaunay, the vertex an inserted data point, the scanner at a data point.
+/// Returns the cell at a vertex that the sight to a scanner enters first: the scanner is on the inner side of each of its
+/// facets there. There is exactly one. The cells have to be Delaunay, the vertex an inserted data point, the scanner at a data
+/// point.
 ///
-/// It takes no memory and does not refuse. The walk begins in the vertex's kept cell, and mostly stays among the cells at it.
+/// It allocates no memory and does not fail. The walk begins in the vertex's incident cell, and mostly stays among the cells at
+/// it.
 pub fn toward(t: &Tetra, v: u32, s: Point) -> CellId
     requires delaunay { IsDelaunay (vertices_of t.now) (links_of t.now.slots) }
     requires inserted { Has (vertices_of t.now) v }
@@ -137,10 +142,10 @@ pub fn toward(t: &Tetra, v: u32, s: Point) -> CellId
     walk_to(t, &Goal::Towards(t.point(v), s), t.cell_at(v))
 }
 
-/// The cell at a vertex behind the sight from a scanner: the scanner is on the outer side of each of its facets there. There is
-/// exactly one. The cells have to be Delaunay, the vertex an inserted data point, the scanner at a data point.
+/// Returns the cell at a vertex behind the sight from a scanner: the scanner is on the outer side of each of its facets there.
+/// There is exactly one. The cells have to be Delaunay, the vertex an inserted data point, the scanner at a data point.
 ///
-/// It takes no memory and does not refuse.
+/// It allocates no memory and does not fail.
 pub fn behind(t: &Tetra, v: u32, s: Point) -> CellId
     requires delaunay { IsDelaunay (vertices_of t.now) (links_of t.now.slots) }
     requires inserted { Has (vertices_of t.now) v }

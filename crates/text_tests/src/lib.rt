@@ -1,7 +1,7 @@
-//! Tests of texts: the rows of generated scans, printed, beside those of another program, and the example of `ply_rows`.
+//! Tests of texts: the printed rows of generated scans, compared with those of another program, and the example of `ply_rows`.
 //!
-//! The crate has tests alone. They call what the crates of texts promise to callers, so a check of them proves no function of
-//! those again. What the program refuses and prints is tested at the built program, in `tools/tests`.
+//! The crate has only tests. They call public functions of the text crates, so that checking them does not verify those
+//! functions again. What the program rejects and prints is tested with the built program, in `tools/tests`.
 #![tactic(auto)]
 
 #[cfg(test)]

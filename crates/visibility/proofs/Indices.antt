@@ -1,19 +1,17 @@
 -- Places in lists of rows, and sums over lists as sums over indices.
-use Rattle.std.proofs.Common.{ℕ, zero, suc, ◌+◌, ◌<◌, ◌≤◌, ◌≡◌, refl, ap, sym, subst, ◌∙◌, arith, Bool, true, false, ⊎_elim}
-use Rattle.std.proofs.Common.{List, [], ◌∷◌, length, get_or, map, take, eqb, AllPairs, Contains}
-use Rattle.std.specs.List.{Any, position_or_len, sum_by}
+use Rattle.std.proofs.Common.{ℕ, ◌<◌, ◌≤◌, ◌≡◌, refl, ap, sym, subst, ◌∙◌, arith, Bool, true, false, ⊎_elim}
+use Rattle.std.proofs.Common.{List, [], ◌∷◌, length, get_or, map, AllPairs, Contains}
+use Rattle.std.specs.List.{Any, position_or_len}
 use Rattle.std.specs.Str.{bytes_eq}
 use Rattle.std.proofs.lemmas.Slice.Eq.{bytes_eq-Decides}
 use Rattle.std.proofs.Math.Nat.{lt_of_not-le}
-use Rattle.std.proofs.Math.Seq.{take-length}
-use Rattle.std.proofs.lemmas.Bool.{eqb-true, eq-eqb, false_from_ne_true}
+use Rattle.std.proofs.lemmas.Bool.{false_from_ne_true}
 use Rattle.std.proofs.lemmas.List.{get_or-map, get_or_default, length-map, same_lists}
 use Rattle.std.specs.List.Sorted.{IsPermutation}
 use Rattle.std.proofs.lemmas.Map.Keys.{IsDistinct-IsPermutation}
 use Rattle.std.proofs.lemmas.Map.Made.{AllPairs-from_IsDistinct, IsDistinct-from_AllPairs}
-use Rattle.std.proofs.lemmas.List.Sums.{position_or_len_is, fails_before_first, sum_by_more}
+use Rattle.std.proofs.lemmas.List.Sums.{position_or_len_is, fails_before_first}
 use Rattle.geo_sign.proofs.Booleans.{same_bools}
-use Rattle.flow_net.specs.Sums.{sum_below}
 use Rattle.geo_sign.specs.Rising.{IsBefore}
 use Rattle.visibility.specs.Laws.{row_index}
 use Rattle.visibility.specs.Listings.{AreOnce}
@@ -49,14 +47,6 @@ once_permuted xs ys p h =
         (λ h. (bytes_eq-Decides b a).1 (sym ((bytes_eq-Decides a b).0 h)))
         (λ h. (bytes_eq-Decides a b).1 (sym ((bytes_eq-Decides b a).0 h)))
 
--- indices of rows that stand once are equal where the rows are
-pub index_test : (rows : List (List ℕ)) (i j : ℕ) → AreOnce rows → i < length rows → j < length rows
-    → eqb i j ≡ bytes_eq (get_or rows i []) (get_or rows j [])
-index_test rows i j r li lj =
-    same_bools (eqb i j) (bytes_eq (get_or rows i []) (get_or rows j []))
-    (λ h. (bytes_eq-Decides (get_or rows i []) (get_or rows j [])).1 (ap (λ (k : ℕ). get_or rows k []) (eqb-true i j h)))
-    (λ h. eq-eqb i j (same_index rows i j r li lj ((bytes_eq-Decides (get_or rows i []) (get_or rows j [])).0 h)))
-
 -- the first index where a test holds is within the list, where it holds somewhere
 pub first_within : {X : Type 0} (p : X → Bool) (xs : List X) → Any (λ x. p x ≡ true) xs → position_or_len p xs < length xs
 first_within p xs h =
@@ -83,18 +73,6 @@ map_of_indices {X} rows xs d r e =
     (λ k c l. let m : k < length rows = omega (arith, l, length-map rows f) in
     get_or-map f rows k [] c m ∙ ap (λ (n : ℕ). get_or xs n d) (row_index_at rows k r m)
     ∙ get_or_default xs k d c (omega arith))
-
-taken : {X : Type 0} (f : X → ℕ) (xs : List X) (d : X) (n : ℕ) → n ≤ length xs
-    → sum_by f (take n xs) ≡ sum_below n (λ j. f (get_or xs j d))
-taken f xs d zero l = refl
-taken f xs d (suc n) l =
-    let e : n + 1 ≡ suc n = omega arith in
-    ap (λ (i : ℕ). sum_by f (take i xs)) (sym e) ∙ sum_by_more f xs n d (omega arith)
-    ∙ ap (λ (i : ℕ). i + f (get_or xs n d)) (taken f xs d n (omega arith))
-
--- a sum over a list is a sum over its indices
-pub sum_by-below : {X : Type 0} (f : X → ℕ) (xs : List X) (d : X) → sum_by f xs ≡ sum_below (length xs) (λ j. f (get_or xs j d))
-sum_by-below f xs d = ap (sum_by f) (sym (take-length xs)) ∙ taken f xs d (length xs) (omega arith)
 
 -- an element of a list is at an index
 pub at_index : (rows : List (List ℕ)) (row : List ℕ) (h : Contains rows row) → get_or rows h.0 [] ≡ row

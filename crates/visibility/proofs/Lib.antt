@@ -1,13 +1,9 @@
 pub mod Indices
 pub mod Listings
 pub mod Networks
-pub mod Numbers
 pub mod Amounts
 pub mod Validity
-pub mod Cuts
 pub mod Ordered
 pub mod Members
-pub mod Agreements
-pub mod AgreedAmounts
 pub mod SightCosts
 pub mod ListingAgreements

@@ -1,20 +1,26 @@
 -- Two listings of one scene judge labels and flows alike: they have the same cells and facets, a sum does not depend on the
 -- order, and the two cells of a facet are the same.
-use Rattle.std.proofs.Common.{◌≡◌, refl, ap, sym, subst, ◌∙◌}
+use Rattle.std.proofs.Common.{ℕ, ◌≡◌, refl, ap, sym, subst, ◌∙◌, List, Contains}
 use Rattle.std.specs.List.Sorted.{IsPermutation}
 use Rattle.std.proofs.lemmas.List.Sorted.{IsPermutation-sym, IsPermutation-trans, Contains-permutation, sum_by-IsPermutation}
 use Rattle.flow_net.proofs.Correspondences.{AreAlike, agree_as_networks}
 use Rattle.geo_sign.specs.Tetrahedron.{DirectedFacet, facet_at, turned}
+use Rattle.geo_sign.specs.Vertices.{Vertices}
 use Rattle.visibility.specs.Scenes.{Scene}
-use Rattle.visibility.specs.Complexes.{Complex, HasFacet, cell_of}
+use Rattle.visibility.specs.Complexes.{Complex, HasFacet, has_facet, cell_index, cell_of}
 use Rattle.visibility.specs.Votes.{IsComplexOf}
 use Rattle.visibility.specs.Cuts.{network_over}
 use Rattle.visibility.specs.Listings.{IsListingOf, AgreeInAnyOrder}
 use Rattle.visibility.specs.ListingLaws.{ListingsAgree}
-use Rattle.visibility.proofs.Agreements.{cell_there}
+use Rattle.visibility.proofs.Indices.{first_within, index_has}
 use Rattle.visibility.proofs.Listings.{rising_listing, facet_back, has_capacity}
 use Rattle.visibility.proofs.Members.{same_sum}
 use Rattle.visibility.proofs.Ordered.{one_complex}
+
+-- the first cell that has a facet is one of the list
+cell_there : (v : Vertices) (cells : List (List ℕ)) (f : DirectedFacet) → HasFacet v cells f
+    → Contains cells (cell_of v cells f)
+cell_there v cells f h = index_has cells (cell_index v cells f) (first_within (λ row. has_facet v row f) cells h)
 
 alike : (s : Scene) (c d : Complex) → IsListingOf s c → IsListingOf s d → AreAlike (network_over s c) (network_over s d)
 alike s c d h k =

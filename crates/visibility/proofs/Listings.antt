@@ -4,15 +4,13 @@
 -- capacity are the same ones, so such a facet has a capacity over both.
 use Rattle.std.proofs.Common.{ℕ, refl, ap, sym, ◌∙◌, List, Contains}
 use Rattle.std.proofs.lemmas.List.Sorted.{IsPermutation-refl, IsPermutation-sym, Contains-permutation}
-use Rattle.flow_net.specs.declared.Voted.{Voted}
 use Rattle.geo_sign.specs.Cells.{IsRisingCell}
 use Rattle.geo_sign.specs.Tetrahedron.{DirectedFacet, facet_at, turned}
 use Rattle.visibility.specs.Scenes.{Scene}
 use Rattle.visibility.specs.Complexes.{Complex, HasFacet}
 use Rattle.visibility.specs.Votes.{is_fixed, HasCapacity, IsComplexOf}
 use Rattle.visibility.specs.Listings.{AreOnce, IsListingOf}
-use Rattle.visibility.specs.ListingLaws.{RisingIsListed, EachOnce}
-use Rattle.visibility.specs.Networks.{complex_of, IsNetworkInAnyOrder, IsNetworkOf}
+use Rattle.visibility.specs.ListingLaws.{EachOnce}
 use Rattle.visibility.proofs.Indices.{once_rising, once_permuted}
 
 -- ---- the rising lists are a listing
@@ -25,18 +23,6 @@ rising_listing s complex o =
       facets_are = IsPermutation-refl complex.facets;
       same_cell = λ f h. refl;
     }
-
-pub in_any_order : (s : Scene) (voted : Voted) → IsNetworkOf s voted → IsNetworkInAnyOrder s voted
-in_any_order s voted n =
-    record {
-      listing = rising_listing s (complex_of voted) n.complex_is;
-      fixed_is = n.fixed_is;
-      sink_is = n.sink_is;
-      arcs_are = n.arcs_are;
-    }
-
-pub rising_is_listed : (s : Scene) → RisingIsListed s
-rising_is_listed s = record { complex = rising_listing s; network = in_any_order s }
 
 -- ---- each once, and nothing else
 module _ (s : Scene) (listing : Complex) (h : IsListingOf s listing) where

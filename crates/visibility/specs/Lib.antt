@@ -8,4 +8,3 @@ pub mod Listings
 pub mod Networks
 pub mod Laws
 pub mod ListingLaws
-pub mod AgreementLaws

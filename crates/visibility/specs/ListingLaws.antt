@@ -4,18 +4,11 @@
 --   EachOnce           a listing has each cell once and each facet that has a capacity once, and nothing else
 --   ListingsAgree      two listings of one scene judge labels and flows alike
 use Rattle.std.specs.Prelude.{ℕ, ◌↔◌, List, Contains}
-use Rattle.flow_net.specs.declared.Voted.{Voted}
 use Rattle.geo_sign.specs.Cells.{IsRisingCell}
 use Rattle.visibility.specs.Scenes.{Scene}
 use Rattle.visibility.specs.Complexes.{Complex}
-use Rattle.visibility.specs.Votes.{HasCapacity, IsComplexOf}
+use Rattle.visibility.specs.Votes.{HasCapacity}
 use Rattle.visibility.specs.Listings.{AreOnce, IsListingOf, AgreeInAnyOrder}
-use Rattle.visibility.specs.Networks.{IsNetworkInAnyOrder, IsNetworkOf}
-
--- of cells and facets, and of networks
-pub record RisingIsListed (s : Scene) : Type 0 where
-  pub complex : (complex : Complex) → IsComplexOf s complex → IsListingOf s complex
-  pub network : (voted : Voted) → IsNetworkOf s voted → IsNetworkInAnyOrder s voted
 
 -- what a listing has
 pub record EachOnce (s : Scene) (listing : Complex) : Type 0 where

@@ -4,8 +4,7 @@
 --   facet_index facets f     the index of a facet in the list
 --   pair_of s complex f      the number of the reverse arc
 --   arc_of s complex f       the arc of a facet
---   IsNetworkInAnyOrder      the network of the scene, its nodes and arcs in whatever order
---   IsNetworkOf s voted      the network of the scene, its cells and facets in rising order
+--   IsNetworkOf s voted      the network of the scene, its cells and facets in ascending order
 --   IsNetworkAmong v voted   the network of some scene of these vertices
 use Rattle.std.specs.Prelude.{ℕ, ◌≡◌, Option, Some, None, List, map, if◌then◌else◌}
 use Rattle.std.specs.List.{position_or_len}
@@ -19,7 +18,6 @@ use Rattle.geo_sign.specs.Vertices.{Vertices}
 use Rattle.visibility.specs.Scenes.{Scene}
 use Rattle.visibility.specs.Complexes.{Complex, cell_index, cell_of}
 use Rattle.visibility.specs.Votes.{is_fixed, capacity, sink, IsComplexOf}
-use Rattle.visibility.specs.Listings.{IsListingOf}
 
 -- the cells that the nodes stand for, and the facets that the arcs stand for
 abbrev pub complex_of : Voted → Complex
@@ -45,14 +43,7 @@ arc_of s complex f =
       pair = pair_of s complex (facet_at f);
     }
 
--- the network of the scene, with its nodes' cells and its arcs' facets as they are listed
-pub record IsNetworkInAnyOrder (s : Scene) (voted : Voted) : Type 0 where
-  pub listing : IsListingOf s (complex_of voted)
-  pub fixed_is : voted.net.fixed ≡ map (is_fixed s.vertices s.scanners) voted.cells
-  pub sink_is : voted.net.sink ≡ map (sink s) voted.cells
-  pub arcs_are : voted.net.arcs ≡ map (arc_of s (complex_of voted)) voted.facets
-
--- the same with cells and facets in rising order
+-- the network of the scene, with its cells and facets in ascending order
 pub record IsNetworkOf (s : Scene) (voted : Voted) : Type 0 where
   pub complex_is : IsComplexOf s (complex_of voted)
   pub fixed_is : voted.net.fixed ≡ map (is_fixed s.vertices s.scanners) voted.cells

@@ -1,22 +1,10 @@
-//! Laws over the definitions, as the contracts of calls that do nothing.
+//! Theorems on the definitions, as the contracts of calls that do nothing.
 
-ghost use Rattle.visibility.specs.Laws.{LabelsAgree, FlowsAgree, FlagsAreTests, AmountsAreTests, CapacitiesFit, SinksFit, LeastCostIsSmall, FacetsAreOrdered, OneComplex};
+ghost use Rattle.visibility.specs.Laws.{CapacitiesFit, SinksFit, LeastCostIsSmall, FacetsAreOrdered, OneComplex};
 ghost use Rattle.visibility.specs.Scenes.{Scene};
 ghost use Rattle.visibility.specs.Complexes.{Complex};
 ghost use Rattle.visibility.specs.Listings.{IsListingOf};
-ghost use Rattle.visibility.specs.ListingLaws.{RisingIsListed, EachOnce, ListingsAgree};
-ghost use Rattle.visibility.specs.AgreementLaws.{ComplexesAgree, ScenesAgree};
-
-/// What holds of the network by numbers holds of cells and directed facets, in whatever order they are listed, and back: labels and
-/// the test of cells that says the same cost the same, and are admissible, of the least cost and the least inside together. A flow
-/// and the amounts on facets and cells that it has are worth the same and valid together. All labels and all flows are reached so.
-/// It is for whoever solves the network and speaks of the surface.
-pub fn network_is_over_cells()
-    ensures labels { LabelsAgree }
-    ensures flows { FlowsAgree }
-    ensures tests { FlagsAreTests }
-    ensures amounts { AmountsAreTests }
-{}
+ghost use Rattle.visibility.specs.ListingLaws.{EachOnce, ListingsAgree};
 
 /// Each capacity and each sink is below 2^48 where there are at most 8,388,608 sights of weights from 1 to 255. Where each sight has
 /// at most one cell behind it, the least cost of labels is below 2^47 whatever the number of vertices: all cells outside cost their
@@ -36,18 +24,10 @@ pub fn facets_are_listed_once()
     ensures one { OneComplex }
 {}
 
-/// A scene over vertices that agree, of which the same are in at the same points and heights, has the same complex and the same
-/// network, and all labels and flows are judged alike. So vertices that are not in may be anything.
-pub fn scenes_agree()
-    ensures complexes { ComplexesAgree }
-    ensures scenes { ScenesAgree }
-{}
-
 /// Nothing depends on the order in which cells and facets are listed: over two listings of one scene all labels and flows are judged
 /// alike. A listing has each cell and each facet that has a capacity once, and the rising lists are one.
 /// It is for whoever lists a scene's cells in an order of its own.
 pub fn order_decides_nothing()
-    ensures rising { (s : Scene) → RisingIsListed s }
     ensures once { (s : Scene) (listing : Complex) → IsListingOf s listing → EachOnce s listing }
     ensures alike { ListingsAgree }
 {}

@@ -16,7 +16,7 @@ use Rattle.geo_sign.specs.RowLaws.{IsFirstLeast, IsPositive}
 use Rattle.geo_sign.proofs.Rewritings.{same_cell}
 use Rattle.geo_sign.proofs.Rotations.{rotated_after, rotated_back, both_turned}
 use Rattle.cell_laws.proofs.LinkedCells.{facet_of_same, facet_same, from_facet}
-use Rattle.cell_laws.proofs.RimLists.{one_side}
+use Rattle.cell_laws.proofs.OneFacet.{one_side}
 use Rattle.vote_net.specs.CellRows.{least_first, risen, row_from}
 use Rattle.vote_net.proofs.CellRows.{IsSideOf, least_rotated, least_of, turned_least, row_side_is, side_least}
 

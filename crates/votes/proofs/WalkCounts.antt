@@ -13,7 +13,7 @@ use Rattle.geo_sign.specs.Tetrahedron.{facet_of}
 use Rattle.cell_laws.specs.Links.{Side}
 use Rattle.cell_laws.specs.Lists.{count, one_if}
 use Rattle.cell_laws.specs.Paths.{is_that}
-use Rattle.cell_laws.proofs.RimSides.{same_side}
+use Rattle.cell_laws.proofs.OneFacet.{same_side}
 use Rattle.cell_laws.proofs.SightPaths.{that_is, that_itself, count_none}
 use Rattle.tetra_store.specs.Links.{links_of, IsLive}
 use Rattle.tetra_store.specs.Store.{Store, vertices_of}

@@ -1,15 +1,15 @@
--- What is counted, by the numbers that cells have in the store.
+-- Counts by the numbers of cells in the store.
 --
---   IsInRange v scanners sight                    it is of a data point that is inserted, and of one of the scanners
+--   IsInRange v scanners sight                    it is from an inserted data point to one of the scanners
 --   HasCellsOf s given                            the store has the Delaunay cells of the scene's points
---   added_by sight                                what a sight adds to each count
---   sum_where test sights                         what the sights that pass a test add together
+--   added_by sight                                the weight that a sight adds to each count
+--   sum_where test sights                         the total weight of the sights that pass a test
 --   is_crossed_at s p q id k                      the number has a cell, and the sight crosses its facet k
 --   is_behind_at s p q id                         the number has a cell, and it is behind the sight
 --   IsScannerCell s q id                          the cell is that of the scanner at q, and the only one
 --   AreScannerCells s scanners cells              the cells are those of the scanners, in their order
---   AreCounted s scanners sights crossed behind   the counters are what the sights add that cross each facet, and those that
---                                                 each cell is behind
+--   AreCounted s scanners sights crossed behind   the counters are the total weights of the sights that cross each facet, and
+--                                                 of those that each cell is behind
 use Rattle.std.specs.Prelude.{ℕ, ◌≡◌, ◌<◌, ◌≤◌, ◌+◌, ◌*◌, ◌++◌, ◌&&◌, Bool, true, false, List, length, slice_index}
 use Rattle.std.specs.Prelude.{slice_index_or, if◌then◌else◌}
 use Rattle.std.specs.List.{sum_by}
@@ -27,7 +27,7 @@ use Rattle.tetra_store.specs.Links.{links_of, IsLive}
 use Rattle.tetra_store.specs.Store.{Store, vertices_of}
 use Rattle.sight.specs.Walks.{IsEndCell}
 
--- it goes from an inserted data point to one of the scanners
+-- it is from an inserted data point to one of the scanners
 pub record IsInRange (v : Vertices) (scanners : List Point) (sight : Sight) : Type 0 where
   pub inserted : Has v sight.vertex
   pub data_vertex : CORNERS ≤ sight.vertex
@@ -43,7 +43,7 @@ pub record HasCellsOf (s : Store) (given : Scene) : Type 0 where
 abbrev pub added_by : Sight → ℕ
 added_by sight = sight.weight
 
--- what the sights that pass a test add together
+-- the total weight of the sights that pass a test
 abbrev pub sum_where : (Sight → Bool) → List Sight → ℕ
 sum_where test sights = sum_by (λ sight. if test sight then added_by sight else 0) sights
 
@@ -67,7 +67,7 @@ pub record AreScannerCells (s : Store) (scanners : List Point) (cells : List ℕ
   pub count : length cells ≡ length scanners
   pub at : (k : ℕ) → k < length scanners → IsScannerCell s (slice_index_or scanners k origin) (slice_index cells k)
 
--- four counts a cell, at 4 * id + k of the facet of side k, and one a cell
+-- four counts a cell, at 4 * id + k for the facet of side k, and one a cell
 pub record AreCounted (s : Store) (scanners : List Point) (sights : List Sight) (crossed behind : List ℕ) : Type 0 where
   pub crossed_fits : 4 * length s.slots ≤ length crossed
   pub behind_fits : length s.slots ≤ length behind

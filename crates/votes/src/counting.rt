@@ -1,4 +1,4 @@
-//! From sights to the network.
+//! Counts sights and makes the network.
 
 ghost use Rattle.std.specs.Prelude.{◌≡◌, ◌<◌, ◌^◌, ℕ, true, false, IfOk, All, length, slice_index_or};
 ghost use Rattle.geo_sign.specs.declared.point.TheConstants.{DATA_LIMIT};
@@ -26,20 +26,20 @@ use visibility::Scene;
 use vote_net::{Counted, assemble};
 use watch::{Silent, Watch};
 
-/// What is counted of the sights of a scene, by the numbers that cells have in the store. A number without a cell has entries that say
-/// nothing.
+/// Accumulated visibility weights of a scene's sights, by the numbers of cells in the store. A number without a cell has
+/// meaningless entries.
 #[derive(Debug, Drop)]
 pub struct Votes {
-    /// At 4 * id + side what the sights weigh together that cross the directed facet of a side.
+    /// At 4 * id + side the weight of the sights that cross the directed facet of a side.
     pub crossed: Vec<u32>,
-    /// At id what the sights weigh together that the cell is behind.
+    /// At id the weight of the sights that the cell is behind.
     pub behind: Vec<u32>,
     /// At id whether the cell has a corner or a scanner.
     pub fixed: Vec<bool>,
 }
 
 impl Votes {
-    /// What a network is made from.
+    /// Returns the counts from which a network is made.
     pub fn store_counts(&self) -> StoreCounts<'_>
         ensures crossed { result.crossed.now ≡ self.now.crossed.items }
         ensures behind { result.behind.now ≡ self.now.behind.items }
@@ -53,7 +53,7 @@ impl Votes {
     }
 }
 
-/// The counts of the sights, which are walked in another order. That order is let go of before it returns.
+/// Returns the counts of the sights, which are traversed in another order. That order is freed before it returns.
 fn counts_of<W: Watch>(
     alloc: Global,
     t: &Tetra,
@@ -73,12 +73,12 @@ fn counts_of<W: Watch>(
     count_sights(alloc, t, scanners, cells, &walked, watch)
 }
 
-/// What a scene's sights vote for and which cells are fixed, by a walk along each sight. A watch is told of the stage and of how many
-/// sights are counted.
+/// Returns a scene's accumulated visibility weights and the cells fixed outside, by a walk along each sight. Reports the stage
+/// and the number of counted sights to a progress callback.
 ///
-/// All points have to be inserted, and the cells Delaunay, as `delaunay::build` leaves them. Equal sights count as often as they were
-/// seen, each by its weight, and a scanner that sees nothing fixes its cell as well. The only error is want of memory, which also stands
-/// for 2^32 numbers of cells and more. The cells of the scanners are let go of before it returns.
+/// All points have to be inserted, and the cells Delaunay, as `delaunay::build` leaves them. Equal sights count as often as
+/// they occur, each by its weight, and a scanner that sees nothing fixes its cell as well. The only error is out of memory,
+/// also for 2^32 numbers of cells and more. The cells of the scanners are freed before it returns.
 pub fn counted<W: Watch>(
     alloc: Global,
     t: &Tetra,
@@ -104,12 +104,12 @@ pub fn counted<W: Watch>(
     })
 }
 
-/// Makes the network of the cells of a store's data points, by a walk along each sight.
+/// Builds the network of the cells of a store's data points, by a walk along each sight.
 ///
-/// All points are inserted, and the cells Delaunay, as `delaunay::build` leaves them. A sight is from an inserted data point, by its
-/// vertex number, to a scanner, by its index in `scanners`. Equal sights count as often as they were seen, each by its weight, and a
-/// scanner that sees nothing fixes its cell as well. Nodes are in the order of their cells' ascending numbers, arcs in that of their
-/// facets. The only error is out of memory, which also stands for 2^32 cells or facets and more.
+/// All points are inserted, and the cells Delaunay, as `delaunay::build` leaves them. A sight is from an inserted data point,
+/// by its vertex number, to a scanner, by its index in `scanners`. Equal sights count as often as they occur, each by its
+/// weight, and a scanner that sees nothing fixes its cell as well. Nodes are in the order of their cells' ascending numbers,
+/// arcs in that of their facets. The only error is out of memory, also for 2^32 cells or facets and more.
 pub fn count_votes(
     alloc: Global,
     t: &Tetra,

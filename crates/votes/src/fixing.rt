@@ -1,4 +1,4 @@
-//! Which cells are fixed.
+//! The cells fixed outside.
 
 ghost use Rattle.std.specs.Prelude.{◌≡◌, ◌≤◌, ℕ, IfOk, All, length};
 ghost use Rattle.geo_sign.specs.declared.point.TheConstants.{DATA_LIMIT};
@@ -16,7 +16,7 @@ use std::alloc::Global;
 use tetra_store::{CellId, Tetra};
 use tetra_walk::locate_scanner;
 
-/// The cell of each scanner.
+/// Returns the cell of each scanner.
 pub(crate) fn scanner_cells(
     alloc: Global,
     t: &Tetra,
@@ -33,7 +33,7 @@ pub(crate) fn scanner_cells(
     Ok(cells)
 }
 
-/// Whether a cell with these vertices has a corner of the box.
+/// Returns whether a cell with these vertices has a corner of the box.
 fn has_corner(v: [u32; 4]) -> bool
     ensures { result ≡ has_corner_in (tetrahedron_from v) }
 {
@@ -41,7 +41,7 @@ fn has_corner(v: [u32; 4]) -> bool
     a < CORNERS || b < CORNERS || c < CORNERS || d < CORNERS
 }
 
-/// For each cell by its number whether it has a corner of the box.
+/// Returns for each cell by its number whether it has a corner of the box.
 fn corner_flags(alloc: Global, t: &Tetra) -> Result<Vec<bool>, NoMemory>
     ensures count { IfOk result (λ flags. length t.now.slots ≤ length flags.items) }
     ensures at { IfOk result (λ flags. (id : ℕ) → IsLive (links_of t.now.slots) id → flag_at flags.items id ≡ has_corner_in ((links_of t.now.slots).at id)) }
@@ -54,7 +54,7 @@ fn corner_flags(alloc: Global, t: &Tetra) -> Result<Vec<bool>, NoMemory>
     Ok(flags)
 }
 
-/// For each cell by its number whether it has a corner of the box or a scanner, whose cells are given.
+/// Returns for each cell by its number whether it has a corner of the box or a scanner, given the cells of the scanners.
 pub(crate) fn fixed_cells(
     alloc: Global,
     t: &Tetra,

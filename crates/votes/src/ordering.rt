@@ -1,7 +1,7 @@
-//! An order of sights in which those that follow each other go through much the same cells: from near vertices to near scanners. Cells
-//! that are near each other mostly have numbers near each other, so a sight is a place on a sheet, the number of its scanner's cell one
-//! way and that of a cell at its vertex the other, and the order is that of the curve of Morton (1966) on this sheet: whatever part of
-//! the cells a cache has room for, most sights stay for a while in one that is as small.
+//! Sorts sights so that successive ones cross much the same cells: from near vertices to near scanners. Near cells mostly have
+//! near numbers, so a sight is a point in the plane whose coordinates are the number of its scanner's cell and that of a cell
+//! at its vertex, and the order is that of the curve of Morton (1966) in this plane: for any cache size, most sights stay for a
+//! while in a set of cells that fits.
 
 ghost use Rattle.std.specs.Prelude.{◌≡◌, IfOk, All, length, map};
 ghost use Rattle.std.specs.List.Sorted.{IsPermutation};
@@ -22,7 +22,7 @@ struct Keyed {
     sight: Sight,
 }
 
-/// The 32 lowest bits of a number with a free place over each.
+/// Spreads the 32 lowest bits of a number, with a zero bit above each.
 fn spread(number: u64) -> u64 {
     let mut bits = number & 0xffff_ffff;
     bits = (bits | bits << 16) & 0x0000_ffff_0000_ffff;
@@ -32,7 +32,7 @@ fn spread(number: u64) -> u64 {
     (bits | bits << 1) & 0x5555_5555_5555_5555
 }
 
-/// A sight with its key: the bits of the numbers of its scanner's cell and of a cell at its vertex in turn.
+/// Returns a sight with its key: the interleaved bits of the numbers of its scanner's cell and of a cell at its vertex.
 fn with_key(t: &Tetra, scanners: &[Point], cells: &[CellId], sight: Sight) -> Keyed
     requires sight { IsInRange (vertices_of t.now) scanners.now sight }
     requires cells { length cells.now ≡ length scanners.now }
@@ -47,7 +47,7 @@ fn with_key(t: &Tetra, scanners: &[Point], cells: &[CellId], sight: Sight) -> Ke
     }
 }
 
-/// The sights with their keys.
+/// Returns the sights with their keys.
 fn with_keys(
     alloc: Global,
     t: &Tetra,
@@ -66,14 +66,14 @@ fn with_keys(
     Ok(list)
 }
 
-/// Puts sights in the order of their keys.
+/// Sorts sights by their keys.
 fn sort(list: &mut [Keyed])
     ensures { IsPermutation list.old list.new }
 {
     list.sort_unstable_by_key(|item| item.key);
 }
 
-/// The sights with their keys, in the order of these.
+/// Returns the sights with their keys, sorted by these.
 fn sorted(
     alloc: Global,
     t: &Tetra,
@@ -90,7 +90,7 @@ fn sorted(
     Ok(list)
 }
 
-/// The sights alone.
+/// Returns the sights without their keys.
 fn without_keys(alloc: Global, list: &[Keyed]) -> Result<Vec<Sight>, NoMemory>
     ensures { IfOk result (λ sights. sights.items ≡ map the_sight list.now) }
 {
@@ -101,7 +101,7 @@ fn without_keys(alloc: Global, list: &[Keyed]) -> Result<Vec<Sight>, NoMemory>
     Ok(sights)
 }
 
-/// The sights in such an order. The keys are let go of before it returns.
+/// Returns the sights in this order. The keys are freed before it returns.
 pub(crate) fn ordered(
     alloc: Global,
     t: &Tetra,

@@ -1,4 +1,4 @@
-//! Counting along sights.
+//! Accumulates weights along sights.
 
 ghost use Rattle.std.specs.Prelude.{◌≡◌, ◌<◌, ◌≤◌, ◌+◌, ◌*◌, ◌^◌, ℕ, [], All, IfOk, IsTrue, IsFalse, length, slice_index};
 ghost use Rattle.geo_sign.specs.declared.point.TheConstants.{DATA_LIMIT};
@@ -19,21 +19,22 @@ use tetra_store::{CellId, MOST_CELLS, Tetra};
 use tetra_walk::behind;
 use watch::{Stage, Watch, tell};
 
-/// What sights add to each directed facet that they cross, at 4 * id + side, and to each cell that they are before, at its id.
+/// Accumulated visibility weights: `crossed[4 * id + side]` per directed facet, and `behind[id]` for the cell behind each
+/// sight's point.
 #[derive(Drop)]
 pub(crate) struct Counts {
     pub crossed: Vec<u32>,
     pub behind: Vec<u32>,
 }
 
-/// What a sight adds to each facet that it crosses and to the cell behind it: its weight.
+/// Returns the weight that a sight adds to each facet that it crosses and to the cell behind it.
 fn added_by(sight: Sight) -> u32
     ensures { result ≡ added_by_sight sight }
 {
     sight.weight
 }
 
-/// A sight to be walked along, from its vertex to its scanner in the cell `end`, and what it adds.
+/// A sight to be traversed, from its vertex to its scanner in the cell `end`, with the weight that it adds.
 #[derive(Clone, Copy)]
 struct Line {
     vertex: u32,
@@ -42,7 +43,7 @@ struct Line {
     added: u32,
 }
 
-/// The line of a sight.
+/// Returns the line of a sight.
 fn line_of(scanners: &[Point], cells: &[CellId], sight: Sight) -> Line
     requires scanner { sight.scanner < length scanners.now }
     requires cell { sight.scanner < length cells.now }
@@ -56,7 +57,7 @@ fn line_of(scanners: &[Point], cells: &[CellId], sight: Sight) -> Line
     }
 }
 
-/// The index of the counter of the facet through which a walk came into the cell that it has reached.
+/// Returns the index of the counter of the facet through which a walk entered its current cell.
 fn counter_of(along: &SightWalk<'_>) -> usize
     requires { 4 * along.now.at + along.now.entered < 2 ^ 64 }
     ensures { result ≡ 4 * along.now.at + along.now.entered }
@@ -64,7 +65,7 @@ fn counter_of(along: &SightWalk<'_>) -> usize
     4 * along.end_cell().number() + along.entered()
 }
 
-/// Goes on along a sight by one facet and adds an amount for it. No exactly where none is left.
+/// Moves on along a sight by one facet and adds an amount for it. Returns false exactly if none is left.
 fn count_next(t: &Tetra, along: &mut SightWalk<'_>, added: u32, crossed: &mut [u32]) -> bool
     requires store { along.old.store ≡ t.now }
     requires fits { 4 * length t.now.slots ≤ length crossed.old }
@@ -81,7 +82,7 @@ fn count_next(t: &Tetra, along: &mut SightWalk<'_>, added: u32, crossed: &mut [u
     }
 }
 
-/// Adds for each facet that a line crosses what it adds.
+/// Adds the weight of a line to each facet that it crosses.
 fn count_crossed(t: &Tetra, line: &Line, crossed: &mut [u32])
     requires delaunay { IsDelaunay (vertices_of t.now) (links_of t.now.slots) }
     requires line { IsLineIn t.now line.now }
@@ -94,7 +95,7 @@ fn count_crossed(t: &Tetra, line: &Line, crossed: &mut [u32])
     while count_next(t, &mut along, line.added, crossed) {}
 }
 
-/// The same for two lines. They are gone along in turn, so that the one goes on while the other waits for memory.
+/// Does the same for two lines, in turn, so that one advances while the other waits for memory.
 fn count_crossed_by_two(t: &Tetra, one: &Line, other: &Line, crossed: &mut [u32])
     requires delaunay { IsDelaunay (vertices_of t.now) (links_of t.now.slots) }
     requires one { IsLineIn t.now one.now }
@@ -115,7 +116,7 @@ fn count_crossed_by_two(t: &Tetra, one: &Line, other: &Line, crossed: &mut [u32]
     }
 }
 
-/// Adds for the cell behind a line what it adds.
+/// Adds the weight of a line to the cell behind it.
 fn count_behind(t: &Tetra, line: &Line, before: &mut [u32])
     requires delaunay { IsDelaunay (vertices_of t.now) (links_of t.now.slots) }
     requires line { IsLineIn t.now line.now }
@@ -128,7 +129,7 @@ fn count_behind(t: &Tetra, line: &Line, before: &mut [u32])
     before[id.number()] += line.added;
 }
 
-/// Adds what two lines add, for each facet that they cross and for the cells behind them.
+/// Adds the weights of two lines, to each facet that they cross and to the cells behind them.
 fn count_two(t: &Tetra, one: &Line, other: &Line, crossed: &mut [u32], before: &mut [u32])
     requires delaunay { IsDelaunay (vertices_of t.now) (links_of t.now.slots) }
     requires one { IsLineIn t.now one.now }
@@ -147,9 +148,9 @@ fn count_two(t: &Tetra, one: &Line, other: &Line, crossed: &mut [u32], before: &
     count_behind(t, other, before);
 }
 
-/// Adds for each directed facet the weights of the sights that cross it, and for each cell of those that it is behind, where the cells
-/// of the scanners are known. It takes memory for the counters alone, four of 32 bits for each number of a cell and one more. A watch is
-/// told of the stage and of how many sights are counted.
+/// Adds up for each directed facet the weights of the sights that cross it, and for each cell those of the sights that it is
+/// behind, given the cells of the scanners. Allocates memory for the counters alone, four of 32 bits for each number of a cell
+/// and one more. Reports the stage and the number of counted sights to a progress callback.
 pub(crate) fn count_sights<W: Watch>(
     alloc: Global,
     t: &Tetra,

@@ -1,8 +1,8 @@
-//! Who watches a long piece of work, as a trait: told are the stage that begins, of how many points or sights it is where that
-//! is known, and how many of them are done.
+//! The trait of progress callbacks: they receive the stage that begins, its number of points or sights if that is known, and
+//! how many of them are done.
 //!
-//! A watch is told and answers nothing. The trait has no clause, so no contract above knows more of a watch than that its calls are
-//! safe and return, and what a call with a watch promises it promises whatever watches. `Silent` is a watch that does nothing.
+//! A callback returns nothing. The trait has no contract, so callers know only that its calls are safe and return, and the
+//! result of a call with a callback does not depend on the callback. `Silent` is a callback that does nothing.
 #![tactic(auto)]
 
 mod pieces;

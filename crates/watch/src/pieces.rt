@@ -1,12 +1,12 @@
-//! How often a watch is told.
+//! The frequency of calls.
 
 use crate::watch::Watch;
 
-/// How many points, sights or nodes are done from one word to the next.
+/// The number of points, sights or nodes between two calls.
 pub const PIECE: usize = 4096;
 
-/// Tells that so many are done, where that is a whole number of pieces: so whoever calls it for each of them takes no time
-/// that can be measured.
+/// Calls back with the number that is done, if that is a multiple of `PIECE`: so calling this for each item takes no measurable
+/// time.
 pub fn tell<W: Watch>(watch: &mut W, count: usize) {
     if count % PIECE == 0 {
         watch.done(count as u64);

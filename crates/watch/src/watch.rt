@@ -1,35 +1,36 @@
-//! The trait, and the watch that does nothing.
+//! The trait, and the callback that does nothing.
 
 /// A stage of the work on a scan that may take long.
 #[derive(Clone, Copy, Debug, PartialEq, Eq)]
 pub enum Stage {
-    /// Points are inserted, which makes cells.
+    /// Points are inserted, which creates cells.
     Cells,
-    /// Sights are walked along, which votes for cells.
+    /// Sights are traversed, which accumulates the visibility weights of cells.
     Sights,
-    /// A largest flow is found. Counted is from how many nodes amounts were moved on, a node as often as that was, so nobody knows
-    /// how many there will be.
+    /// A maximum flow is computed. The count is the number of times that amounts were moved on from a node, so its total is
+    /// unknown.
     Flow,
-    /// What that has found is gone on from in rounds, which are counted. Nobody knows how many there will be.
+    /// The flow is completed in rounds, which are counted. Their number is unknown.
     Rounds,
-    /// The surfaces of a sweep are found and handed on.
+    /// The surfaces of a sweep are computed and passed on.
     Surfaces,
-    /// Points that were asked for are found among the cells.
+    /// Query points are located among the cells.
     Answers,
-    /// No stage of these is to come, or none for now.
+    /// None of these stages follows, or none for now.
     Over,
 }
 
-/// Who watches. What is done with a call is its own affair: it changes no answer of those who tell.
+/// A progress callback. Its effects cannot change the result of the call that reports to it.
 pub trait Watch {
-    /// A stage begins, of so many points, sights or surfaces, or of 0 where nobody knows of how many nodes or rounds.
+    /// Receives the start of a stage, with its number of points, sights or surfaces, or 0 if the number of nodes or rounds is
+    /// unknown.
     fn stage(&mut self, stage: Stage, of: u64);
 
-    /// Of the stage that began last, so many are done.
+    /// Receives the number of items of the current stage that are done.
     fn done(&mut self, count: u64);
 }
 
-/// Nobody watches.
+/// The callback that does nothing.
 #[derive(Clone, Copy, Debug, PartialEq, Eq)]
 pub struct Silent;
 

@@ -37,12 +37,12 @@ def commented(line: bytes) -> bytes:
 
 
 def of_lines(count: int) -> bytes:
-    """The tetrahedron with so many comments that its header has this many lines."""
+    """Returns the tetrahedron with comments up to this number of lines in its header."""
     return TETRAHEDRON.replace(b'1.0\n', b'1.0\n' + b'comment\n' * (count - 12), 1)
 
 
 def with_rows(tails: list[str], line: str) -> bytes:
-    """The tetrahedron with other ends of its rows, and another line for its property `scanner`."""
+    """Returns the tetrahedron with other ends of its rows, and another line for its property `scanner`."""
     lines = TETRAHEDRON.decode().split('\n')
     lines[12:16] = [row.rsplit(' ', 1)[0] + ' ' + tail for row, tail in zip(lines[12:16], tails)]
     lines[6] = line

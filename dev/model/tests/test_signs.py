@@ -1,4 +1,4 @@
-"""The exact signs: worked values, the tie rule beside real heights, and identities and bounds on random numbers."""
+"""The exact signs: worked values, symbolic perturbation compared with real heights, and identities and bounds on random numbers."""
 from __future__ import annotations
 
 import random

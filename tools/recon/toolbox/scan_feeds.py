@@ -1,9 +1,9 @@
-"""Scans of every kind that recon-scan reads, handed on row by row without an output file.
+"""Scans of every kind that recon-scan reads, passed on row by row without an output file.
 
-A row is the words of a point, x, y and z, of the number of its scanner (or of several, parted by spaces, where the file has a
+A row is the tokens of a point, x, y and z, of the number of its scanner (or of several, parted by spaces, where the file has a
 list of them), and of its weight where the file has one.
 
-Names: Fed (what a scan was found to be) · feed (hands on the rows of a scan, and answers a Fed).
+Names: Fed (what a scan was found to be) · feed (passes on the rows of a scan, and returns a Fed).
 """
 from __future__ import annotations
 
@@ -29,7 +29,7 @@ class Fed:
 
 
 def picker(source: Source, receive: Receive) -> Callable[[list[str]], None]:
-    """Keeps of each row only the words that are told of above, and hands them on."""
+    """Keeps only the tokens described above of each row, and passes them on."""
     places = [*source.point, source.scanner] + ([] if source.weight is None else [source.weight])
     pick = itemgetter(*places)
     if not source.has_lists:

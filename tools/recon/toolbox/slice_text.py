@@ -16,7 +16,7 @@ ARE_FOUR = re.compile(r'([0-9]{1,10}) (-?[0-9]{1,19}) (-?[0-9]{1,19}) ([1-9][0-9
 
 
 def wanted(lines: Lines, form: Any, what: str) -> re.Match:
-    """The parts of the next line, which is of this form."""
+    """Returns the parts of the next line, which is of this form."""
     line = lines.next_line()
     if line is None:
         raise Refusal(f'cut: {what} is missing behind line {lines.number}')
@@ -44,7 +44,7 @@ def read_loops(path: str) -> Iterator[list[tuple[str, ...]]]:
 
 
 class Frame:
-    """The unit and the origin of the scan. `word` is a coordinate in the scan's own numbers, exact but for a last digit."""
+    """The scale and the origin of the scan. `word` is a coordinate in the scan's own numbers, exact but for a last digit."""
 
     def __init__(self, options: Any) -> None:
         self.unit = whole(options.unit or '1', 'unit', 1, 1000000)

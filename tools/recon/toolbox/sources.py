@@ -1,6 +1,6 @@
 """Points on their way out of files, whatever these are: what all sources of points have in common.
 
-A source hands rows of words to a receiver (sieve.Passage), one a point. Names: Source · scan_columns (those of points that have a
+A source passes rows of tokens to a receiver (sieve.Passage), one a point. Names: Source · scan_columns (those of points that have a
 place and a scanner alone) · READING (the options that say how files are read) · refuse_others.
 """
 from __future__ import annotations
@@ -17,7 +17,7 @@ READING = ('table', 'index', 'positions', 'position', 'images', 'normals', 'far'
 
 
 def scan_columns() -> list[Property]:
-    """The columns of points that have a place and a scanner alone."""
+    """Returns the columns of points that have a place and a scanner alone."""
     return [Property(axis, 'double') for axis in 'xyz'] + [Property('scanner', 'int')]
 
 
@@ -38,15 +38,15 @@ class Source:
         self.counts: dict[str, int] = {'not finite': 0}
 
     def run(self, receiver: Passage) -> None:
-        """Hands on all rows."""
+        """Passes on all rows."""
         raise NotImplementedError
 
     def read(self) -> str:
-        """What was read, in words."""
+        """Returns what was read, in words."""
         return f'read {number_of(self.count, "point")} of {self.what}'
 
     def remark(self) -> str:
-        """What else is to be said at the end."""
+        """Returns what else is to be said at the end."""
         return ''
 
 

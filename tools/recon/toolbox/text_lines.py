@@ -24,7 +24,7 @@ class Lines:
                 raise Refusal(f'this is no text of numbers but {kind}')
 
     def next_line(self) -> str | None:
-        """The next line without its end, or None at the end of the file."""
+        """Returns the next line without its end, or None at the end of the file."""
         line = self.file.readline(LONGEST)
         if not line:
             return None
@@ -39,7 +39,7 @@ class Lines:
         return line.decode('latin-1').rstrip('\r\n')
 
     def next_words(self) -> list[str] | None:
-        """The words of the next line that has any, or None at the end of the file."""
+        """Returns the tokens of the next line that has any, or None at the end of the file."""
         line = self.next_line()
         while line is not None and not line.split():
             line = self.next_line()

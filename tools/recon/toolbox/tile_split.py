@@ -1,6 +1,6 @@
 """A scan of any size cut into tiles, row by row, so that only a sample and some rows of each tile are held.
 
-The scan is read twice: for a sample, and to hand out its rows. A tile that has more points than the sample let expect is cut
+The scan is read twice: for a sample, and to distribute its rows. A tile that has more points than the sample let expect is cut
 again by its own file.
 
 Names: Wanted (what a split is asked for) · split (cuts a scan into a folder's files) · Tile (a tile that was written).
@@ -61,8 +61,8 @@ class LateFile:
 
 
 class Wanted:
-    """What a split is asked for: the most points of a tile and how many of them are handed in, the overlap (or None, and as
-    many mean spacings), the unit, and how the scan is read."""
+    """The request for a split: the most points of a tile and how many of them may come from outside, the overlap (or None, and as
+    many mean spacings), the scale, and how the scan is read."""
 
     def __init__(self, points: int, through: int, overlap: float | None, spacings: float, unit: int, reading: Any) -> None:
         self.points, self.through, self.given, self.spacings = points, through, overlap, spacings
@@ -129,7 +129,7 @@ class Tile:
         self.row(words)
 
     def feed(self, receive: Callable[[Sequence[str]], None]) -> None:
-        """Hands on the tile's own rows again, as they came."""
+        """Passes on the tile's own rows again, unchanged."""
         scanners, left = list(self.scanners), self.own
 
         def row(words: Sequence[str]) -> None:
@@ -154,7 +154,7 @@ class AsItStands:
 
 
 class Splitter:
-    """A scan that was looked at, and is cut. `handed` are the rows that were handed in to some tile from outside."""
+    """A scan that was looked at, and is cut. `handed` are the rows that were passed to some tile from outside."""
 
     def __init__(self, wanted: Wanted, fed: Fed, look: Look) -> None:
         self.wanted, self.fed, self.look = wanted, fed, look
@@ -166,7 +166,7 @@ class Splitter:
         return divide(core, [point for point, _ in sample.rows], sample.share(), self.wanted.overlap, limit)
 
     def from_outside(self, core: Core) -> dict[Row, None]:
-        """The rows from outside a tile's box that it gets: those farthest out, and those of the sample whose sights enter the
+        """Returns the rows from outside a tile's box that it gets: those farthest out, and those of the sample whose sights enter the
         box round its points."""
         near: list[Row] = []
         outside: list[Row] = []
@@ -178,12 +178,12 @@ class Splitter:
         return dict.fromkeys(chain(ends, islice(entering, self.wanted.through)))
 
     def enters(self, box: list[tuple[float, float]], row: Row) -> bool:
-        """Whether a sight of a row meets a box."""
+        """Returns whether a sight of a row meets a box."""
         point, words = row
         return any(is_met(box, point, self.places[int(word)]) for word in words[3].split())
 
     def finished(self, tile: Tile) -> Tile:
-        """The tile, whose file ends with what it gets from outside and its scanners."""
+        """Returns the tile, whose file ends with what it gets from outside and its scanners."""
         for row in self.from_outside(tile.core):
             self.handed[row] = True
             tile.row(row[1])
@@ -205,7 +205,7 @@ class Splitter:
         return [self.finished(tile) for tile in tiles.values()]
 
     def parted(self, tile: Tile) -> list[Tile]:
-        """The tiles that a tile is cut into which has too many points, or the tile itself."""
+        """Returns the tiles that a tile is cut into which has too many points, or the tile itself."""
         if tile.writer.count <= self.wanted.points:
             return [tile]
         sample = Sample()
@@ -221,7 +221,7 @@ class Splitter:
 
 
 def is_met(box: list[tuple[float, float]], a: Sequence[float], b: Sequence[float]) -> bool:
-    """Whether the line from a to b meets a box."""
+    """Returns whether the line from a to b meets a box."""
     first, last = 0.0, 1.0
     for (low, high), start, end in zip(box, a, b):
         along = end - start
@@ -258,7 +258,7 @@ def looked_at(scan: list[str], wanted: Wanted) -> tuple[Fed, Look]:
 
 
 def write_folder(scan: list[str], folder: str, wanted: Wanted, options: Any) -> tuple[Fed, dict[str, Any]]:
-    """Writes the tiles of a scan, `tiles.json`, the points handed in, and the jobs into a folder, and answers what was read
+    """Writes the tiles of a scan, `tiles.json`, the points from outside, and the jobs into a folder, and returns what was read
     and what `tiles.json` says."""
     fed, look = looked_at(scan, wanted)
     spacing = mean_spacing([point for point, _ in look.sample.rows], look.sample.share())
@@ -279,7 +279,7 @@ def write_folder(scan: list[str], folder: str, wanted: Wanted, options: Any) -> 
 
 @contextlib.contextmanager
 def whole_folder(path: str) -> Iterator[str]:
-    """A folder that is filled beside its place and moved there when it is whole; one that is there is refused."""
+    """Yields a folder that is filled beside its place and moved there when it is whole; one that is there is refused."""
     path = path.rstrip('/')
     if os.path.lexists(path):
         raise Refusal(f'{path} is there already: tiles of two splits do not mix')

@@ -1,8 +1,8 @@
 """What the programs of tools/ share on the command line.
 
-The words are names first and then options `key=value`, as those of `recon`; --help prints the head of the program's file.
+The arguments are names first and then options `key=value`, as those of `recon`; --help prints the head of the program's file.
 A program says one line and ends with 0 (3 where it wrote no point), or says on standard error why not and ends with 1 (2 where
-the words are wrong).
+the arguments are invalid).
 """
 from __future__ import annotations
 
@@ -19,12 +19,12 @@ PACKAGE = os.path.dirname(os.path.dirname(os.path.abspath(__file__)))
 
 
 def field(key: str) -> str:
-    """The name under which an option is kept; `from` is a word of the language."""
+    """Returns the name under which an option is kept; `from` is a word of the language."""
     return 'from_' if key == 'from' else key
 
 
 class NotUnderstood(Exception):
-    """The words are none of the program's."""
+    """Invalid arguments."""
 
 
 class Report:
@@ -44,7 +44,7 @@ class Options:
 
 
 def with_equals(words: Sequence[str], keys: tuple[str, ...]) -> Iterator[tuple[str, bool]]:
-    """The words, with `--unit 1000`, `--unit=1000`, `--seen` and `--no-flips` as unit=1000, seen=yes and flips=no, and whether each was
+    """Returns the arguments, with `--unit 1000`, `--unit=1000`, `--seen` and `--no-flips` as unit=1000, seen=yes and flips=no, and whether each was
     written so."""
     rest = iter(words)
     for word in rest:
@@ -65,7 +65,7 @@ def with_equals(words: Sequence[str], keys: tuple[str, ...]) -> Iterator[tuple[s
 
 
 def read_words(words: list[str], name_count: int | None, keys: tuple[str, ...]) -> tuple[list[str], Options]:
-    """The names, and the options behind them. Without a count all words that are no option are names."""
+    """Returns the names, and the options after them. Without a count all arguments that are no option are names."""
     names: list[str] = []
     options = Options(keys)
     for word, is_option in with_equals(words, keys):
@@ -86,7 +86,7 @@ def read_words(words: list[str], name_count: int | None, keys: tuple[str, ...]) 
 
 
 def program_name() -> str:
-    """The name of the program that runs: `recon-scan` for the module `recon.scan`, however it was started."""
+    """Returns the name of the program that runs: `recon-scan` for the module `recon.scan`, however it was started."""
     folder, base = os.path.split(os.path.abspath(sys.argv[0]))
     stem, ending = os.path.splitext(base)
     return 'recon-' + stem.replace('_', '-') if folder == PACKAGE and ending == '.py' else base
@@ -125,7 +125,7 @@ def told(status: int, line: str) -> int:
 
 
 def three(text: str, what: str) -> list[str]:
-    """The three numbers of `X,Y,Z`, as words. One of over 300 digits before its point, or of as many zeros after it, raises
+    """Returns the three numbers of `X,Y,Z`, as words. One of over 300 digits before its point, or of as many zeros after it, raises
     ArithmeticError."""
     words = text.split(',')
     if len(words) != 3 or not all(map(IS_NUMBER, words)):
@@ -136,7 +136,7 @@ def three(text: str, what: str) -> list[str]:
 
 
 def whole(text: str, key: str, least: int, most: int) -> int:
-    """The value of an option, a whole number."""
+    """Returns the value of an option, a whole number."""
     value = count_in(text, most)
     if value is None or value < least:
         raise Refusal(f'{key}= is a whole number from {least} to {most:,}')
@@ -144,14 +144,14 @@ def whole(text: str, key: str, least: int, most: int) -> int:
 
 
 def yes(value: str | None, key: str) -> bool:
-    """Whether a switch is on."""
+    """Returns whether a switch is on."""
     if value not in (None, 'yes', 'no'):
         raise Refusal(f'{key} is yes or no')
     return value == 'yes'
 
 
 def left_out(counts: dict[str, int]) -> str:
-    """What was left out, in words."""
+    """Returns what was left out, in words."""
     parts = [f'{count} {what}' for what, count in counts.items() if count]
     return ', '.join(parts) or 'nothing'
 

@@ -1,4 +1,4 @@
-//! `build` beside the plain list of cells, on sets of points with ties and without.
+//! `build` compared with the brute-force oracle, on sets of points with and without ties.
 
 use super::points::{are_data, are_distinct, cube, rows, scattered};
 use delaunay::build;
@@ -7,7 +7,8 @@ use geo_tie::plain_cells;
 use std::alloc::{AllocError, Global};
 use std::test::Fail;
 
-/// Whether `build` gives the cells that the plain list has. No, too, where points are not distinct data points or too many.
+/// Returns whether `build` gives the same cells as the brute-force oracle. Returns false, too, if points are not distinct data
+/// points or too many.
 fn agrees(alloc: Global, points: &[Point]) -> Result<bool, AllocError> {
     if points.len() > 48 || !are_data(points) || !are_distinct(points) {
         return Ok(false);
@@ -18,7 +19,7 @@ fn agrees(alloc: Global, points: &[Point]) -> Result<bool, AllocError> {
     Ok(found.as_slice() == plain.as_slice())
 }
 
-/// Points from three lists of coordinates.
+/// Returns points from three lists of coordinates.
 fn grid(alloc: Global, xs: &[i64], ys: &[i64], zs: &[i64]) -> Result<Vec<Point>, AllocError> {
     let mut points = Vec::new(alloc);
     for x in xs {
@@ -54,7 +55,7 @@ fn example_of_delaunay(rt: HostRuntime) -> Result<(), Fail> {
     Ok(())
 }
 
-/// Whether it does on so many points without a pattern, in a plane if they are to be flat.
+/// Returns whether they agree on this number of pseudo-random points, in a plane if they are flat.
 fn agrees_on_scattered(alloc: Global, count: u64, flat: bool) -> Result<bool, Fail> {
     let points = scattered(alloc, 0, count, flat)?;
     Ok(agrees(alloc, &points)?)
@@ -70,7 +71,7 @@ fn points_in_general_position_are_built(rt: HostRuntime) -> Result<(), Fail> {
     Ok(())
 }
 
-/// Fails where a set of points is not built so.
+/// Fails if a set of points does not agree.
 fn expect(agrees: bool) -> Result<(), Fail> {
     if agrees {
         Ok(())
@@ -89,7 +90,7 @@ fn points_of_a_plane_are_built(rt: HostRuntime) -> Result<(), Fail> {
     expect(agrees_on_scattered(rt.alloc(), 48, true)?)
 }
 
-/// Whether it does on points from three lists of coordinates, of which there are so many.
+/// Returns whether they agree on points from three lists of coordinates, of this number.
 fn agrees_on_grid(
     alloc: Global,
     xs: &[i64],
@@ -101,13 +102,13 @@ fn agrees_on_grid(
     Ok(points.len() == count && agrees(alloc, &points)?)
 }
 
-/// Whether two coordinates have one size.
+/// Returns whether two coordinates have the same absolute value.
 fn has_one_size_twice(point: &Point) -> bool {
     let [x, y, z] = [point.x(), point.y(), point.z()].map(i32::unsigned_abs);
     x == y || y == z || z == x
 }
 
-/// The points whose coordinates have the sizes 10, 20 and 40 in any order, which lie on one sphere.
+/// Returns the points whose coordinates have the absolute values 10, 20 and 40 in any order, which lie on one sphere.
 fn sphere(alloc: Global) -> Result<Vec<Point>, AllocError> {
     let sizes = [-40, -20, -10, 10, 20, 40];
     let mut points = grid(alloc, &sizes, &sizes, &sizes)?;
@@ -115,13 +116,13 @@ fn sphere(alloc: Global) -> Result<Vec<Point>, AllocError> {
     Ok(points)
 }
 
-/// Whether it does on these.
+/// Returns whether they agree on these.
 fn agrees_on_sphere(alloc: Global) -> Result<bool, Fail> {
     let points = sphere(alloc)?;
     Ok(points.len() == 48 && agrees(alloc, &points)?)
 }
 
-/// Whether it does on the corners of a cube.
+/// Returns whether they agree on the corners of a cube.
 fn agrees_on_cube(alloc: Global) -> Result<bool, Fail> {
     let points = cube(alloc, 100)?;
     Ok(points.len() == 8 && agrees(alloc, &points)?)

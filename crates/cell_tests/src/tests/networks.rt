@@ -1,5 +1,5 @@
-//! `count_votes` over built cells beside the plain network, on scans whose sights go through other cells, stand twice, or have scanners
-//! in one cell; and `facets` of the cells that it tells beside the plain mesh, where each free cell is inside.
+//! `count_votes` over built cells compared with the brute-force oracle, on scans whose sights cross other cells, are repeated,
+//! or have scanners in one cell; and `facets` of these cells compared with the oracle's mesh, with each free cell inside.
 
 ghost use Rattle.std.specs.Prelude.{◌≤◌, All, IsTrue, length};
 ghost use Rattle.flow_net.specs.Weights.{IsSightList};
@@ -21,7 +21,7 @@ use surface::facets;
 use visibility::Scene;
 use votes::count_votes;
 
-/// Whether a sight is of one of the points, from one of the scanners.
+/// Returns whether a sight is of one of the points, from one of the scanners.
 fn is_in_range(scene: &Scene<'_>, sight: Sight) -> bool
     ensures { IsTrue result → IsSightOf scene.now.points.now scene.now.scanners.now sight }
 {
@@ -30,14 +30,14 @@ fn is_in_range(scene: &Scene<'_>, sight: Sight) -> bool
         && (sight.scanner as usize) < scene.scanners.len()
 }
 
-/// Whether all sights are.
+/// Returns whether all sights are.
 fn are_in_range(scene: &Scene<'_>) -> bool
     ensures { IsTrue result → All (IsSightOf scene.now.points.now scene.now.scanners.now) scene.now.sights.now }
 {
     scene.sights.iter().all(|sight| is_in_range(scene, *sight))
 }
 
-/// Whether two networks are equal, with what their nodes and arcs stand for.
+/// Returns whether two networks are equal, with their nodes and arcs.
 fn is_same(alloc: Global, one: &Voted, other: &Voted) -> Result<bool, AllocError> {
     let arcs = one.net.arcs.to_vec(alloc)?;
     let other_arcs = other.net.arcs.to_vec(alloc)?;
@@ -50,14 +50,14 @@ fn is_same(alloc: Global, one: &Voted, other: &Voted) -> Result<bool, AllocError
     )
 }
 
-/// A network, and the mesh where each free cell is inside.
+/// A network, and the mesh with each free cell inside.
 #[derive(Drop)]
 struct Answers {
     voted: Voted,
     mesh: Mesh,
 }
 
-/// Whether two are equal.
+/// Returns whether two are equal.
 fn are_same(alloc: Global, one: &Answers, other: &Answers) -> Result<bool, AllocError> {
     Ok(
         is_same(alloc, &one.voted, &other.voted)?
@@ -66,8 +66,8 @@ fn are_same(alloc: Global, one: &Answers, other: &Answers) -> Result<bool, Alloc
     )
 }
 
-/// Those of linked cells, by walks along the sights. None where points are not distinct data points or too many, or sights out of range or
-/// of no weight.
+/// Returns those of linked cells, by walks along the sights, or `None` if points are not distinct data points or too many, or
+/// sights are out of range or have weight 0.
 fn walked(alloc: Global, scene: &Scene<'_>) -> Result<Option<Answers>, AllocError> {
     if scene.points.len() > 48 || !are_sights(scene.sights) {
         return Ok(None);
@@ -89,7 +89,7 @@ fn walked(alloc: Global, scene: &Scene<'_>) -> Result<Option<Answers>, AllocErro
     }))
 }
 
-/// Those by tests of each facet against each sight.
+/// Returns those by tests of each facet against each sight.
 fn tested(alloc: Global, scene: &Scene<'_>) -> Result<Answers, AllocError>
     requires few { length scene.now.points.now ≤ 48 }
     requires sights { IsSightList scene.now.sights.now }
@@ -106,7 +106,7 @@ fn tested(alloc: Global, scene: &Scene<'_>) -> Result<Answers, AllocError>
     Ok(Answers { voted, mesh })
 }
 
-/// Whether both are the same.
+/// Returns whether both are equal.
 fn agrees(
     alloc: Global,
     points: &[Point],
@@ -122,7 +122,7 @@ fn agrees(
     Ok(are_same(alloc, &walked, &tested)?)
 }
 
-/// Whether it is where the first of four points is seen once more, through their cell, by a sight of this weight.
+/// Returns whether they agree if the first of four points is seen once more, through their cell, by a sight with this weight.
 fn agrees_on_four(alloc: Global, weight: u32) -> Result<bool, Fail> {
     let points = four_points()?;
     let scanners = five_scanners(point(-1000, -1000, -1000)?)?;
@@ -138,7 +138,7 @@ fn four_points_and_a_sight_through_their_cell_agree(rt: HostRuntime) -> Result<(
     }
 }
 
-/// A scanner beyond each point, farther along one axis than along the others.
+/// Returns a scanner beyond each point, farther along one axis than along the others.
 fn beyond(alloc: Global, points: &[Point]) -> Result<Vec<Point>, Fail> {
     let mut scanners = Vec::new(alloc);
     for p in points {
@@ -148,7 +148,7 @@ fn beyond(alloc: Global, points: &[Point]) -> Result<Vec<Point>, Fail> {
     Ok(scanners)
 }
 
-/// Each of eight points from the scanner of its number, twice, and from the one of the point opposite to it.
+/// Returns each of eight points from the scanner of its number, twice, and from the one of the opposite point.
 fn from_both_sides(alloc: Global) -> Result<Vec<Sight>, AllocError> {
     let mut sights = Vec::new(alloc);
     for k in 0..8 {
@@ -163,7 +163,7 @@ fn from_both_sides(alloc: Global) -> Result<Vec<Sight>, AllocError> {
     Ok(sights)
 }
 
-/// Whether it is where the corners of a cube are seen so.
+/// Returns whether they agree if the corners of a cube are seen so.
 fn agrees_on_cube(alloc: Global) -> Result<bool, Fail> {
     let points = cube(alloc, 100)?;
     let scanners = beyond(alloc, &points)?;
@@ -180,7 +180,7 @@ fn the_cube_seen_from_both_sides_agrees(rt: HostRuntime) -> Result<(), Fail> {
     }
 }
 
-/// Three sights of each of 24 points. The last scanner sees nothing, and the first sees some points twice.
+/// Returns three sights of each of 24 points. The last scanner sees nothing, and the first sees some points twice.
 fn three_of_each(alloc: Global) -> Result<Vec<Sight>, AllocError> {
     let mut sights = Vec::new(alloc);
     for k in 0..24 {
@@ -195,7 +195,7 @@ fn three_of_each(alloc: Global) -> Result<Vec<Sight>, AllocError> {
     Ok(sights)
 }
 
-/// Whether it is where scattered points are seen so.
+/// Returns whether they agree if scattered points are seen so.
 fn agrees_on_scattered(alloc: Global) -> Result<bool, Fail> {
     let points = scattered(alloc, 0, 24, false)?;
     let scanners = scattered(alloc, 100, 6, false)?;

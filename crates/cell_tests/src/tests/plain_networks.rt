@@ -1,4 +1,4 @@
-//! What no contract says of plain networks: the mesh of four points.
+//! A property of the brute-force oracle that no contract states: the mesh of four points.
 
 ghost use Rattle.std.specs.Prelude.{IfOk};
 ghost use Rattle.flow_net.specs.Flows.{IsAdmissible};
@@ -23,7 +23,7 @@ pub fn all_free_inside(alloc: Global, net: &Net) -> Result<Labels, NoMemory>
     })
 }
 
-/// The mesh of four points whose one cell is inside.
+/// Returns the mesh of four points whose one cell is inside.
 fn mesh_of_four(alloc: Global) -> Result<Mesh, Fail> {
     let points = four_points()?;
     let scanners = five_scanners(point(2000, 2000, 2000)?)?;

@@ -1,4 +1,4 @@
-//! Points, scanners and scenes that the tests share, and the cells of a store.
+//! Fixtures: points, scanners and scenes, and the cells of a store.
 ghost use Rattle.std.specs.Prelude.{◌≡◌, ◌<◌, ℕ, IfOk, IsTrue, length, get_or};
 ghost use Rattle.geo_sign.specs.declared.point.TheConstants.{DATA_LIMIT};
 ghost use Rattle.geo_sign.specs.Point.{origin, IsWithin};
@@ -10,7 +10,7 @@ use std::test::Fail;
 use tetra_store::Tetra;
 use visibility::Scene;
 
-/// Whether all are data points.
+/// Returns whether all are data points.
 pub fn are_data(points: &[Point]) -> bool
     ensures { IsTrue result → (k : ℕ) → k < length points.now → IsWithin DATA_LIMIT (get_or points.now k origin) }
 {
@@ -23,7 +23,7 @@ pub fn are_data(points: &[Point]) -> bool
     true
 }
 
-/// Whether no point before the one at an index is equal to it.
+/// Returns whether no point before the one at an index is equal to it.
 fn is_first(points: &[Point], k: usize) -> bool
     requires { k < length points.now }
     ensures { IsTrue result → (j : ℕ) → j < k → get_or points.now j origin ≡ get_or points.now k origin → ⊥ }
@@ -36,7 +36,7 @@ fn is_first(points: &[Point], k: usize) -> bool
     true
 }
 
-/// Whether no two are equal.
+/// Returns whether no two are equal.
 pub fn are_distinct(points: &[Point]) -> bool
     ensures { IsTrue result → (j k : ℕ) → j < length points.now → k < length points.now → get_or points.now j origin ≡ get_or points.now k origin → j ≡ k }
 {
@@ -48,14 +48,14 @@ pub fn are_distinct(points: &[Point]) -> bool
     true
 }
 
-/// The point with these coordinates.
+/// Returns the point with these coordinates.
 pub fn point(x: i64, y: i64, z: i64) -> Result<Point, Fail>
     ensures { IfOk result (IsWithin DATA_LIMIT) }
 {
     Ok(Point::data(x, y, z).ok_or("a point")?)
 }
 
-/// Four points round the origin.
+/// Returns four points around the origin.
 pub fn four_points() -> Result<[Point; 4], Fail> {
     Ok([
         point(100, 100, 100)?,
@@ -65,7 +65,7 @@ pub fn four_points() -> Result<[Point; 4], Fail> {
     ])
 }
 
-/// A scanner beyond each of the four points, and a fifth one.
+/// Returns a scanner beyond each of the four points, and a fifth one.
 pub fn five_scanners(fifth: Point) -> Result<[Point; 5], Fail> {
     Ok([
         point(1000, 1000, 1000)?,
@@ -76,7 +76,8 @@ pub fn five_scanners(fifth: Point) -> Result<[Point; 5], Fail> {
     ])
 }
 
-/// The sights of the four points from the scanners beyond them, of weight 1, and one of the first point from a scanner.
+/// Returns the sights of the four points from the scanners beyond them, with weight 1, and one of the first point from another
+/// scanner.
 pub fn five_sights(scanner: u32, weight: u32) -> [Sight; 5] {
     let sight = |vertex, scanner, weight| Sight {
         vertex,
@@ -92,7 +93,7 @@ pub fn five_sights(scanner: u32, weight: u32) -> [Sight; 5] {
     ]
 }
 
-/// The scene of these where a vote is 8 and smoothing 1.
+/// Returns the scene of these with visibility weight 8 and area weight 1.
 pub fn scene_of<'a>(
     points: &'a [Point],
     scanners: &'a [Point],
@@ -108,7 +109,7 @@ pub fn scene_of<'a>(
     })
 }
 
-/// A number from -1000 to 1000 by its index, the same at each run.
+/// Returns a number from -1000 to 1000 by its index, the same at each run.
 fn number(index: u64) -> i64 {
     let mixed = index
         .wrapping_mul(6_364_136_223_846_793_005)
@@ -117,7 +118,7 @@ fn number(index: u64) -> i64 {
         % 2001).wrapping_sub(1000)
 }
 
-/// Points with numbers of no pattern as coordinates, from an index on, in the plane z = 0 if they are to be flat.
+/// Returns points with pseudo-random coordinates, from an index on, in the plane z = 0 if they are flat.
 pub fn scattered(alloc: Global, first: u64, count: u64, flat: bool) -> Result<Vec<Point>, Fail> {
     let mut points = Vec::new(alloc);
     for i in 0..count {
@@ -128,7 +129,7 @@ pub fn scattered(alloc: Global, first: u64, count: u64, flat: bool) -> Result<Ve
     Ok(points)
 }
 
-/// The corners of a cube round the origin.
+/// Returns the corners of a cube around the origin.
 pub fn cube(alloc: Global, size: i64) -> Result<Vec<Point>, Fail> {
     let sides = [size.wrapping_neg(), size];
     let mut points = Vec::new(alloc);
@@ -142,7 +143,7 @@ pub fn cube(alloc: Global, size: i64) -> Result<Vec<Point>, Fail> {
     Ok(points)
 }
 
-/// The vertices of each cell in rising order, the rows in rising order.
+/// Returns the sorted vertex tuple of each cell, in ascending order.
 pub fn rows(alloc: Global, store: &Tetra) -> Result<Vec<[u32; 4]>, AllocError> {
     let mut rows = Vec::new(alloc);
     let mut cells = store.cells();

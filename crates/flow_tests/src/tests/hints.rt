@@ -1,4 +1,4 @@
-//! Hints at networks whose largest flows are known, and the levels of a flow. Nothing is promised of them but that they come.
+//! Hints for networks with known maximum flows, and the levels of a flow. Contracts state only that they are returned.
 
 ghost use Rattle.std.specs.Prelude.{◌≡◌, length, IfOk};
 
@@ -8,7 +8,7 @@ use flow_net::{Flow, NetBuilder, Sequence};
 use std::alloc::Global;
 use std::test::Fail;
 
-/// Capacities of three nodes with the sinks 1, 3 and 5, the largest flow, and which nodes reach a sink with room.
+/// Capacities of three nodes with the sinks 1, 3 and 5, the maximum flow, and which nodes reach a sink with residual capacity.
 #[derive(Clone, Copy)]
 struct Known {
     name: &'static str,
@@ -42,14 +42,14 @@ const SMALL: [Known; 3] = [
     },
 ];
 
-/// Whether a hint is as known.
+/// Returns whether a hint is as known.
 fn is_as_known(hint: &Hint, known: &Known) -> bool {
     hint.flow.on_arc.as_slice() == known.on_arc.as_slice()
         && hint.flow.on_sink.as_slice() == known.on_sink.as_slice()
         && hint.levels.is_found.as_slice() == known.is_found.as_slice()
 }
 
-/// Whether the hint at a network is.
+/// Returns whether the hint at a network is.
 fn is_hinted(alloc: Global, known: &Known) -> Result<bool, Fail> {
     let net = three_nodes(alloc, 3, known.capacities)?;
     let hint = find_hint(alloc, &net)?.ok_or("no hint")?;
@@ -66,7 +66,7 @@ fn small_networks_have_their_largest_flows(rt: HostRuntime) -> Result<(), Fail> 
     Ok(())
 }
 
-/// What is listed at sinks before a hint is found, and what comes there.
+/// What is listed at sinks before a hint is computed, and the flow into them.
 const LISTED: [(&str, [u64; 3], [u64; 3]); 4] = [
     ("all is listed", [1, 1, 0], [1, 1, 0]),
     ("all is listed at one node", [0, 2, 0], [0, 2, 0]),
@@ -74,7 +74,7 @@ const LISTED: [(&str, [u64; 3], [u64; 3]); 4] = [
     ("more than comes", [5, 7, 9], [1, 1, 0]),
 ];
 
-/// Whether the hint above a list leaves so much at the sinks.
+/// Returns whether the hint above a list leaves these amounts at the sinks.
 fn is_hinted_above(alloc: Global, first: [u64; 3], on_sink: [u64; 3]) -> Result<bool, Fail> {
     let net = three_nodes(alloc, 3, (2, 2, 2))?;
     let found = find_hint_above(alloc, &net, &first)?.ok_or("no hint")?;
@@ -93,7 +93,7 @@ fn no_less_comes_to_a_sink_than_is_listed(rt: HostRuntime) -> Result<(), Fail> {
 
 const WIDE: u64 = 4_294_967_296;
 
-/// Capacities that have risen from 10, 1 and 1, and what comes to the sinks.
+/// Capacities increased from 10, 1 and 1, and the flow into the sinks.
 const RISEN: [(&str, (u64, u64, u64), [u64; 3]); 5] = [
     ("nothing has risen", (10, 1, 1), [1, 1, 0]),
     ("a pair has risen", (10, 2, 2), [1, 2, 0]),
@@ -102,8 +102,8 @@ const RISEN: [(&str, (u64, u64, u64), [u64; 3]); 5] = [
     ("more is given", (WIDE, 2, 2), [1, 2, 0]),
 ];
 
-/// Whether the hint that goes on over these capacities leaves so much at the sinks. Ten are given to the node with sink 1, of which as
-/// much as the arc there takes comes to the node with sink 3.
+/// Returns whether the hint that resumes with these capacities leaves these amounts at the sinks. Ten enter the node with sink
+/// 1; of these, the capacity of the arc flows to the node with sink 3.
 fn is_hinted_on(
     alloc: Global,
     capacities: (u64, u64, u64),
@@ -126,7 +126,7 @@ fn a_hint_goes_on_where_capacities_have_risen(rt: HostRuntime) -> Result<(), Fai
     Ok(())
 }
 
-/// A flow over three nodes.
+/// Returns a flow over three nodes.
 fn flow_of(alloc: Global, on_arc: [u64; 3], on_sink: [u64; 3]) -> Result<Flow, Fail>
     ensures arcs { IfOk result (λ flow. length flow.on_arc ≡ 3) }
     ensures sinks { IfOk result (λ flow. length flow.on_sink ≡ 3) }
@@ -137,8 +137,8 @@ fn flow_of(alloc: Global, on_arc: [u64; 3], on_sink: [u64; 3]) -> Result<Flow, F
     })
 }
 
-/// Whether these nodes reach a sink with room where this flows, and node 0 at level 1 if it does. Levels count arcs between free nodes:
-/// node 2 is fixed and has none.
+/// Returns whether these nodes reach a sink with residual capacity by this flow, and node 0 has level 1 if it does. Levels
+/// count arcs between free nodes: node 2 is fixed and has none.
 fn is_at_levels(
     alloc: Global,
     on_arc: [u64; 3],
@@ -175,13 +175,13 @@ fn levels_count_the_arcs_to_a_sink_with_room(rt: HostRuntime) -> Result<(), Fail
 
 const LIMIT: u64 = 1_152_921_504_606_846_976;
 
-/// Whether there is a hint where all capacities are the limit.
+/// Returns whether there is a hint if all capacities are the limit.
 fn has_hint_at_the_limit(alloc: Global) -> Result<bool, Fail> {
     let net = three_nodes(alloc, 3, (LIMIT, LIMIT, LIMIT))?;
     Ok(find_hint(alloc, &net)?.is_some())
 }
 
-/// Whether there is one where a node is given the limit five times.
+/// Returns whether there is one if a node receives the limit five times.
 fn has_hint_beyond(alloc: Global) -> Result<bool, Fail> {
     let mut builder = NetBuilder::new(alloc);
     let outer = builder.add_fixed()?;

@@ -1,4 +1,5 @@
-//! Networks of many kinds, where the value of the flow is the cost of the labels, and flows that go on where capacities rise.
+//! Networks of many kinds, in which the value of the flow is the cost of the labels, and flows that are resumed after
+//! capacities increase.
 
 use super::networks::{Kind, random_net, row_with_sights};
 use flow_net::{Net, NetBuilder, cost, value};
@@ -21,7 +22,8 @@ const MIDDLE: Kind = Kind {
     times: 1,
 };
 
-/// No flow is worth more than any labels cost, so where a flow is worth as much as labels cost both are best.
+/// Returns whether the value of a flow is the cost of the labels. No flow has a larger value than the cost of any labels, so
+/// both are optimal then.
 fn is_worth_its_cut(alloc: Global, net: &Net) -> Result<bool, Fail> {
     let (flow, labels) = minimum_cut(alloc, net)?;
     Ok(is_valid_flow(alloc, net, &flow)? && value(net, &flow) == cost(net, &labels))
@@ -79,7 +81,7 @@ const KINDS: [(&str, Kind); 7] = [
     ),
 ];
 
-/// Whether fifteen networks of a kind are.
+/// Tests fifteen networks of a kind.
 fn are_worth_their_cuts(alloc: Global, state: &mut u64, kind: Kind) -> Result<bool, Fail> {
     for _ in 0..15u32 {
         let net = random_net(alloc, state, kind)?;
@@ -90,7 +92,7 @@ fn are_worth_their_cuts(alloc: Global, state: &mut u64, kind: Kind) -> Result<bo
     Ok(true)
 }
 
-/// Whether ten rows of this smoothing are.
+/// Tests ten rows with this area weight.
 fn are_rows_worth_their_cuts(alloc: Global, state: &mut u64, smooth: u64) -> Result<bool, Fail> {
     for _ in 0..10u32 {
         let net = row_with_sights(alloc, state, smooth)?;
@@ -117,8 +119,8 @@ fn as_much_flows_as_the_labels_cost(rt: HostRuntime) -> Result<(), Fail> {
     Ok(())
 }
 
-/// What a largest flow of one network is worth in another, where the same arcs have no less capacity: gone on from with what was kept
-/// of it, and without.
+/// Returns the values of a maximum flow of one network in another, with the same arcs and no smaller capacities: resumed with
+/// its preflow, and without.
 fn gone_on(alloc: Global, before: &Net, net: &Net) -> Result<[u128; 2], Fail> {
     let (mut flow, _labels, mut kept) = minimum_cut_and_preflow(alloc, before)?;
     if !is_valid_flow(alloc, net, &flow)? {
@@ -129,7 +131,7 @@ fn gone_on(alloc: Global, before: &Net, net: &Net) -> Result<[u128; 2], Fail> {
     Ok([value(net, &above.0), value(net, &flow)])
 }
 
-/// Whether both are worth as much as a flow that is found anew, on a network whose capacities double.
+/// Returns whether both values are that of a flow that is computed from scratch, on a network whose capacities double.
 fn goes_on(alloc: Global, state: &mut u64) -> Result<bool, Fail> {
     let mut again = *state;
     let before = random_net(alloc, state, MIDDLE)?;

@@ -5,7 +5,7 @@ use flow_net::{Arc, Net, NetBuilder};
 use std::alloc::{AllocError, Global};
 use std::test::Fail;
 
-/// An arc of this capacity.
+/// Returns an arc of this capacity.
 pub const fn arc(from: usize, to: usize, cap: u64, pair: Option<usize>) -> Arc {
     Arc {
         from,
@@ -15,8 +15,8 @@ pub const fn arc(from: usize, to: usize, cap: u64, pair: Option<usize>) -> Arc {
     }
 }
 
-/// The free nodes 0 and 1, joined by arcs there and back, and the fixed node 2, from which an arc leads to node 0. The capacities
-/// are those of the arc from node 2, of the arc there and of the one back, and the sinks 1, `sink` and 5.
+/// Returns the free nodes 0 and 1, joined by arcs in both directions, and the fixed node 2, with an arc to node 0. The
+/// capacities are those of the arc from node 2, of the arc from 0 to 1 and of its reverse, and the sinks 1, `sink` and 5.
 pub fn three_nodes(alloc: Global, sink: u64, capacities: (u64, u64, u64)) -> Result<Net, Fail>
     ensures nodes { IfOk result (λ net. length net.fixed ≡ 3) }
     ensures arcs { IfOk result (λ net. length net.arcs ≡ 3) }
@@ -35,7 +35,7 @@ pub fn three_nodes(alloc: Global, sink: u64, capacities: (u64, u64, u64)) -> Res
     Ok(Net::new(fixed, sinks, arcs))
 }
 
-/// A number below `bound` from a linear congruential generator.
+/// Returns a number below `bound` from a linear congruential generator.
 fn random(state: &mut u64, bound: u64) -> u64 {
     *state = state
         .wrapping_mul(6_364_136_223_846_793_005)
@@ -43,13 +43,13 @@ fn random(state: &mut u64, bound: u64) -> u64 {
     (*state >> 33).checked_rem(bound).unwrap_or(0)
 }
 
-/// How a random network is made.
+/// The parameters of a random network.
 #[derive(Clone, Copy)]
 pub struct Kind {
     pub nodes: u64,
-    /// So many pairs of nodes get arcs, as far as arcs may join them.
+    /// The number of pairs of nodes that get arcs, if arcs may join them.
     pub pairs: u64,
-    /// One of so many nodes is fixed.
+    /// One node in this number is fixed.
     pub one_fixed_of: u64,
     /// Each sink is below this.
     pub sinks_below: u64,
@@ -58,7 +58,7 @@ pub struct Kind {
     pub times: u64,
 }
 
-/// A random network of a kind. Of one state it has the same arcs whatever their capacities are multiplied by.
+/// Returns a random network of a kind. The same state gives the same arcs for any factor of the capacities.
 pub fn random_net(alloc: Global, state: &mut u64, kind: Kind) -> Result<Net, AllocError> {
     let mut builder = NetBuilder::new(alloc);
     for _ in 0..kind.nodes {
@@ -82,15 +82,15 @@ pub fn random_net(alloc: Global, state: &mut u64, kind: Kind) -> Result<Net, All
     Ok(builder.build())
 }
 
-/// Adds to a number of a list.
+/// Adds to an entry of a list.
 fn add(list: &mut Vec<u64>, index: usize, amount: u64) {
     if index < list.len() {
         list[index] = list[index].saturating_add(amount);
     }
 }
 
-/// A row of 40 free nodes between two fixed ones, with sights from both ends that end anywhere in it, each of weight 8, and
-/// capacities of `smooth` beside them.
+/// Returns a row of 40 free nodes between two fixed ones, with sights from both ends that end anywhere in it, each with weight
+/// 8, and capacities increased by `smooth`.
 pub fn row_with_sights(alloc: Global, state: &mut u64, smooth: u64) -> Result<Net, Fail> {
     let mut sinks = vec![in alloc; 0u64; 42]?;
     let mut there = vec![in alloc; smooth; 41]?;
@@ -115,7 +115,7 @@ pub fn row_with_sights(alloc: Global, state: &mut u64, smooth: u64) -> Result<Ne
     joined_in_a_row(alloc, &sinks, &there, &back)
 }
 
-/// A row of nodes with these sinks and capacities, of which the first and the last are fixed.
+/// Returns a row of nodes with these sinks and capacities; the first and the last are fixed.
 fn joined_in_a_row(alloc: Global, sinks: &[u64], there: &[u64], back: &[u64]) -> Result<Net, Fail> {
     let last = sinks.len().saturating_sub(1);
     let mut builder = NetBuilder::new(alloc);

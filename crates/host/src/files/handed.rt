@@ -1,4 +1,4 @@
-//! The files that a host in memory is made with.
+//! The initial files of a host in memory.
 ghost use Rattle.std.specs.Prelude.{◌≡◌, ◌<◌, ℕ, IfOk, length};
 ghost use Rattle.host.specs.Files.{files_of, names_of_files, room_at, FilesApart};
 ghost use Rattle.host.specs.Handed.{files_handed, names_handed, NamesApart, IsMadeOf};
@@ -8,7 +8,7 @@ use crate::NoMemory;
 use crate::store::Store;
 use std::alloc::Global;
 
-/// A file with room, of what was handed in.
+/// Returns a file with capacity, from the pair that was passed.
 fn kept_file(
     alloc: Global,
     handed: (String, Option<Vec<u8>>),
@@ -31,7 +31,7 @@ fn kept_file(
     }
 }
 
-/// The files with room for `room` bytes each, where `None` stands for a name that has no file yet.
+/// Returns the files with a capacity of `room` bytes each; `None` is a name that has no file yet.
 #[tactic(auto, using(crate::proofs::Handed::kept))]
 pub fn kept_files(
     alloc: Global,

@@ -1,11 +1,11 @@
-//! What is done with the file at a place of the list.
+//! Operations on the file at an index of the list.
 ghost use Rattle.std.specs.Prelude.{◌≡◌, ◌≢◌, ◌≤◌, ◌<◌, ◌-◌, ◌+◌, ◌^◌, ℕ, [], true, ◌↔◌, Some, None, IsTrue, OnSome, IfSome, IfNone, Contains, length, take, drop, min};
 ghost use Rattle.host.specs.State.{file_bytes, with_file, with_more};
 ghost use Rattle.host.specs.Files.{files_of, name_at, names_of_files, exists_at, bytes_at, FilesApart, room_at, KeepsPlaces};
 
 use super::MemFile;
 
-/// The place of the first file of this name.
+/// Returns the index of the first file of this name.
 pub fn place_of_name(files: &[MemFile], name: &str) -> Option<usize>
     ensures found { IfSome result (λ place. (place < length files.now) × (name_at files.now place ≡ name.now)) }
     ensures none { IfNone result ((place : ℕ) → place < length files.now → name_at files.now place ≢ name.now) }
@@ -20,7 +20,7 @@ pub fn place_of_name(files: &[MemFile], name: &str) -> Option<usize>
     None
 }
 
-/// The place of the file of this name, if there is such a file.
+/// Returns the index of the file of this name, if there is such a file.
 #[tactic(auto, using(crate::proofs::FileList::found_file))]
 pub fn find_file(files: &[MemFile], name: &str) -> Option<usize>
     requires { FilesApart files.now }
@@ -33,7 +33,7 @@ pub fn find_file(files: &[MemFile], name: &str) -> Option<usize>
     }
 }
 
-/// No more bytes go into a file.
+/// Returns whether the file is at its capacity.
 #[tactic(auto, using(crate::proofs::FileList::at_place))]
 pub fn is_full(files: &[MemFile], at: usize) -> bool
     requires there { exists_at files.now at ≡ true }
@@ -43,7 +43,7 @@ pub fn is_full(files: &[MemFile], at: usize) -> bool
     files[at].store.room <= files[at].store.bytes.len()
 }
 
-/// Copies the next bytes of a file, at most a piece.
+/// Copies the next bytes of a file, at most `piece`.
 #[tactic(auto, using(crate::proofs::FileList::at_place))]
 pub fn read_file(
     files: &[MemFile],
@@ -61,7 +61,7 @@ pub fn read_file(
     read_part(files[at].store.bytes.as_slice(), start, piece, buffer)
 }
 
-/// Copies the next bytes, at most a piece.
+/// Copies the next bytes, at most `piece`.
 fn read_part(bytes: &[u8], start: usize, piece: usize, buffer: &mut [u8]) -> usize
     requires { start ≤ length bytes.now }
     ensures count { result ≡ min piece (min (length buffer.old) (length bytes.now - start)) }
@@ -73,7 +73,7 @@ fn read_part(bytes: &[u8], start: usize, piece: usize, buffer: &mut [u8]) -> usi
     count
 }
 
-/// Makes the file at a place, or empties it.
+/// Creates the file at an index, or empties it.
 pub fn empty_file(files: &mut [MemFile], at: usize)
     requires at { at < length files.old }
     requires apart { FilesApart files.old }
@@ -86,7 +86,7 @@ pub fn empty_file(files: &mut [MemFile], at: usize)
     file.exists = true;
 }
 
-/// Adds a front of the bytes to a file, at most a piece, as far as there is room.
+/// Appends a prefix of the bytes to a file, at most `piece`, as far as its capacity allows.
 #[tactic(auto, using(crate::proofs::FileList::exists_lt))]
 pub fn add_to_file(files: &mut [MemFile], at: usize, bytes: &[u8], piece: usize) -> usize
     requires there { exists_at files.old at ≡ true }

@@ -1,5 +1,6 @@
-//! `ask IN POINTS OUT`, its words, answer and lines: whether points are inside or outside the best surface of a scan. It stands on
-//! `solid_query`, which reads the points and finds their labels, and on `merge`, which finds the distinct points of the scan.
+//! `ask IN POINTS OUT`, its arguments, answer and lines: classifies points as inside or outside the best surface of a scan.
+//! Depends on `solid_query`, which reads the points and finds their labels, and on `merge`, which finds the distinct points of
+//! the scan.
 ghost use Rattle.std.specs.List.{flat_map};
 ghost use Rattle.std.specs.Prelude.{ℕ, map, string_bytes, ◌≡◌, false, IfOk, ◌≤◌, length, All, count_by, Some, ◌++◌, OnOk};
 ghost use Rattle.geo_sign.specs.Point.{IsWithin};
@@ -33,15 +34,15 @@ use watch::Watch;
 /// The names of `ask IN POINTS OUT`.
 #[derive(Clone, Copy, Debug)]
 pub struct AskNames<'a> {
-    /// The scan that is read.
+    /// The input scan.
     pub input: &'a str,
-    /// The points that are asked for.
+    /// The query points.
     pub points: &'a str,
-    /// The file that the labels are written to.
+    /// The output file for the labels.
     pub output: &'a str,
 }
 
-/// What the words behind `ask` ask for.
+/// Parses the arguments after `ask`.
 pub fn ask_command(words: &[String]) -> Option<Request<'_>>
     ensures { IsCommand result (asked_by ask_of (named 3 all_keys (map string_bytes words.now))) }
 {
@@ -59,7 +60,7 @@ pub fn ask_command(words: &[String]) -> Option<Request<'_>>
     Some(Request::Command(Command::Ask(names, options)))
 }
 
-/// Reads the scan and, where it is not refused, the points, and makes the answer of `ask`. Nothing is written or said.
+/// Reads the scan and, unless it is rejected, the points, and returns the answer of `ask`. Nothing is written or printed.
 pub fn reply_to_ask<'a, H: Host, W: Watch>(
     alloc: Global,
     host: &mut H,
@@ -83,7 +84,7 @@ pub fn reply_to_ask<'a, H: Host, W: Watch>(
     }
 }
 
-/// Reads the points, and answers to a scan.
+/// Reads the points, and returns the answer to a scan.
 fn reply_to_scan<'a, H: Host, W: Watch>(
     alloc: Global,
     host: &mut H,
@@ -112,7 +113,7 @@ fn reply_to_scan<'a, H: Host, W: Watch>(
     Ok(reply_to_points(alloc, scan, bytes, names.output, options, watch)?)
 }
 
-/// The answer to a scan and the bytes of the points' file, which are let go before the scan is solved.
+/// Returns the answer to a scan and the bytes of the points' file, which are freed before the scan is solved.
 fn reply_to_points<'a, W: Watch>(
     alloc: Global,
     scan: &Scan,
@@ -135,7 +136,7 @@ fn reply_to_points<'a, W: Watch>(
     }
 }
 
-/// The labels of points, and the line.
+/// Returns the labels of points, and the line.
 fn reply_to_queries<'a, W: Watch>(
     alloc: Global,
     scan: &Scan,
@@ -168,7 +169,7 @@ fn reply_to_queries<'a, W: Watch>(
     })
 }
 
-/// How many distinct points a scan has.
+/// Returns the number of distinct points of a scan.
 fn point_count(alloc: Global, scan: &Scan) -> Result<usize, NoMemory>
     ensures { IfOk result (λ count. count ≡ length (points_of (shown_of scan.now))) }
 {
@@ -176,14 +177,14 @@ fn point_count(alloc: Global, scan: &Scan) -> Result<usize, NoMemory>
     Ok(merged.points.len())
 }
 
-/// How many labels are inside.
+/// Returns the number of labels that are inside.
 fn inside_count(labels: &[bool]) -> u64
     ensures { result ≡ count_by (λ label. label) labels.now }
 {
     labels.iter().filter(|label| **label).count() as u64
 }
 
-/// What is said where the file of the points is longer than the limit.
+/// Returns the line for a file of points that is longer than the limit.
 #[tactic(auto, unfolding(crate::specs::Ask::too_long_points_line))]
 pub fn line_of_too_long_points() -> &'static [u8]
     ensures { result.now ≡ too_long_points_line }
@@ -191,7 +192,7 @@ pub fn line_of_too_long_points() -> &'static [u8]
     b"refused 19 too_long points\n"
 }
 
-/// What is said of points that are refused. Want of memory is no refusal that is said.
+/// Returns the line for points that are rejected. Out of memory has no line.
 pub fn line_of_query_refusal(alloc: Global, why: QueryRefusal) -> Result<Vec<u8>, NoMemory>
     ensures { IfOk result (λ line. query_refusal_line why ≡ Some line.items) }
 {
@@ -215,7 +216,7 @@ pub fn line_of_query_refusal(alloc: Global, why: QueryRefusal) -> Result<Vec<u8>
     }
 }
 
-/// The line of `ask`: the number of points of the scan, of those that were asked for, and of those that are inside.
+/// Returns the line of `ask`: the numbers of points of the scan, of query points, and of those that are inside.
 #[tactic(auto, unfolding(crate::specs::Ask::ask_line))]
 pub fn line_of_ask(alloc: Global, points: u64, asked: u64, inside: u64) -> Result<Vec<u8>, NoMemory>
     ensures { IfOk result (λ line. line.items ≡ ask_line points asked inside) }
@@ -228,7 +229,7 @@ pub fn line_of_ask(alloc: Global, points: u64, asked: u64, inside: u64) -> Resul
     Ok(line)
 }
 
-/// The text of labels: their number, and a line for each.
+/// Returns the text of labels: their number, and a line for each.
 #[tactic(auto, unfolding(crate::specs::Ask::labels_text))]
 pub fn text_of_labels(alloc: Global, labels: &[bool]) -> Result<Vec<u8>, NoMemory>
     ensures { IfOk result (λ text. text.items ≡ labels_text labels.now) }
@@ -240,7 +241,7 @@ pub fn text_of_labels(alloc: Global, labels: &[bool]) -> Result<Vec<u8>, NoMemor
     Ok(text)
 }
 
-/// Adds a line for each label.
+/// Appends a line for each label.
 fn push_labels(text: &mut Vec<u8>, labels: &[bool]) -> Result<(), NoMemory>
     ensures { OnOk result (text.new.items ≡ text.old.items ++ flat_map label_line labels.now) }
 {
@@ -250,7 +251,7 @@ fn push_labels(text: &mut Vec<u8>, labels: &[bool]) -> Result<(), NoMemory>
     Ok(())
 }
 
-/// Adds the line of a label.
+/// Appends the line of a label.
 #[tactic(auto, unfolding(crate::specs::Ask::label_line))]
 fn push_label(text: &mut Vec<u8>, label: bool) -> Result<(), NoMemory>
     ensures { OnOk result (text.new.items ≡ text.old.items ++ label_line label) }

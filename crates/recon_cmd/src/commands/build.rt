@@ -1,5 +1,5 @@
-//! `build IN MESH CERT`, its words, answer and lines: the best surface of a scan, and the certificate that shows it best. It stands
-//! on `recon_build`, which finds both, and on `mesh_ply` and `cert_text`, which print them.
+//! `build IN MESH CERT`, its arguments, answer and lines: the best surface of a scan, and the certificate of its optimality.
+//! Depends on `recon_build`, which computes both, and on `mesh_ply` and `cert_text`, which print them.
 ghost use Rattle.std.specs.Prelude.{map, string_bytes, ◌≡◌, false, IfOk, length};
 ghost use Rattle.cert_text.specs.Certificates.{claim_of, IsWellFormed};
 ghost use Rattle.mesh_ply.specs.Meshes.{IsMesh};
@@ -32,15 +32,15 @@ use watch::Watch;
 /// The names of `build IN MESH CERT`.
 #[derive(Clone, Copy, Debug)]
 pub struct BuildNames<'a> {
-    /// The scan that is read.
+    /// The input scan.
     pub input: &'a str,
-    /// The file that the mesh is written to.
+    /// The output file for the mesh.
     pub mesh: &'a str,
-    /// The file that the certificate is written to.
+    /// The output file for the certificate.
     pub cert: &'a str,
 }
 
-/// What the words behind `build` ask for.
+/// Parses the arguments after `build`.
 pub fn build_command(words: &[String]) -> Option<Request<'_>>
     ensures { IsCommand result (asked_by build_of (named 3 all_keys (map string_bytes words.now))) }
 {
@@ -58,7 +58,7 @@ pub fn build_command(words: &[String]) -> Option<Request<'_>>
     Some(Request::Command(Command::Build(names, options)))
 }
 
-/// Reads the scan and makes the answer of `build`. Nothing is written or said.
+/// Reads the scan and returns the answer of `build`. Nothing is written or printed.
 pub fn reply_to_build<'a, H: Host, W: Watch>(
     alloc: Global,
     host: &mut H,
@@ -80,7 +80,7 @@ pub fn reply_to_build<'a, H: Host, W: Watch>(
     }
 }
 
-/// The answer to a scan and the bytes of its file, which are let go before it is solved.
+/// Returns the answer to a scan and the bytes of its file, which are freed before it is solved.
 fn reply_to_scan<'a, W: Watch>(
     alloc: Global,
     scan: &Scan,
@@ -96,7 +96,7 @@ fn reply_to_scan<'a, W: Watch>(
     reply_of(alloc, &solved, names.mesh, names.cert)
 }
 
-/// The texts of a surface and its certificate, and the line.
+/// Returns the texts of a surface and its certificate, and the line.
 fn reply_of<'a>(
     alloc: Global,
     solved: &Solved,
@@ -128,7 +128,7 @@ fn reply_of<'a>(
     })
 }
 
-/// The line of `build`: the counts and the cost of the certificate, and the numbers of inside cells and of faces.
+/// Returns the line of `build`: the counts and the cost of the certificate, and the numbers of inside cells and of faces.
 #[tactic(auto, unfolding(crate::specs::Build::build_line))]
 pub fn line_of_build(alloc: Global, cert: &Certificate, faces: usize) -> Result<Vec<u8>, NoMemory>
     ensures { IfOk result (λ line. line.items ≡ build_line (claim_of cert.now).counts (length cert.now.inside.items) faces) }

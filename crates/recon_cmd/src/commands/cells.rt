@@ -1,5 +1,5 @@
-//! `cells IN OUT`, its words, answer and lines: the Delaunay cells of a scan's points and the box's corners. It stands on `merge`,
-//! which finds the distinct points, on `delaunay`, which links their cells, and on `vote_net`, which lists these.
+//! `cells IN OUT`, its arguments, answer and lines: the Delaunay cells of a scan's points and the box's corners. Depends on
+//! `merge`, which finds the distinct points, on `delaunay`, which links their cells, and on `vote_net`, which lists these.
 ghost use Rattle.std.specs.List.{flat_map};
 ghost use Rattle.std.specs.Prelude.{map, string_bytes, ◌≡◌, false, IfOk, ◌++◌, OnOk};
 ghost use Rattle.geo_sign.specs.Cells.{IsCellList};
@@ -37,13 +37,13 @@ const CELLS_KEYS: [Key; 2] = [Key::Unit, Key::Scanner];
 /// The names of `cells IN OUT`.
 #[derive(Clone, Copy, Debug)]
 pub struct CellsNames<'a> {
-    /// The scan that is read.
+    /// The input scan.
     pub input: &'a str,
-    /// The file that the cells are written to.
+    /// The output file for the cells.
     pub output: &'a str,
 }
 
-/// What the words behind `cells` ask for.
+/// Parses the arguments after `cells`.
 pub fn cells_command(words: &[String]) -> Option<Request<'_>>
     ensures { IsCommand result (asked_by cells_of (named 2 cells_keys (map string_bytes words.now))) }
 {
@@ -60,7 +60,7 @@ pub fn cells_command(words: &[String]) -> Option<Request<'_>>
     Some(Request::Command(Command::Cells(names, options)))
 }
 
-/// Reads the scan and makes the answer of `cells`. Nothing is written or said.
+/// Reads the scan and returns the answer of `cells`. Nothing is written or printed.
 pub fn reply_to_cells<'a, H: Host, W: Watch>(
     alloc: Global,
     host: &mut H,
@@ -80,7 +80,7 @@ pub fn reply_to_cells<'a, H: Host, W: Watch>(
     }
 }
 
-/// The answer to a scan.
+/// Returns the answer to a scan.
 fn reply_to_scan<'a, W: Watch>(
     alloc: Global,
     scan: &Scan,
@@ -105,7 +105,8 @@ fn reply_to_scan<'a, W: Watch>(
     })
 }
 
-/// The cells of the distinct points of a scan, as rising numbers in rising order. The links between them are dropped.
+/// Returns the cells of the distinct points of a scan, as sorted vertex tuples in ascending order. The links between them are
+/// dropped.
 fn cells_of<W: Watch>(
     alloc: Global,
     points: &[Point],
@@ -118,7 +119,7 @@ fn cells_of<W: Watch>(
     rising_cells(alloc, &linked)
 }
 
-/// The line of `cells`: the numbers of points and of cells.
+/// Returns the line of `cells`: the numbers of points and of cells.
 #[tactic(auto, unfolding(crate::specs::Cells::cells_line))]
 pub fn line_of_cells(alloc: Global, points: usize, cells: usize) -> Result<Vec<u8>, NoMemory>
     ensures { IfOk result (λ line. line.items ≡ cells_line points cells) }
@@ -132,7 +133,7 @@ pub fn line_of_cells(alloc: Global, points: usize, cells: usize) -> Result<Vec<u
     Ok(line)
 }
 
-/// The text of cells: their number, and a line for each.
+/// Returns the text of cells: their number, and a line for each.
 #[tactic(auto, unfolding(crate::specs::Cells::cells_text))]
 pub fn text_of_cells(alloc: Global, cells: &[[u32; 4]]) -> Result<Vec<u8>, NoMemory>
     ensures { IfOk result (λ text. text.items ≡ cells_text cells.now) }
@@ -144,7 +145,7 @@ pub fn text_of_cells(alloc: Global, cells: &[[u32; 4]]) -> Result<Vec<u8>, NoMem
     Ok(text)
 }
 
-/// Adds a line for each cell.
+/// Appends a line for each cell.
 fn push_rows(text: &mut Vec<u8>, cells: &[[u32; 4]]) -> Result<(), NoMemory>
     ensures { OnOk result (text.new.items ≡ text.old.items ++ flat_map row_line cells.now) }
 {
@@ -154,7 +155,7 @@ fn push_rows(text: &mut Vec<u8>, cells: &[[u32; 4]]) -> Result<(), NoMemory>
     Ok(())
 }
 
-/// Adds the line of a cell.
+/// Appends the line of a cell.
 #[tactic(auto, unfolding(crate::specs::Cells::row_line))]
 fn push_row(text: &mut Vec<u8>, cell: [u32; 4]) -> Result<(), NoMemory>
     ensures { OnOk result (text.new.items ≡ text.old.items ++ row_line cell) }

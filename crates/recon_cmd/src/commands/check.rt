@@ -1,6 +1,6 @@
-//! `check IN MESH CERT`, its words, answer and lines: whether a mesh is the best surface of a scan, and a certificate shows it
-//! best. And `upgrade IN MESH CERT OUT`: where it is so, the certificate with the stamp of this run. It stands on `recon_check`,
-//! which decides, and on `cert_text`.
+//! `check IN MESH CERT`, its arguments, answer and lines: verifies that a mesh is the best surface of a scan, and a certificate
+//! of its optimality. And `upgrade IN MESH CERT OUT`: if so, writes the certificate with the fingerprint of this run. Depends
+//! on `recon_check`, which decides, and on `cert_text`.
 ghost use Rattle.std.specs.Option.{option_map};
 ghost use Rattle.std.specs.Prelude.{map, string_bytes, ◌≡◌, false, IfOk, ℕ, ⊤, Some, []};
 ghost use Rattle.cert_text.specs.Certificates.{stamp_view};
@@ -36,24 +36,24 @@ use watch::Watch;
 /// The names of `check IN MESH CERT` and of `upgrade IN MESH CERT OUT`.
 #[derive(Clone, Copy, Debug)]
 pub struct CheckNames<'a> {
-    /// The scan that is read.
+    /// The input scan.
     pub input: &'a str,
-    /// The mesh that is checked.
+    /// The mesh to verify.
     pub mesh: &'a str,
-    /// The certificate that is checked.
+    /// The certificate to verify.
     pub cert: &'a str,
-    /// The file that the certificate is written to with the stamp of this run: `upgrade` has one, and `check` has none.
+    /// The output file for the certificate with the fingerprint of this run: `upgrade` has one, `check` has none.
     pub output: Option<&'a str>,
 }
 
-/// A scan and the stamp of its file.
+/// A scan and the fingerprint of its file.
 #[derive(Drop)]
 struct StampedScan {
     scan: Scan,
     stamp: Stamp,
 }
 
-/// What `check` or `upgrade` is asked for, and how many bytes a file that is read may have.
+/// The request of `check` or `upgrade`, and the maximal size of an input file in bytes.
 #[derive(Clone, Copy)]
 struct CheckAsked<'w, 'a> {
     names: &'w CheckNames<'a>,
@@ -61,7 +61,7 @@ struct CheckAsked<'w, 'a> {
     limit: u64,
 }
 
-/// What the words behind `check` ask for.
+/// Parses the arguments after `check`.
 pub fn check_command(words: &[String]) -> Option<Request<'_>>
     ensures { IsCommand result (asked_by check_of (named 3 all_keys (map string_bytes words.now))) }
 {
@@ -80,7 +80,7 @@ pub fn check_command(words: &[String]) -> Option<Request<'_>>
     Some(Request::Command(Command::Check(names, options)))
 }
 
-/// What the words behind `upgrade` ask for.
+/// Parses the arguments after `upgrade`.
 pub fn upgrade_command(words: &[String]) -> Option<Request<'_>>
     ensures { IsCommand result (asked_by upgrade_of (named 4 all_keys (map string_bytes words.now))) }
 {
@@ -99,8 +99,8 @@ pub fn upgrade_command(words: &[String]) -> Option<Request<'_>>
     Some(Request::Command(Command::Check(names, options)))
 }
 
-/// Reads the scan, the mesh and the certificate, each only where the one before is not refused, and makes the answer of
-/// `check` or `upgrade`. Nothing is written or said.
+/// Reads the scan, the mesh and the certificate, each only if the one before is not rejected, and returns the answer of `check`
+/// or `upgrade`. Nothing is written or printed.
 pub fn reply_to_check<'a, H: Host, W: Watch>(
     alloc: Global,
     host: &mut H,
@@ -130,7 +130,7 @@ pub fn reply_to_check<'a, H: Host, W: Watch>(
     }
 }
 
-/// Reads the mesh and the certificate, and answers to a scan and the stamp of its file.
+/// Reads the mesh and the certificate, and returns the answer to a scan and the fingerprint of its file.
 fn reply_to_scan<'a, H: Host, W: Watch>(
     alloc: Global,
     host: &mut H,
@@ -156,7 +156,7 @@ fn reply_to_scan<'a, H: Host, W: Watch>(
     reply_to_mesh(alloc, host, scan, asked, &mesh, watch)
 }
 
-/// Reads the certificate, and answers to a scan and a mesh.
+/// Reads the certificate, and returns the answer to a scan and a mesh.
 fn reply_to_mesh<'a, H: Host, W: Watch>(
     alloc: Global,
     host: &mut H,
@@ -184,7 +184,7 @@ fn reply_to_mesh<'a, H: Host, W: Watch>(
     Ok(reply_to_texts(alloc, scan, asked, &texts, watch)?)
 }
 
-/// The verdict on a mesh and a certificate, and what follows from it.
+/// Returns the verdict on a mesh and a certificate, and the resulting reply.
 fn reply_to_texts<'a, W: Watch>(
     alloc: Global,
     scan: &StampedScan,
@@ -208,7 +208,7 @@ fn reply_to_texts<'a, W: Watch>(
     }
 }
 
-/// What follows from a verdict.
+/// Returns the reply for a verdict.
 fn reply_to_verdict<'a>(
     alloc: Global,
     verdict: &Answer,
@@ -238,7 +238,7 @@ fn reply_to_verdict<'a>(
     }
 }
 
-/// A certificate of which the verdict is yes is written with this stamp, whichever it had.
+/// Returns the reply that writes a verified certificate with this fingerprint, in place of its own.
 fn reply_of_upgrade<'a>(
     alloc: Global,
     stamp: &Stamp,
@@ -263,14 +263,14 @@ fn reply_of_upgrade<'a>(
     })
 }
 
-/// The text of the certificate whose text `cert` is, with this stamp, whichever it had.
+/// Returns the text of a certificate with this fingerprint, in place of its own; `cert` is its text.
 fn restamped_text(alloc: Global, stamp: &Stamp, cert: &[u8]) -> Result<Vec<u8>, NoMemory>
     requires { HasCertificate cert.now (λ claim. ⊤) }
     ensures { IfOk result (λ text. HasCertificate cert.now (λ claim. text.items ≡ cert_text (restamped (stamp_view stamp.now) claim))) }
 {
     let mut stated = match read_cert(alloc, cert) {
         Ok(stated) => stated,
-        // It is the text of a certificate: there was no memory.
+        // It is the text of a certificate, so memory ran out.
         Err(_) => return Err(AllocError),
     };
     stated.stamp = Some(*stamp);
@@ -279,7 +279,7 @@ fn restamped_text(alloc: Global, stamp: &Stamp, cert: &[u8]) -> Result<Vec<u8>, 
     Ok(text)
 }
 
-/// A reply that says a line and writes nothing.
+/// Returns a reply that prints a line and writes nothing.
 fn said<'a>(alloc: Global, status: Status, line: Vec<u8>) -> Reply<'a>
     ensures { answer_of 3 result ≡ record { status = status; reads = 3; writes = []; line = line.items } }
 {
@@ -290,7 +290,7 @@ fn said<'a>(alloc: Global, status: Status, line: Vec<u8>) -> Reply<'a>
     }
 }
 
-/// What is said where the certificate's file is longer than the limit.
+/// Returns the line for a certificate's file that is longer than the limit.
 #[tactic(auto, unfolding(crate::specs::Check::too_long_cert_line))]
 pub fn line_of_too_long_cert() -> &'static [u8]
     ensures { result.now ≡ too_long_cert_line }
@@ -298,7 +298,7 @@ pub fn line_of_too_long_cert() -> &'static [u8]
     b"refused 19 too_long cert\n"
 }
 
-/// The line of `upgrade` where it says yes: the cost of the labels.
+/// Returns the line of `upgrade` for yes: the cost of the labels.
 #[tactic(auto, unfolding(crate::specs::Check::upgraded_line))]
 pub fn line_of_upgrade(alloc: Global, cost: u64) -> Result<Vec<u8>, NoMemory>
     ensures { IfOk result (λ line. line.items ≡ upgraded_line cost) }

@@ -1,5 +1,5 @@
-//! `demo N SEED`, its words, answer and lines: what `build` says of a scan that is made from a number. It stands on `gen_scan`,
-//! which makes the scan.
+//! `demo N SEED`, its arguments, answer and lines: the result of `build` for a scan that is generated from a seed. Depends on
+//! `gen_scan`, which generates the scan.
 ghost use Rattle.std.specs.Prelude.{map, string_bytes, ◌≡◌, IfOk, ◌≤◌, Ok, OnOk, length};
 ghost use Rattle.scan.specs.Views.{shown_of};
 ghost use Rattle.recon_cmd.specs.Answers.{file_limit, read_as};
@@ -27,10 +27,10 @@ use std::alloc::{AllocError, Global};
 use watch::Watch;
 pub use words::Demo;
 
-/// The most digits of a seed.
+/// The maximal number of digits of a seed.
 const MOST_DIGITS: usize = 20;
 
-/// What the words behind `demo` ask for.
+/// Parses the arguments after `demo`.
 pub fn demo_command(words: &[String]) -> Option<Request<'_>>
     ensures { IsCommand result (demo_of (map string_bytes words.now)) }
 {
@@ -42,7 +42,7 @@ pub fn demo_command(words: &[String]) -> Option<Request<'_>>
     Some(Request::Command(Command::Demo(Demo { count, seed })))
 }
 
-/// The number that 1 to 20 digits are, if it is at most 2^64 - 1.
+/// Returns the number with 1 to 20 digits, if it is at most 2^64 - 1.
 pub fn seed_in(text: &str) -> Option<u64>
     ensures { result ≡ seed_of text.now }
 {
@@ -55,7 +55,7 @@ pub fn seed_in(text: &str) -> Option<u64>
     }
 }
 
-/// Makes the answer of `demo`. The scan is printed and read as a file would be, and its surface is found; no text of it is
+/// Returns the answer of `demo`. The scan is printed and read as a file would be, and its surface is computed; no text of it is
 /// made.
 pub fn reply_to_demo<'a, W: Watch>(
     alloc: Global,
@@ -80,7 +80,7 @@ pub fn reply_to_demo<'a, W: Watch>(
     })
 }
 
-/// The scan that the text of the generated one is read as, and that text.
+/// Returns the scan that is read from the text of the generated one, and that text.
 fn reread_scan(alloc: Global, demo: Demo) -> Result<(Scan, Vec<u8>), NoMemory>
     ensures read { IfOk result (λ read. read_as default_options (generated_text demo.count demo.seed) ≡ Ok (shown_of read.0)) }
     ensures text { IfOk result (λ read. read.1.items ≡ generated_text demo.count demo.seed) }
@@ -93,13 +93,13 @@ fn reread_scan(alloc: Global, demo: Demo) -> Result<(Scan, Vec<u8>), NoMemory>
         Ok(read) => Ok((read, text)),
         Err(why) => match why {
             ScanRefusal::NoMemory => Err(AllocError),
-            // A printed scan is read.
+            // A printed scan can be read.
             _ => unreachable!(),
         },
     }
 }
 
-/// The line of `demo`: the number of rows, the seed, and then what `build` says.
+/// Returns the line of `demo`: the number of rows, the seed, and then the line of `build`.
 #[tactic(auto, unfolding(crate::specs::Demo::demo_line))]
 pub fn line_of_demo(alloc: Global, count: u32, seed: u64, built: &[u8]) -> Result<Vec<u8>, NoMemory>
     ensures { IfOk result (λ line. line.items ≡ demo_line count seed built.now) }

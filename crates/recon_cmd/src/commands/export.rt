@@ -1,5 +1,5 @@
-//! `export MESH OUT1 .. OUTn`, its words, answer and lines: a mesh in the forms that the caller hands in. It stands on `mesh_form`,
-//! which hands them the mesh.
+//! `export MESH OUT1 .. OUTn`, its arguments, answer and lines: a mesh in the formats of the writers that the caller passes.
+//! Depends on `mesh_form`, which passes the mesh to them.
 ghost use Rattle.std.specs.Option.{option_map};
 ghost use Rattle.std.specs.Prelude.{◌≡◌, IfSome, length, map, string_bytes, false, All, IfOk};
 ghost use Rattle.mesh_form.specs.Received.{IsFresh};
@@ -19,17 +19,17 @@ use mesh_form::{Form, drive_all};
 use mesh_ply::Mesh;
 use std::alloc::Global;
 
-/// The words behind `export MESH OUT1 .. OUTn`.
+/// The arguments after `export MESH OUT1 .. OUTn`.
 #[derive(Clone, Copy, Debug)]
 pub struct ExportWords<'a> {
-    /// The mesh that is read.
+    /// The input mesh.
     pub mesh: &'a str,
-    /// The files that the forms' texts are written to, one for each form.
+    /// The output files for the writers' texts, one for each writer.
     pub outputs: &'a [String],
 }
 
-/// What the words behind `export` ask for, if they are a mesh and as many outputs as there are forms, and at least one. Names are
-/// not empty, and no two are one.
+/// Parses the arguments after `export`: a mesh and as many outputs as there are writers, at least one. Names are not empty, and
+/// no two are equal.
 pub fn export_words(words: &[String], forms: usize) -> Option<ExportWords<'_>>
     ensures is { option_map export_names result ≡ export_behind forms (map string_bytes words.now) }
     ensures fits { IfSome result (λ words. length words.outputs.now ≡ forms) }
@@ -46,8 +46,8 @@ pub fn export_words(words: &[String], forms: usize) -> Option<ExportWords<'_>>
     })
 }
 
-/// Reads the mesh, whose file may have as many bytes as the limit, hands it to each form, and writes their texts, in order. No
-/// file is made before all texts stand in memory.
+/// Reads the mesh, whose file may be as long as the limit, passes it to each writer, and writes their texts, in order. No file
+/// is created before all texts are in memory.
 pub fn export_mesh<H: Host>(
     alloc: Global,
     host: &mut H,
@@ -74,7 +74,7 @@ pub fn export_mesh<H: Host>(
     }
 }
 
-/// Hands the mesh to each form, and writes their texts.
+/// Passes the mesh to each writer, and writes their texts.
 fn hand_out<H: Host>(
     alloc: Global,
     host: &mut H,
@@ -102,7 +102,7 @@ fn hand_out<H: Host>(
     }
 }
 
-/// The line of `export`: the number of forms, and those of points and faces.
+/// Returns the line of `export`: the number of writers, and those of points and faces.
 #[tactic(auto, unfolding(crate::specs::Export::exported_line))]
 pub fn line_of_export(
     alloc: Global,

@@ -1,5 +1,5 @@
-//! `slice MESH H OUT`, its words, answer and lines: the closed loops in which a level plane cuts a mesh. It stands on
-//! `solid_slice`, which finds and prints them.
+//! `slice MESH H OUT`, its arguments, answer and lines: the closed loops in which a horizontal plane cuts a mesh. Depends on
+//! `solid_slice`, which computes and prints them.
 ghost use Rattle.std.specs.Prelude.{map, string_bytes, ◌≡◌, ◌≤◌, IfSome, unsigned_abs, false, IfOk, ◌<◌, ◌^◌, length, sum_by};
 ghost use Rattle.geo_sign.specs.declared.point.TheConstants.{BOX_LIMIT};
 ghost use Rattle.mesh_ply.specs.Texts.{IsPrinted};
@@ -28,10 +28,10 @@ use solid_slice::{Ring, SliceRefusal, push_slice, slice};
 use std::alloc::{AllocError, Global};
 pub use words::SliceWords;
 
-/// The most digits of a height.
+/// The maximal number of digits of a height.
 const MOST_DIGITS: usize = 7;
 
-/// What the words behind `slice` ask for.
+/// Parses the arguments after `slice`.
 pub fn slice_command(words: &[String]) -> Option<Request<'_>>
     ensures { IsCommand result (slice_of (map string_bytes words.now)) }
 {
@@ -50,7 +50,7 @@ pub fn slice_command(words: &[String]) -> Option<Request<'_>>
     Some(Request::Command(Command::Slice(words)))
 }
 
-/// The height that 1 to 7 digits behind an optional minus sign are, if it is no further from 0 than the walls of the box.
+/// Returns the height with 1 to 7 digits after an optional minus sign, if it is no further from 0 than the walls of the box.
 pub fn height_in(text: &str) -> Option<i32>
     ensures is { result ≡ height_of text.now }
     ensures within { IfSome result (λ height. unsigned_abs height ≤ BOX_LIMIT) }
@@ -63,7 +63,7 @@ pub fn height_in(text: &str) -> Option<i32>
     Some(if is_below { -size } else { size })
 }
 
-/// Whether a minus sign stands in front, and what stands behind it.
+/// Returns whether a text begins with a minus sign, and the text after it.
 fn split_sign(text: &[u8]) -> (bool, &[u8])
     ensures sign { result.0 ≡ is_minus text.now }
     ensures behind { result.1.now ≡ behind_minus text.now }
@@ -74,7 +74,7 @@ fn split_sign(text: &[u8]) -> (bool, &[u8])
     }
 }
 
-/// Reads the mesh and makes the answer of `slice`. Nothing is written or said.
+/// Reads the mesh and returns the answer of `slice`. Nothing is written or printed.
 pub fn reply_to_slice<'a, H: Host>(
     alloc: Global,
     host: &mut H,
@@ -92,7 +92,7 @@ pub fn reply_to_slice<'a, H: Host>(
     }
 }
 
-/// The answer to a mesh.
+/// Returns the answer to a mesh.
 fn reply_to_mesh<'a>(
     alloc: Global,
     mesh: &Mesh,
@@ -119,7 +119,7 @@ fn reply_to_mesh<'a>(
     }
 }
 
-/// The text of the loops, and the line.
+/// Returns the text of the loops, and the line.
 fn reply_of_rings<'a>(alloc: Global, rings: &[Ring], output: &'a str) -> Result<Reply<'a>, NoMemory>
     requires { sum_by (λ ring. length ring) (map steps_of rings.now) < 2 ^ 64 }
     ensures { IfOk result (λ reply. answer_of 1 reply ≡ slice_done output.now (map steps_of rings.now)) }
@@ -139,7 +139,7 @@ fn reply_of_rings<'a>(alloc: Global, rings: &[Ring], output: &'a str) -> Result<
     })
 }
 
-/// The number of steps of all rings together.
+/// Returns the number of steps of all rings together.
 fn step_count(rings: &[Ring]) -> u64
     requires { sum_by (λ ring. length ring) (map steps_of rings.now) < 2 ^ 64 }
     ensures { result ≡ sum_by (λ ring. length ring) (map steps_of rings.now) }
@@ -151,7 +151,7 @@ fn step_count(rings: &[Ring]) -> u64
     count
 }
 
-/// The refusal of a mesh with an edge that occurs another number of times than its reverse.
+/// Returns the line for a mesh with an edge that does not occur as often as its reverse.
 #[tactic(auto, unfolding(crate::specs::Slice::unbalanced_line))]
 pub fn line_of_unbalanced_edge(
     alloc: Global,
@@ -171,7 +171,7 @@ pub fn line_of_unbalanced_edge(
     Ok(line)
 }
 
-/// The line of `slice`: the number of loops, and that of the steps of all of them together.
+/// Returns the line of `slice`: the number of loops, and the total number of their steps.
 #[tactic(auto, unfolding(crate::specs::Slice::slice_line))]
 pub fn line_of_slice(alloc: Global, loops: u64, steps: u64) -> Result<Vec<u8>, NoMemory>
     ensures { IfOk result (λ line. line.items ≡ slice_line loops steps) }

@@ -1,5 +1,5 @@
-//! `sweep IN FROM STEP N OUT1 .. OUTN`, its words, answer and lines: the best surfaces of a scan at rising smoothing weights, each
-//! handed to a form of the caller. It stands on `sweep`, which finds them and hands them on.
+//! `sweep IN FROM STEP N OUT1 .. OUTN`, its arguments, answer and lines: the best surfaces of a scan at increasing area
+//! weights, each passed to a writer of the caller. Depends on `sweep`, which computes them and passes them on.
 ghost use Rattle.std.specs.Option.{option_map};
 ghost use Rattle.std.specs.Prelude.{◌≡◌, IfSome, map, string_bytes, ◌≤◌, false, length, All, IfOk};
 ghost use Rattle.flow_net.specs.declared.votes.TheConstants.{WEIGHT_LIMIT};
@@ -26,25 +26,25 @@ use watch::{Stage, Watch};
 /// The options of `sweep`.
 const SWEEP_KEYS: [Key; 3] = [Key::Unit, Key::Vote, Key::Scanner];
 
-/// The most weights of a sweep.
+/// The maximal number of weights of a sweep.
 const ENTRY_LIMIT: u32 = 64;
 
-/// The words behind `sweep IN FROM STEP N OUT1 .. OUTN`.
+/// The arguments after `sweep IN FROM STEP N OUT1 .. OUTN`.
 #[derive(Clone, Copy, Debug)]
 pub struct SweepWords<'a> {
-    /// The scan that is read.
+    /// The input scan.
     pub input: &'a str,
-    /// How much the smoothing rises from each surface to the next.
+    /// The increase of the area weight from each surface to the next.
     pub step: u32,
-    /// The files that the forms' texts are written to, one for each form.
+    /// The output files for the writers' texts, one for each writer.
     pub outputs: &'a [String],
-    /// The options, at the first smoothing.
+    /// The options, at the first area weight.
     pub options: Options,
 }
 
-/// What the words behind `sweep` ask for, if they are `IN FROM STEP N OUT1 .. OUTN` with options behind, where N is the number of
-/// forms, 1 to 64. FROM is 0 to 65,535 and STEP 1 to 65,535, each in 1 to 10 digits, and so is the largest weight,
-/// FROM + (N - 1) * STEP. Names are not empty, and no two are one. The options are `unit=`, `vote=` and `scanner=`.
+/// Parses the arguments after `sweep`: `IN FROM STEP N OUT1 .. OUTN` with options after, where N is the number of writers, 1 to
+/// 64. FROM is 0 to 65,535 and STEP 1 to 65,535, each in 1 to 10 digits, and so is the largest weight, FROM + (N - 1) * STEP.
+/// Names are not empty, and no two are equal. The options are `unit=`, `vote=` and `scanner=`.
 pub fn sweep_words(words: &[String], forms: usize) -> Option<SweepWords<'_>>
     ensures is { option_map sweep_asked result ≡ sweep_words_of forms (map string_bytes words.now) }
     ensures fits { IfSome result (λ words. FitsForms words forms) }
@@ -61,8 +61,8 @@ pub fn sweep_words(words: &[String], forms: usize) -> Option<SweepWords<'_>>
     understand_behind(input.as_str(), from, step, count, behind)
 }
 
-/// How many forms `sweep` is to be handed: as many as its fifth word says, if that is 1 to 64 in 1 to 10 digits, and else 0. None
-/// where the first word is not `sweep`.
+/// Returns the number of writers for `sweep`: that of its fifth argument, if it is 1 to 64 in 1 to 10 digits, and else 0.
+/// Returns `None` if the first argument is not `sweep`.
 pub fn sweep_entries(words: &[String]) -> Option<u32>
     ensures { result ≡ entries_of (map string_bytes words.now) }
 {
@@ -78,7 +78,7 @@ pub fn sweep_entries(words: &[String]) -> Option<u32>
     Some(number_in(count.as_bytes(), 1, ENTRY_LIMIT).unwrap_or(0))
 }
 
-/// What the words behind the numbers ask for: so many outputs, and then options.
+/// Parses the arguments after the numbers: this number of outputs, and then options.
 fn understand_behind<'a>(
     input: &'a str,
     from: u32,
@@ -118,8 +118,8 @@ fn understand_behind<'a>(
     })
 }
 
-/// Reads the scan, whose file may have as many bytes as the limit, hands its best surface at each weight to a form, and writes the
-/// forms' texts, in order. No file is made before all texts stand in memory.
+/// Reads the scan, whose file may be as long as the limit, passes its best surface at each weight to a writer, and writes the
+/// writers' texts, in order. No file is created before all texts are in memory.
 pub fn sweep_scan<H: Host, W: Watch>(
     alloc: Global,
     host: &mut H,
@@ -150,7 +150,7 @@ pub fn sweep_scan<H: Host, W: Watch>(
     }
 }
 
-/// Hands the surface of each weight to its form, and writes their texts.
+/// Passes the surface of each weight to its writer, and writes their texts.
 fn hand_out<H: Host, W: Watch>(
     alloc: Global,
     host: &mut H,
@@ -179,7 +179,7 @@ fn hand_out<H: Host, W: Watch>(
     }
 }
 
-/// The line of `sweep`: the number of surfaces, and what the first and the last cost.
+/// Returns the line of `sweep`: the number of surfaces, and the costs of the first and the last.
 #[tactic(auto, unfolding(crate::specs::Sweep::sweep_line))]
 pub fn line_of_sweep(
     alloc: Global,

@@ -1,4 +1,4 @@
-//! The writing of the texts of forms, and the saying of a line. It stands on `host`, and on the forms of `mesh_form`.
+//! Writes the texts of mesh writers, and prints a line. Depends on `host`, and on the writers of `mesh_form`.
 ghost use Rattle.std.specs.List.{zip};
 ghost use Rattle.std.specs.Prelude.{◌≡◌, false, length, map, string_bytes, All};
 ghost use Rattle.mesh_form.specs.declared.stage.Stage.TheVariants.{Ended};
@@ -9,7 +9,7 @@ use crate::status::Status;
 use host::{Host, say_all, write_file};
 use mesh_form::Form;
 
-/// Writes the text of each form to its output, in order, and says the line.
+/// Writes the text of each writer to its output, in order, and prints the line.
 pub fn write_forms<H: Host>(
     host: &mut H,
     outputs: &[String],
@@ -33,7 +33,7 @@ pub fn write_forms<H: Host>(
     }
 }
 
-/// The text of an ended form.
+/// Returns the text of a writer that has ended.
 fn text_of(form: &Box<dyn Form>) -> &[u8]
     requires { (received form.now).stage ≡ Ended }
     ensures { result.now ≡ text_of form.now }

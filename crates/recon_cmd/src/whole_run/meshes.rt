@@ -1,4 +1,4 @@
-//! The reading of the mesh that a command begins with. It stands on `mesh_ply`, which understands the bytes of a file.
+//! Reads the input mesh of a command. Depends on `mesh_ply`, which parses the bytes of a file.
 ghost use Rattle.std.specs.Prelude.{ℕ, ◌≡◌, false, IfOk, IfSome, ◌≤◌, length};
 ghost use Rattle.host.specs.Whole.{OnlyReads};
 ghost use Rattle.recon_cmd.specs.Steps.{IsMeshReading, IsPrintedIfRead, CountsFaults, IsUnderstoodMesh};
@@ -10,16 +10,16 @@ use host::{Host, ReadRefusal, read_all};
 use mesh_ply::{Mesh, read_mesh};
 use std::alloc::Global;
 
-/// What the reading of a mesh comes to.
+/// The result of reading a mesh.
 #[derive(Drop)]
 pub enum MeshReading {
     /// The mesh of the file.
     Mesh(Mesh),
-    /// The file is refused, and this line says why.
+    /// The file is rejected, and this line states why.
     Refused(Line),
 }
 
-/// Reads the mesh of the named file. Its bytes are let go. The file may have as many bytes as the limit.
+/// Reads the mesh of the named file. Its bytes are freed. The file may be as long as the limit.
 pub fn read_mesh_file<H: Host>(
     alloc: Global,
     host: &mut H,
@@ -43,7 +43,7 @@ pub fn read_mesh_file<H: Host>(
     Ok(understand_mesh(alloc, &bytes)?)
 }
 
-/// What the bytes of a mesh's file come to.
+/// Parses the bytes of a mesh's file.
 fn understand_mesh(alloc: Global, bytes: &[u8]) -> Result<MeshReading, NoMemory>
     ensures understood { (limit : ℕ) → length bytes.now ≤ limit → IfOk result (IsUnderstoodMesh limit bytes.now) }
     ensures printed { IfOk result IsPrintedIfRead }

@@ -1,4 +1,4 @@
-//! The reading of the scan of a command. It stands on `scan`, which understands the bytes of a file.
+//! Reads the input scan of a command. Depends on `scan`, which parses the bytes of a file.
 ghost use Rattle.std.specs.Prelude.{ℕ, ◌≡◌, false, IfOk, IfSome, ◌≤◌, length};
 ghost use Rattle.host.specs.Whole.{OnlyReads};
 ghost use Rattle.recon_cmd.specs.OptionViews.{options_view};
@@ -12,20 +12,20 @@ use host::{Host, ReadRefusal, read_all};
 use scan::{Scan, read_scan};
 use std::alloc::Global;
 
-/// How many bytes a file that is read may have.
+/// The maximal size of an input file in bytes.
 pub const FILE_LIMIT: u64 = 4_294_967_296;
 
-/// What the reading of a scan comes to.
+/// The result of reading a scan.
 #[derive(Drop)]
 pub enum Reading {
     /// The scan of the file, and the file's bytes.
     Scan(Scan, Vec<u8>),
-    /// The file is refused, and this line says why.
+    /// The file is rejected, and this line states why.
     Refused(Line),
 }
 
-/// Reads the scan of the named file, in the unit and with the fixed scanner of these options. The file may have as many bytes
-/// as the limit.
+/// Reads the scan of the named file, with the scale and the fixed scanner of these options. The file may be as long as the
+/// limit.
 pub fn read_input<H: Host>(
     alloc: Global,
     host: &mut H,
@@ -49,7 +49,7 @@ pub fn read_input<H: Host>(
     Ok(understand_scan(alloc, bytes, options)?)
 }
 
-/// What the bytes of a scan's file come to.
+/// Parses the bytes of a scan's file.
 fn understand_scan(alloc: Global, bytes: Vec<u8>, options: &Options) -> Result<Reading, NoMemory>
     ensures { (limit : ℕ) → length bytes.items ≤ limit → IfOk result (IsUnderstood limit bytes.items (options_view options.now)) }
 {

@@ -1,10 +1,10 @@
-//! Each call of the host fails in turn: the first of its kind, the second, and so on until a run ends without a fault. On many
-//! points in pieces of one byte there are thousands of calls, and of those the first fail, some in the middle and the last.
+//! Each call of the host fails in turn: the first of its kind, the second, and so on until a run ends without a fault. With
+//! many points in pieces of one byte there are thousands of calls; of those, the first, some in the middle and the last fail.
 //!
-//! A scan is a text, or binary in either byte order, and calls move 1, 7 or 65,536 bytes at most. What stands after a failure
-//! is compared with what a run without a fault leaves. Of the texts that it writes, in their order, those that were whole before
-//! the failed call are there, the next one as far as it was written, and all else is as it was. Nothing is called after the
-//! failed call but the one that closes the file which is being written.
+//! A scan is a text, or binary in either byte order, and calls move at most 1, 7 or 65,536 bytes. The state after a failure is
+//! compared with that after a run without a fault. Of the texts that it writes, in order, those that were complete before the
+//! failed call exist, the next one as far as it was written, and everything else is unchanged. No call follows the failed one,
+//! except the one that closes the file which is open for writing.
 ghost use Rattle.std.specs.Prelude.{◌<◌};
 
 use super::fixtures::{in_three_forms, owned, plain};
@@ -24,17 +24,17 @@ const CALLS: [HostCall; 6] = [
     HostCall::Say,
 ];
 
-/// A command: its words, and the files that it writes, in their order.
+/// A command: its arguments, and the files that it writes, in their order.
 #[derive(Clone, Copy)]
 struct Command {
     words: &'static [&'static str],
     outputs: &'static [&'static str],
 }
 
-/// How many bytes a call moves at most.
+/// The maximal numbers of bytes that a call moves.
 const PIECES: [usize; 3] = [1, 7, 65_536];
 
-/// All commands that read a file but `ask`. Each finds the files that those before it leave.
+/// All commands that read a file except `ask`. Each uses the files that those before it leave.
 const COMMANDS: [Command; 7] = [
     Command {
         words: &["cells", "in", "out"],
@@ -66,13 +66,13 @@ const COMMANDS: [Command; 7] = [
     },
 ];
 
-/// The points that are asked for are those of the certificate's file.
+/// The query points are those of the certificate's file.
 const ASK: Command = Command {
     words: &["ask", "in", "cert", "out"],
     outputs: &["out"],
 };
 
-/// A place far from all others, and the middle of the points of this file.
+/// A point far from all others, and the middle of the points of this file.
 const POINTS: &str = "2000000 0 0 0 0 0";
 
 const DEMO: Command = Command {
@@ -80,7 +80,7 @@ const DEMO: Command = Command {
     outputs: &[],
 };
 
-/// A command on files, in calls that move so many bytes at most, and what it leaves and says where no call fails.
+/// A command on files, with a maximal number of bytes that a call moves, and what it leaves and prints if no call fails.
 #[derive(Clone, Copy)]
 struct Case<'a> {
     command: Command,
@@ -90,22 +90,23 @@ struct Case<'a> {
     said: &'a str,
 }
 
-/// The calls of one kind, and how many there are of them where none fails.
+/// The calls of one kind, and their number if none fails.
 #[derive(Clone, Copy)]
 struct Calls {
     call: HostCall,
     count: u32,
 }
 
-/// What stands after a failed call.
+/// The state after a failed call.
 #[derive(Drop)]
 struct Left {
     files: Files,
-    // how many bytes of the line were said
+    // the number of bytes of the line that were printed
     said: usize,
 }
 
-/// What stands where a call that writes or says fails behind so many of its kind. None where there are no more of that kind.
+/// Returns the state if a call that writes or prints fails after a number of its kind, or `None` if there are no more of that
+/// kind.
 fn left_by(alloc: Global, case: Case, call: HostCall, behind: u32) -> Result<Option<Left>, Fail>
     requires { 0 < case.piece }
 {
@@ -140,7 +141,7 @@ fn left_by(alloc: Global, case: Case, call: HostCall, behind: u32) -> Result<Opt
     Ok(None)
 }
 
-/// Whether a run stopped so.
+/// Returns whether a run stopped in this way.
 fn is_left(host: &Watched, call: HostCall, left: &Left, said: &str) -> bool {
     let closed = if call == HostCall::Append { 1 } else { 0 };
     let front = said.as_bytes().get(..left.said).unwrap_or(b"");
@@ -151,12 +152,12 @@ fn is_left(host: &Watched, call: HostCall, left: &Left, said: &str) -> bool {
         && host.host.said() == front
 }
 
-/// Whether a run came to its end.
+/// Returns whether a run was completed.
 fn is_whole(host: &Watched, whole: &Files, said: &str) -> bool {
     host.host.fault_count() == 0 && host.has(whole) && host.host.said() == said.as_bytes()
 }
 
-/// One call fails behind so many of its kind. Behind the last one, none does.
+/// Lets one call fail after a number of its kind. After the last one, none fails.
 fn fail_once(alloc: Global, case: Case, calls: Calls, behind: u32) -> Result<(), Fail>
     requires { 0 < case.piece }
 {
@@ -184,7 +185,7 @@ fn fail_once(alloc: Global, case: Case, calls: Calls, behind: u32) -> Result<(),
     Ok(())
 }
 
-/// Calls of one kind fail, each in turn.
+/// Lets calls of one kind fail, each in turn.
 fn fail_each(alloc: Global, case: Case, calls: Calls) -> Result<(), Fail>
     requires { 0 < case.piece }
 {
@@ -194,7 +195,7 @@ fn fail_each(alloc: Global, case: Case, calls: Calls) -> Result<(), Fail>
     fail_once(alloc, case, calls, calls.count)
 }
 
-/// Of many calls of one kind the first ones fail, some in the middle and the last ones.
+/// Lets the first, some in the middle and the last of many calls of one kind fail.
 fn fail_some(alloc: Global, case: Case, calls: Calls) -> Result<(), Fail>
     requires { 0 < case.piece }
 {
@@ -216,7 +217,7 @@ fn fail_some(alloc: Global, case: Case, calls: Calls) -> Result<(), Fail>
     Ok(())
 }
 
-/// Calls of a command fail, each in turn where there are no more of a kind than `few`. The answer is what a run leaves in which
+/// Lets calls of a command fail, each in turn if there are no more of a kind than `few`. Returns the state after a run in which
 /// none fails.
 fn fail_in_turn(
     alloc: Global,
@@ -254,7 +255,7 @@ fn fail_in_turn(
     Ok(whole)
 }
 
-/// The commands on a scan, in their order, where all outputs hold something before. Each says its line.
+/// Runs the commands on a scan, in order, with all outputs existing before. Each prints its line.
 fn fail_through(
     alloc: Global,
     input: &[u8],
@@ -281,7 +282,7 @@ fn fail_through(
     Ok(())
 }
 
-/// Four bytes, of which the lowest comes first, in a byte order.
+/// Appends four bytes in a byte order; the argument has the lowest first.
 fn push_four(bytes: &mut Vec<u8>, four: [u8; 4], is_big: bool) -> Result<(), Fail> {
     let [a, b, c, d] = four;
     let ordered = if is_big { [d, c, b, a] } else { four };
@@ -289,14 +290,14 @@ fn push_four(bytes: &mut Vec<u8>, four: [u8; 4], is_big: bool) -> Result<(), Fai
     Ok(())
 }
 
-/// The place of a point or a scanner.
+/// Appends the position of a point or a scanner.
 fn push_place(bytes: &mut Vec<u8>, place: &Point, is_big: bool) -> Result<(), Fail> {
     push_four(bytes, place.x().to_le_bytes(), is_big)?;
     push_four(bytes, place.y().to_le_bytes(), is_big)?;
     push_four(bytes, place.z().to_le_bytes(), is_big)
 }
 
-/// The binary form of a scan in a byte order.
+/// Returns the binary encoding of a scan in a byte order.
 fn binary(alloc: Global, scan: &Scan, is_big: bool) -> Result<Vec<u8>, Fail> {
     let order = if is_big { "big" } else { "little" };
     let points = scan.points.len();
@@ -315,7 +316,7 @@ fn binary(alloc: Global, scan: &Scan, is_big: bool) -> Result<Vec<u8>, Fail> {
     Ok(bytes)
 }
 
-/// A scan in pieces of each size.
+/// Tests a scan in pieces of each size.
 fn in_pieces(alloc: Global, input: &[u8], few: u32, lines: [&str; 8]) -> Result<(), Fail> {
     for piece in PIECES {
         fail_through(alloc, input, piece, few, lines)?;
@@ -323,7 +324,7 @@ fn in_pieces(alloc: Global, input: &[u8], few: u32, lines: [&str; 8]) -> Result<
     Ok(())
 }
 
-/// The text of a scan, and its binary form in both byte orders.
+/// Tests the text of a scan, and its binary encoding in both byte orders.
 fn in_byte_orders(alloc: Global, text: &[u8], few: u32, lines: [&str; 8]) -> Result<(), Fail> {
     let scan = read_scan(alloc, text, 1, None)?;
     in_pieces(alloc, text, few, lines)?;

@@ -1,4 +1,4 @@
-//! Runs of `export`: a mesh in a form of the test's own, and the words that `run` alone does not know.
+//! Runs of `export`: a mesh in a writer of the test's own, and the arguments that `run` alone rejects.
 
 use super::fixtures::{PIECE, owned};
 use super::forms::{beginning, shows};
@@ -9,7 +9,7 @@ use recon_cmd::{run, run_forms};
 use std::alloc::Global;
 use std::test::Fail;
 
-/// A form of a caller's own: its text says how much it has received.
+/// A writer of a caller's own: its text states how much it has received.
 #[derive(Drop)]
 struct Tally {
     receipt: Receipt,

@@ -1,4 +1,5 @@
-//! What the tests share: small scans with their meshes and certificates, hosts in memory that hold them, and what a run leaves.
+//! The fixtures of the tests: small scans with their meshes and certificates, hosts in memory that hold them, and the state
+//! after a run.
 ghost use Rattle.std.specs.Prelude.{◌≡◌, ◌<◌, false, IfOk};
 ghost use Rattle.host.specs.Memory.{state_of, AreNumbers};
 ghost use Rattle.host.specs.Handed.{NamesApart};
@@ -9,13 +10,13 @@ use recon_cmd::{NoMemory, run_forms};
 use std::alloc::Global;
 use std::test::Fail;
 
-/// How many bytes a host reads and takes at most in a call, where it is not told otherwise.
+/// The default maximal number of bytes that a call of a host moves.
 pub const PIECE: usize = 65_536;
 
-/// How many bytes a host has room for in each file.
+/// The capacity of each file of a host, in bytes.
 const ROOM: usize = 65_536;
 
-/// The words of commands without options.
+/// The arguments of commands without options.
 pub const CELLS: [&str; 3] = ["cells", "in", "out"];
 
 pub const BUILD: [&str; 4] = ["build", "in", "mesh", "cert"];
@@ -30,7 +31,7 @@ pub const SWEEP: [&str; 8] = ["sweep", "in", "0", "1", "2", "out", "mesh", "vote
 
 pub const ASK: [&str; 4] = ["ask", "in", "mesh", "out"];
 
-/// Four points round the origin, each seen from a scanner of its own, ten times as far out.
+/// Four points around the origin, each seen from a scanner of its own, ten times as far out.
 pub const FOUR: &str =
     "ply\nformat ascii 1.0\nelement vertex 4\nproperty int x\nproperty int y\nproperty int z\nproperty int scanner\nelement scanner 4\nproperty int x\nproperty int y\nproperty int z\nend_header\n100 100 100 0\n100 -100 -100 1\n-100 100 -100 2\n-100 -100 100 3\n1000 1000 1000\n1000 -1000 -1000\n-1000 1000 -1000\n-1000 -1000 1000\n";
 
@@ -54,10 +55,10 @@ pub const FOUR_OBJ: &str =
 pub const NO_FACE: &str =
     "ply\nformat ascii 1.0\nelement vertex 0\nproperty int x\nproperty int y\nproperty int z\nelement face 0\nproperty list uchar int vertex_indices\nend_header\n";
 
-/// What `export` says of it in three forms.
+/// The line of `export` for it in three formats.
 pub const FOUR_EXPORTED: &str = "exported 3 points 4 faces 4\n";
 
-/// The plain form of a scan with these lines.
+/// Returns the plain form of a scan with these lines.
 pub fn plain(alloc: Global, points: &[&str], scanners: &[&str]) -> Result<String, Fail> {
     let vertices = points.len();
     let count = scanners.len();
@@ -75,7 +76,7 @@ pub fn plain(alloc: Global, points: &[&str], scanners: &[&str]) -> Result<String
     Ok(text)
 }
 
-/// The words as a command line has them.
+/// Returns the arguments as a command line has them.
 pub fn owned(alloc: Global, words: &[&str]) -> Result<Vec<String>, NoMemory> {
     let mut owned = Vec::new(alloc);
     for word in words {
@@ -84,7 +85,7 @@ pub fn owned(alloc: Global, words: &[&str]) -> Result<Vec<String>, NoMemory> {
     Ok(owned)
 }
 
-/// The bytes, if there are any.
+/// Returns the bytes, if there are any.
 fn copied(alloc: Global, bytes: Option<&[u8]>) -> Result<Option<Vec<u8>>, NoMemory> {
     match bytes {
         Some(bytes) => Ok(Some(bytes.to_vec(alloc)?)),
@@ -92,7 +93,8 @@ fn copied(alloc: Global, bytes: Option<&[u8]>) -> Result<Option<Vec<u8>>, NoMemo
     }
 }
 
-/// The files `in`, `out`, `mesh` and `cert`, which have these bytes in this order or are not there, and `unit=3`, which is not.
+/// Returns the files `in`, `out`, `mesh` and `cert`, which have these bytes in this order or do not exist, and `unit=3`, which
+/// does not.
 fn files_of(
     alloc: Global,
     held: [Option<&[u8]>; 4],
@@ -109,7 +111,7 @@ fn files_of(
     ]?)
 }
 
-/// A host with these files, whose calls move so many bytes at most, and some of them fail.
+/// Returns a host with these files, whose calls move at most this number of bytes, and some of them fail.
 pub fn host_with(
     alloc: Global,
     held: [Option<&[u8]>; 4],
@@ -123,7 +125,7 @@ pub fn host_with(
     MemHost::new(alloc, files_of(alloc, held)?, piece, ROOM, failing)
 }
 
-/// Whether the same files have these texts or are not there, `unit=3` is not, and this was said.
+/// Returns whether the same files have these texts or do not exist, `unit=3` does not, and this was printed.
 pub fn leaves(host: &MemHost, held: [Option<&str>; 4], said: &str) -> bool {
     let [input, output, mesh, cert] = held;
     has(host, "in", input)
@@ -134,7 +136,7 @@ pub fn leaves(host: &MemHost, held: [Option<&str>; 4], said: &str) -> bool {
         && host.said() == said.as_bytes()
 }
 
-/// Whether the file of this name has this text, or is not there.
+/// Returns whether the file of this name has this text, or does not exist.
 fn has(host: &MemHost, name: &str, text: Option<&str>) -> bool {
     match text {
         Some(text) => host.file(name) == Some(text.as_bytes()),
@@ -142,7 +144,7 @@ fn has(host: &MemHost, name: &str, text: Option<&str>) -> bool {
     }
 }
 
-/// The status of a run on these words, where `export` writes PLY, OFF and OBJ, and so does a `sweep` of three surfaces.
+/// Returns the status of a run on these arguments; `export` and a `sweep` of three surfaces write PLY, OFF and OBJ.
 pub fn in_three_forms<H: Host>(
     alloc: Global,
     words: &[String],

@@ -1,4 +1,4 @@
-//! What runs of `export` begin with, and what is shown behind them.
+//! The initial and final states of runs of `export`.
 ghost use Rattle.std.specs.Prelude.{◌≡◌, ◌<◌, false, IfOk};
 ghost use Rattle.host.specs.Memory.{state_of, AreNumbers};
 
@@ -7,7 +7,7 @@ use host::{HostCall, MemHost};
 use recon_cmd::NoMemory;
 use std::alloc::Global;
 
-/// The mesh of the four points, where `out` and `cert` are not there and `in` holds something.
+/// Returns the mesh of the four points; `out` and `cert` do not exist and `in` is not empty.
 pub fn beginning(
     alloc: Global,
     piece: usize,
@@ -26,7 +26,8 @@ pub fn beginning(
     )
 }
 
-/// Whether `out`, `cert` and `in` hold these texts or are not there, beside the mesh of the four points, and this was said.
+/// Returns whether `out`, `cert` and `in` have these texts or do not exist, beside the mesh of the four points, and this was
+/// printed.
 pub fn shows(host: &MemHost, texts: [Option<&str>; 3], said: &str) -> bool {
     let [output, cert, input] = texts;
     leaves(host, [input, output, Some(FOUR_MESH), cert], said)

@@ -1,4 +1,4 @@
-//! What runs of `sweep` begin with, and what is shown behind them.
+//! The initial and final states of runs of `sweep`.
 ghost use Rattle.std.specs.Prelude.{◌≡◌, ◌<◌, false, IfOk};
 ghost use Rattle.host.specs.Memory.{state_of, AreNumbers};
 
@@ -7,11 +7,11 @@ use host::{HostCall, MemHost};
 use recon_cmd::NoMemory;
 use std::alloc::Global;
 
-/// What `sweep` says of the four points at the vote 1 and the weights 0 and 1: the inner cell goes where its facets cost as much as its
-/// four sights.
+/// The line of `sweep` for the four points at the visibility weight 1 and the area weights 0 and 1: the inner cell vanishes
+/// when its facets cost as much as its four sights.
 pub const SWEPT: &str = "sweep 2 first_cost 0 last_cost 4\n";
 
-/// The four points, where `mesh` is not there and `out` holds something.
+/// Returns the four points; `mesh` does not exist and `out` is not empty.
 pub fn beginning(
     alloc: Global,
     piece: usize,
@@ -30,7 +30,7 @@ pub fn beginning(
     )
 }
 
-/// Whether `out` and `mesh` hold these texts or are not there, beside the four points, and this was said.
+/// Returns whether `out` and `mesh` have these texts or do not exist, beside the four points, and this was printed.
 pub fn shows(host: &MemHost, texts: [Option<&str>; 2], said: &str) -> bool {
     let [output, mesh] = texts;
     leaves(host, [Some(FOUR), output, mesh, None], said)

@@ -1,5 +1,5 @@
-//! Files that are longer than the limit, by the call under `run` that is told the limit: as long as it is read, and a byte more is
-//! refused.
+//! Files that are longer than the limit, by the call below `run` that takes the limit: a file of exactly this length is read,
+//! and one more byte is rejected.
 
 use super::fixtures::{
     ASK, BUILD, CELLS, CHECK, EXPORT, FOUR, FOUR_CERT, FOUR_CHECKED, FOUR_EXPORTED, FOUR_MESH,
@@ -16,7 +16,7 @@ use watch::Silent;
 
 const SLICE: [&str; 4] = ["slice", "mesh", "0", "out"];
 
-/// The bytes of a text, made as long as this by others behind them.
+/// Returns the bytes of a text, extended to this length.
 fn lengthened(alloc: Global, text: &str, length: usize) -> Result<Vec<u8>, Fail> {
     let mut bytes = text.as_bytes().to_vec(alloc)?;
     bytes.resize(length.max(text.len()), b'x')?;

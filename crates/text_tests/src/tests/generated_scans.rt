@@ -1,4 +1,4 @@
-//! The generator against the rows that another program made from the same words.
+//! The generator, compared with the rows that another program generated from the same random words.
 
 ghost use Rattle.std.specs.Prelude.{◌≤◌};
 
@@ -9,7 +9,7 @@ use std::test::Fail;
 
 const SCANNERS: &str = "5000 0 0\n-5000 0 0\n0 5000 0\n0 -5000 0\n0 0 5000\n0 0 -5000\n";
 
-/// Whether the plain form of a generated scan ends with these lines and those of the six scanners.
+/// Returns whether the plain form of a generated scan ends with these lines and those of the six scanners.
 fn ends_with(alloc: Global, rows: u32, seed: u64, vertices: &str) -> Result<bool, Fail>
     requires some { 1 ≤ rows }
     requires few { rows ≤ 100 }

@@ -1,4 +1,4 @@
-use Rattle.cell_laws.proofs.RimLists.{facet_law}
+use Rattle.cell_laws.proofs.OneFacet.{facet_law}
 use Rattle.cell_laws.proofs.cells.facet_law.Goals as goal
 
 pub returns : goal.returns

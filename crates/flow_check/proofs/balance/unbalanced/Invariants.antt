@@ -1,4 +1,4 @@
-use Rattle.flow_check.specs.Firsts.{NoneBelow}
+use Rattle.flow_net.specs.Firsts.{NoneBelow}
 use Rattle.flow_check.specs.Verdicts.{IsUnbalanced}
 use Rattle.flow_check.proofs.balance.unbalanced.Given as goal
 

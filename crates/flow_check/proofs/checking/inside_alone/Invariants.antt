@@ -1,4 +1,4 @@
-use Rattle.flow_check.specs.Firsts.{NoneBelow}
+use Rattle.flow_net.specs.Firsts.{NoneBelow}
 use Rattle.flow_check.specs.Verdicts.{IsInsideAlone}
 use Rattle.flow_check.proofs.checking.inside_alone.Given as goal
 

@@ -1,4 +1,4 @@
-use Rattle.flow_check.specs.Firsts.{NoneBelow}
+use Rattle.flow_net.specs.Firsts.{NoneBelow}
 use Rattle.flow_check.specs.Verdicts.{IsOverCapacity}
 use Rattle.flow_check.proofs.limits.over_capacity.Given as goal
 

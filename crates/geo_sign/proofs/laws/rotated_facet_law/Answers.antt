@@ -1,6 +1,5 @@
-use Rattle.geo_sign.proofs.Rotations.{side_rotated, side_turned, crossed_rotated, rotations}
+use Rattle.geo_sign.proofs.Rotations.{side_rotated, side_turned, crossed_rotated}
 use Rattle.geo_sign.proofs.Rewritings.{same_facets}
-use Rattle.geo_sign.proofs.Among.{among_means}
 use Rattle.geo_sign.proofs.laws.rotated_facet_law.Goals as goal
 
 pub returns-clause-sides : goal.returns-clause-sides
@@ -12,11 +11,5 @@ returns-clause-turned c = side_turned
 pub returns-clause-crossings : goal.returns-clause-crossings
 returns-clause-crossings c = crossed_rotated
 
-pub returns-clause-rotations : goal.returns-clause-rotations
-returns-clause-rotations c = rotations
-
 pub returns-clause-facets : goal.returns-clause-facets
 returns-clause-facets c = same_facets
-
-pub returns-clause-among : goal.returns-clause-among
-returns-clause-among c = among_means

@@ -1,5 +1,4 @@
 use Rattle.geo_sign.proofs.RowLaws.{rows_exist, rows_are_written, rows_are_kept, rows_tell, cells_are_rows, written_facets}
-use Rattle.geo_sign.proofs.RowLaws.{facets_are_among}
 use Rattle.geo_sign.proofs.laws.row_law.Goals as goal
 
 pub returns-clause-exist : goal.returns-clause-exist
@@ -19,6 +18,3 @@ returns-clause-cells c = cells_are_rows
 
 pub returns-clause-least_first : goal.returns-clause-least_first
 returns-clause-least_first c = written_facets
-
-pub returns-clause-among : goal.returns-clause-among
-returns-clause-among c = facets_are_among

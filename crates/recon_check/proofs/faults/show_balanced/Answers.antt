@@ -1,6 +1,6 @@
 use Rattle.std.proofs.Common.{◌∙◌, ap, sym, length, subst, Option, IfSome, IfNone}
 use Rattle.cert_text.specs.Certificates.{claim_of}
-use Rattle.flow_check.specs.Firsts.{NoneBelow}
+use Rattle.flow_net.specs.Firsts.{NoneBelow}
 use Rattle.flow_net.specs.Faults.{total_out}
 use Rattle.flow_net.specs.Networks.{amount_in}
 use Rattle.solution.specs.Solutions.{flow_on, sink_at}

@@ -1,4 +1,4 @@
-use Rattle.flow_check.specs.Firsts.{NoneBelow}
+use Rattle.flow_net.specs.Firsts.{NoneBelow}
 use Rattle.recon_check.specs.ByRows.{IsFixedAt}
 use Rattle.recon_check.proofs.limits.first_fixed.Given as goal
 

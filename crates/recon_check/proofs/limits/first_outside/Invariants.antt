@@ -1,4 +1,4 @@
-use Rattle.flow_check.specs.Firsts.{NoneBelow}
+use Rattle.flow_net.specs.Firsts.{NoneBelow}
 use Rattle.recon_check.specs.ByRows.{IsOutsideAt}
 use Rattle.recon_check.proofs.limits.first_outside.Given as goal
 

@@ -1,4 +1,4 @@
-use Rattle.flow_check.specs.Firsts.{NoneBelow}
+use Rattle.flow_net.specs.Firsts.{NoneBelow}
 use Rattle.recon_check.specs.ByRows.{IsOverSinkAt}
 use Rattle.recon_check.proofs.limits.first_over_sink.Given as goal
 

@@ -1,4 +1,4 @@
-//! The lines of verdicts, in memory. It stands on `recon_check`, which tells them, and on `cert_text`, which makes the digits of
+//! The lines of verdicts, in memory. Depends on `recon_check`, which has the verdicts, and on `cert_text`, which prints
 //! digests.
 ghost use Rattle.std.specs.Fmt.{signed_decimal};
 ghost use Rattle.std.specs.Prelude.{◌≡◌, IfOk, codes, ◌++◌, OnOk, Some};
@@ -15,7 +15,7 @@ use num_text::{push_natural, push_whole};
 use recon_check::{Reason, Which};
 use std::alloc::Global;
 
-/// What was found: the numbers of inside cells and of faces, and the cost.
+/// Returns the line for yes: the numbers of inside cells and of faces, and the cost.
 #[tactic(auto, unfolding(crate::specs::Check::yes_line))]
 pub fn line_of_yes(alloc: Global, inside: u64, faces: u64, cost: u64) -> Result<Vec<u8>, NoMemory>
     ensures { IfOk result (λ line. line.items ≡ yes_line inside faces cost) }
@@ -28,7 +28,7 @@ pub fn line_of_yes(alloc: Global, inside: u64, faces: u64, cost: u64) -> Result<
     Ok(line)
 }
 
-/// Why a mesh and a certificate are not the best surface and the certificate that shows it best.
+/// Returns the line for the reason of a no.
 pub fn line_of_reason(alloc: Global, reason: &Reason) -> Result<Vec<u8>, NoMemory>
     ensures { IfOk result (λ line. line.items ≡ reason_line reason.now) }
 {
@@ -73,7 +73,7 @@ pub fn line_of_reason(alloc: Global, reason: &Reason) -> Result<Vec<u8>, NoMemor
     }
 }
 
-/// The digest of the file that a certificate belongs to, and that of the file that was read.
+/// Returns the line with the digest of the file that a certificate belongs to, and that of the file that was read.
 #[tactic(auto, unfolding(crate::specs::Check::digests_line))]
 fn line_of_digests(alloc: Global, stated: &[u8; 32], here: &[u8; 32]) -> Result<Vec<u8>, NoMemory>
     ensures { IfOk result (λ line. line.items ≡ digests_line (codes "no 16 other_scan") stated.now here.now) }
@@ -90,7 +90,7 @@ fn line_of_digests(alloc: Global, stated: &[u8; 32], here: &[u8; 32]) -> Result<
     Ok(line)
 }
 
-/// The unit of a certificate, and that of this run.
+/// Returns the line with the scale of a certificate, and that of this run.
 fn line_of_units(alloc: Global, stated: u32, here: u32) -> Result<Vec<u8>, NoMemory>
     ensures { IfOk result (λ line. line.items ≡ amounts_line (codes "no 17 other_unit") (codes " stated ") (codes " here ") stated here) }
 {
@@ -105,7 +105,7 @@ fn line_of_units(alloc: Global, stated: u32, here: u32) -> Result<Vec<u8>, NoMem
     )
 }
 
-/// The fixed scanner of a certificate, and that of this run.
+/// Returns the line with the fixed scanner of a certificate, and that of this run.
 #[tactic(auto, unfolding(crate::specs::Check::scanners_line))]
 fn line_of_scanners(
     alloc: Global,
@@ -124,7 +124,7 @@ fn line_of_scanners(
     Ok(line)
 }
 
-/// Adds a fixed scanner, or that there is none.
+/// Appends a fixed scanner, or `none`.
 fn push_scanner(line: &mut Vec<u8>, scanner: &Option<Point>) -> Result<(), NoMemory>
     ensures { OnOk result (line.new.items ≡ line.old.items ++ scanner_text scanner.now) }
 {
@@ -134,14 +134,14 @@ fn push_scanner(line: &mut Vec<u8>, scanner: &Option<Point>) -> Result<(), NoMem
     }
 }
 
-/// Adds the coordinates of a point, with a space between two.
+/// Appends the coordinates of a point, separated by single spaces.
 fn push_point(line: &mut Vec<u8>, point: &Point) -> Result<(), NoMemory>
     ensures { OnOk result (line.new.items ≡ line.old.items ++ scanner_text (Some point.now)) }
 {
     push_three(line, point.x(), point.y(), point.z())
 }
 
-/// Adds three coordinates, with a space between two.
+/// Appends three coordinates, separated by single spaces.
 fn push_three(line: &mut Vec<u8>, x: i32, y: i32, z: i32) -> Result<(), NoMemory>
     ensures { OnOk result (line.new.items ≡ line.old.items ++ scanner_text (Some (point x y z))) }
 {
@@ -153,7 +153,7 @@ fn push_three(line: &mut Vec<u8>, x: i32, y: i32, z: i32) -> Result<(), NoMemory
     Ok(())
 }
 
-/// Adds a coordinate.
+/// Appends a coordinate.
 fn push_coordinate(line: &mut Vec<u8>, coordinate: i32) -> Result<(), NoMemory>
     ensures { OnOk result (line.new.items ≡ line.old.items ++ signed_decimal coordinate) }
 {
@@ -161,7 +161,7 @@ fn push_coordinate(line: &mut Vec<u8>, coordinate: i32) -> Result<(), NoMemory>
     Ok(())
 }
 
-/// A number that a certificate states, and the scan's own.
+/// Returns the line with a number that a certificate states, and the scan's own.
 fn line_of_counts(alloc: Global, which: Which, stated: u32, here: u32) -> Result<Vec<u8>, NoMemory>
     ensures { IfOk result (λ line. line.items ≡ amounts_line (codes "no 4 other_counts " ++ which_word which) (codes " stated ") (codes " here ") stated here) }
 {
@@ -176,7 +176,7 @@ fn line_of_counts(alloc: Global, which: Which, stated: u32, here: u32) -> Result
     )
 }
 
-/// A text, numbers behind it, and what flows there and what may.
+/// Returns a text, numbers after it, and the flow and the capacity there.
 fn line_of_over(
     alloc: Global,
     text: &[u8],
@@ -191,7 +191,7 @@ fn line_of_over(
     line_of_amounts(alloc, text, numbers, (b" flow ", flow), (b" cap ", cap))
 }
 
-/// A cell, what enters it and what leaves it.
+/// Returns the line with a cell, its inflow and its outflow.
 fn line_of_unbalanced(
     alloc: Global,
     cell: &[u32],
@@ -209,7 +209,7 @@ fn line_of_unbalanced(
     )
 }
 
-/// A text, an amount behind its label, and the cost of labels.
+/// Returns a text, an amount after its label, and the cost of labels.
 fn line_of_costs(
     alloc: Global,
     text: &[u8],
@@ -222,7 +222,7 @@ fn line_of_costs(
     line_of_amounts(alloc, text, &[], (label, amount), (b" cost ", cost))
 }
 
-/// A text, and numbers behind it.
+/// Returns a text, and numbers after it.
 #[tactic(auto, unfolding(crate::specs::Check::line_with_numbers))]
 fn line_of_numbers(alloc: Global, text: &[u8], numbers: &[u32]) -> Result<Vec<u8>, NoMemory>
     ensures { IfOk result (λ line. line.items ≡ line_with_numbers text.now numbers.now) }
@@ -234,7 +234,7 @@ fn line_of_numbers(alloc: Global, text: &[u8], numbers: &[u32]) -> Result<Vec<u8
     Ok(line)
 }
 
-/// A text, numbers behind it, and two amounts, each behind its label.
+/// Returns a text, numbers after it, and two amounts, each after its label.
 #[tactic(auto, unfolding(crate::specs::Check::amounts_line))]
 fn line_of_amounts(
     alloc: Global,
@@ -254,7 +254,7 @@ fn line_of_amounts(
     Ok(line)
 }
 
-/// Adds numbers, each behind a space.
+/// Appends numbers, each after a space.
 fn push_spaced(line: &mut Vec<u8>, numbers: &[u32]) -> Result<(), NoMemory>
     ensures { OnOk result (line.new.items ≡ line.old.items ++ spaced numbers.now) }
 {
@@ -264,7 +264,7 @@ fn push_spaced(line: &mut Vec<u8>, numbers: &[u32]) -> Result<(), NoMemory>
     Ok(())
 }
 
-/// Adds a label, and an amount behind it.
+/// Appends a label, and an amount after it.
 fn push_amount(line: &mut Vec<u8>, label: &[u8], amount: u128) -> Result<(), NoMemory>
     ensures { OnOk result (line.new.items ≡ line.old.items ++ labelled label.now amount) }
 {
@@ -272,7 +272,7 @@ fn push_amount(line: &mut Vec<u8>, label: &[u8], amount: u128) -> Result<(), NoM
     push_natural(line, amount)
 }
 
-/// That a number which a certificate states is not the scan's own.
+/// Returns the text for a number of a certificate that is not the scan's own.
 fn text_of(which: Which) -> &'static [u8]
     ensures { result.now ≡ codes "no 4 other_counts " ++ which_word which }
 {

@@ -1,9 +1,6 @@
-use Rattle.visibility.proofs.Listings.{rising_is_listed, each_once}
+use Rattle.visibility.proofs.Listings.{each_once}
 use Rattle.visibility.proofs.ListingAgreements.{listings_agree}
 use Rattle.visibility.proofs.laws.order_decides_nothing.Goals as goal
-
-pub returns-clause-rising : goal.returns-clause-rising
-returns-clause-rising c = rising_is_listed
 
 pub returns-clause-once : goal.returns-clause-once
 returns-clause-once c = each_once

@@ -16,8 +16,7 @@ use Rattle.visibility.specs.Networks.{complex_of, IsNetworkOf}
 use Rattle.visibility.specs.Scenes.{Scene, scene_of}
 use Rattle.visibility.specs.Votes.{is_fixed}
 use Rattle.visibility.proofs.Indices.{map_of_indices, once_rising}
-use Rattle.visibility.proofs.Listings.{in_any_order}
-use Rattle.visibility.proofs.Numbers.{labels_agree}
+use Rattle.plain_net.proofs.Numbers.{admissible_over}
 use Rattle.tetra_store.specs.declared.link.Cell.{Cell}
 use Rattle.tetra_store.specs.Delaunay.{IsDelaunay}
 use Rattle.tetra_store.specs.Links.{links_of}
@@ -70,7 +69,7 @@ over s slots voted ids labels cells network are admissible =
     map_of_indices voted.cells labels.inside false (once_rising voted.cells network.complex_is.cells_are.rising)
     (label_count s voted labels network admissible) in
     listed_over s slots cells (complex_of voted) network.complex_is ids are labels.inside
-    ((labels_agree s voted (test_of voted.cells labels.inside) (in_any_order s voted network)).admissible.0
+    (admissible_over s voted (test_of voted.cells labels.inside) network
     (subst (λ (flags : List Bool). IsAdmissible voted.net (record { inside = flags })) (sym is) admissible))
 
 -- the store has the cells of the scene of its data points
