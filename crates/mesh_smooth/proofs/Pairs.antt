@@ -78,13 +78,3 @@ all_asked before points faces asked each i j ne li lj ei ej apart = absurd (fals
 pub on_no : (b : Bool) {P Q : Type 0} → (P → Q) → OnFalse b P → OnFalse b Q
 on_no true f h = tt
 on_no false f h = f h
-
--- a point that may go back, and then may go back
-pub either_on : (before old mid new : List Point) → ((v : ℕ) → (point_at mid v ≡ point_at old v) ⊎ (point_at mid v ≡ point_at before v))
-    → ((v : ℕ) → (point_at new v ≡ point_at mid v) ⊎ (point_at new v ≡ point_at before v))
-    → (v : ℕ) → (point_at new v ≡ point_at old v) ⊎ (point_at new v ≡ point_at before v)
-either_on before old mid new first second v =
-    elim (second v) [
-      | inl e ↦ elim (first v) [ inl d ↦ inl (e ∙ d) | inr d ↦ inr (e ∙ d) ]
-      | inr e ↦ inr e
-    ]

@@ -40,20 +40,6 @@ shaped_on before mid after old some new first second =
       apart = λ i j ne li lj apart. second.apart i j ne (omega arith) (omega arith) (first.apart i j ne li lj apart);
     }
 
--- points of which each stands at one of two near places
-pub near_either : (home before old new : List Point) (within : ℕ) → AreNearHome home before within → AreNearHome home old within
-    → length new ≡ length old → ((v : ℕ) → (point_at new v ≡ point_at old v) ⊎ (point_at new v ≡ point_at before v))
-    → AreNearHome home new within
-near_either home before old new within was is count either =
-    record {
-      count = count ∙ is.count;
-      near = λ v l.
-          elim (either v) [
-            | inl e ↦ subst (λ (p : Point). IsNear (point_at home v) p within) (sym e) (is.near v l)
-            | inr e ↦ subst (λ (p : Point). IsNear (point_at home v) p within) (sym e) (was.near v l)
-          ];
-    }
-
 -- one point more moved
 pub near_set : (home points : List Point) (within v : ℕ) (p : Point) → AreNearHome home points within → v < length points
     → IsNear (point_at home v) p within → AreNearHome home (set points v p) within

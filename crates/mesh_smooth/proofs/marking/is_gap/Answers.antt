@@ -1,4 +1,4 @@
-use Rattle.mesh_flips.proofs.Off.{off_apart, apart_back}
+use Rattle.mesh_flips.proofs.Off.{off_apart}
 use Rattle.mesh_smooth.proofs.marking.is_gap.Goals as goal
 
 pub returns-then-not-meets : goal.returns-then-not-meets

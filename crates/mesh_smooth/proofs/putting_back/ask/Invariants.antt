@@ -1,4 +1,4 @@
-use Rattle.std.proofs.Common.{ℕ, ◌≡◌, ◌<◌, true, false}
+use Rattle.std.proofs.Common.{ℕ, ◌≡◌, ◌<◌, false}
 use Rattle.mesh_edges.specs.Edges.{face_at}
 use Rattle.mesh_smooth.specs.Rounds.{flag, IsUnflagged}
 use Rattle.mesh_smooth.proofs.putting_back.ask.Given as goal

@@ -1,5 +1,5 @@
 use Rattle.std.proofs.Common.{arith, inl, inr, refl, ℕ, ◌≡◌, ◌⊎◌}
-use Rattle.mesh_smooth.proofs.Pairs.{all_asked, either_on}
+use Rattle.mesh_smooth.proofs.Pairs.{all_asked}
 use Rattle.mesh_smooth.proofs.rounds.all_rounds.Goals as goal
 
 pub loop-init : goal.loop-init

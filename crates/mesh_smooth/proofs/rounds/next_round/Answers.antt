@@ -1,8 +1,7 @@
 -- Marks and flags are written through one borrowed slice and read through another, so `marks` and `flags` first say that these are one.
-use Rattle.std.proofs.Common.{◌≡◌, ◌∙◌, sym, subst, arith, List, Bool, length, drop, true, ℕ, ◌<◌}
+use Rattle.std.proofs.Common.{◌≡◌, ◌∙◌, sym, subst, arith, List, Bool, length, drop}
 use Rattle.std.proofs.lemmas.List.{take_at}
-use Rattle.mesh_edges.specs.Edges.{face_at}
-use Rattle.mesh_smooth.specs.Rounds.{flag, AreKeptApart, AreAllTested, AreAsked, IsStill, HasGoneBack}
+use Rattle.mesh_smooth.specs.Rounds.{AreAllTested, AreAsked}
 use Rattle.mesh_smooth.proofs.Pairs.{round_kept, round_rest, all_kept, on_no}
 use Rattle.mesh_smooth.proofs.rounds.next_round.Goals as goal
 
