@@ -87,10 +87,10 @@ bench: recon reference
 bench-others: recon
 	$(PYTHON) dev/others.py ./recon bench_scans
 
-# Times build alone on the three worst shapes and on a cube, a room and a torus of a million points, a run each (some minutes; BESIDE as
+# Times build alone on the three worst shapes and on a cube, a room and a torus of a million points, three runs each (ten minutes; BESIDE as
 # above), and prints the table of docs/explain/performance.md that has these.
 bench-short: recon reference
-	$(PYTHON) dev/bench.py ./recon bench_scans scans=short check=no runs=1 $(if $(BESIDE),beside=$(BESIDE))
+	$(PYTHON) dev/bench.py ./recon bench_scans scans=short check=no $(if $(BESIDE),beside=$(BESIDE))
 
 # Installs the two programs, their manual pages and the programs of tools/ under PREFIX (a second, where they are built; else they
 # are built first). recon-scan and the others run the package in share/recon by any Python 3.8 or later that has numpy and scipy.

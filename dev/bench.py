@@ -14,9 +14,10 @@
   scans=NAME.N,..    these scans, each a shape with its own size, in the place of sizes and shapes; scans=short stands for the worst
                      shapes, and a cube, a room and a torus of 1000000
   check=no           times `build` alone
-  runs=N             runs of each; the least times and the largest peak count (default: 2)
+  runs=N             runs of each, run by run with the program beside (default: 3)
 
-Seconds are of the processor (user and system) and of the wall; the peak is the largest resident memory, in units of 2^20
+Seconds are of the processor (user and system), the least and the greatest of the runs, and the ratio is that of the least ones. They rise
+where other work shares memory and caches, so compare programs of one row alone. The peak is the largest resident memory, in units of 2^20
 bytes. Needs Python 3.9.
 """
 from __future__ import annotations
@@ -25,7 +26,6 @@ import os
 import resource
 import subprocess
 import sys
-import time
 from typing import Any, Sequence
 
 from tools_path import PACKAGE
@@ -40,16 +40,14 @@ SHORT = WORST + (('cube', 1000000), ('room', 1000000), ('torus', 1000000))
 
 
 class Run:
-    """One run: what it said, its seconds and its peak."""
+    """One run: what it said, its seconds of the processor and its peak."""
 
     def __init__(self, words: list[str]) -> None:
         reading, writing = os.pipe()
-        started = time.monotonic()
         child = subprocess.Popen(words, stdout=writing, stderr=subprocess.PIPE)
         os.close(writing)
         _, status, usage = os.wait4(child.pid, 0)
         child.returncode = os.waitstatus_to_exitcode(status)
-        self.wall = time.monotonic() - started
         self.processor = usage.ru_utime + usage.ru_stime
         self.peak = usage.ru_maxrss // 1024
         with os.fdopen(reading, 'rb') as said:
@@ -58,13 +56,19 @@ class Run:
             raise Refusal(f'{" ".join(words)} ended with {child.returncode}: {self.line.strip()}')
 
 
-def least(runs: list[Run]) -> tuple[float, float, int]:
-    """The least processor and wall seconds of some runs and the largest peak."""
-    return min(r.processor for r in runs), min(r.wall for r in runs), max(r.peak for r in runs)
+def cells_of(runs: list[Run]) -> list[str]:
+    """Returns the seconds of some runs, from the least to the greatest, and the largest peak."""
+    seconds = sorted((f'{run.processor:.1f}' if run.processor >= 1 else f'{run.processor:.2f}' for run in runs), key=float)
+    return [seconds[0] if seconds[0] == seconds[-1] else f'{seconds[0]} to {seconds[-1]}', f'{max(run.peak for run in runs):,}']
+
+
+def least(runs: list[Run]) -> float:
+    """Returns the least processor seconds of some runs."""
+    return min(run.processor for run in runs)
 
 
 def named(word: str) -> list[tuple[str, int]]:
-    """The scans of the option `scans`."""
+    """Returns the scans of the option `scans`."""
     if word == 'short':
         return list(SHORT)
     pairs = [scan.split('.') for scan in word.split(',')]
@@ -74,7 +78,7 @@ def named(word: str) -> list[tuple[str, int]]:
 
 
 def scan_of(folder: str, shape: str, size: int) -> str:
-    """The path of a scan, which is made where it is missing."""
+    """Returns the path of a scan, which is made where it is missing."""
     path = os.path.join(folder, f'{shape}.{size}.ply')
     if not os.path.exists(path):
         subprocess.run([sys.executable, PACKAGE, 'make-scan', shape, str(size), SEED, path], check=True,
@@ -83,7 +87,7 @@ def scan_of(folder: str, shape: str, size: int) -> str:
 
 
 def texts(program: str, folder: str, name: str) -> list[str]:
-    """Where a program writes its mesh and its certificate."""
+    """Returns where a program writes its mesh and its certificate."""
     label = os.path.basename(program)
     return [os.path.join(folder, f'{name}.{label}.{kind}') for kind in ('ply', 'cert')]
 
@@ -107,7 +111,7 @@ def compared(lines: list[str], meshes: list[str]) -> None:
 
 
 def measured(programs: list[str], folder: str, shape: str, size: int, count: int, check: bool) -> list[str]:
-    """A row of the table: each program's build, and where that is asked for the first one's check of its own files."""
+    """Returns a row of the table: each program's build, and where that is asked for the first one's check of its own files."""
     scan, name = scan_of(folder, shape, size), f'{shape}.{size}'
     built = {program: [] for program in programs}
     for _ in range(count):
@@ -115,25 +119,21 @@ def measured(programs: list[str], folder: str, shape: str, size: int, count: int
             built[program].append(Run([program, 'build', scan, *texts(program, folder, name)]))
     if len(programs) == 2:
         compared([built[program][0].line for program in programs], [texts(program, folder, name)[0] for program in programs])
-    cells = [f'{shape} {size:,}']
-    for program in programs:
-        processor, wall, peak = least(built[program])
-        cells += [f'{processor:.2f}', f'{wall:.2f}', str(peak)]
+    cells = [f'{shape} {size:,}', *(cell for program in programs for cell in cells_of(built[program]))]
     if len(programs) == 2:
-        cells += [f'{least(built[programs[0]])[0] / least(built[programs[1]])[0]:.2f}']
+        cells.append(f'{least(built[programs[0]]) / least(built[programs[1]]):.2f}')
     if not check:
         return cells
-    processor, wall, peak = least([Run([programs[0], 'check', scan, *texts(programs[0], folder, name)]) for _ in range(count)])
-    return cells + [f'{processor:.2f}', f'{wall:.2f}', str(peak)]
+    return cells + cells_of([Run([programs[0], 'check', scan, *texts(programs[0], folder, name)]) for _ in range(count)])
 
 
 def heading(programs: list[str], check: bool) -> str:
-    """The first two rows of the table."""
-    cells = ['scan', 'build s', 'wall s', 'peak MB']
+    """Returns the first two rows of the table."""
+    cells = ['scan', 'build s', 'peak MB']
     if len(programs) == 2:
-        cells += ['reference s', 'wall s', 'peak MB', 'ratio']
+        cells += ['reference s', 'peak MB', 'ratio']
     if check:
-        cells += ['check s', 'wall s', 'peak MB']
+        cells += ['check s', 'peak MB']
     return '| ' + ' | '.join(cells) + ' |\n|' + '---|' * len(cells)
 
 
@@ -152,7 +152,7 @@ def main(names: Sequence[str], options: Any) -> str:
     elif not options.sizes and not options.shapes:
         scans += WORST
     for shape, size in scans:
-        print('| ' + ' | '.join(measured(programs, folder, shape, size, int(options.runs or 2), check)) + ' |', flush=True)
+        print('| ' + ' | '.join(measured(programs, folder, shape, size, int(options.runs or 3), check)) + ' |', flush=True)
     return f'{len(scans)} scans'
 
 

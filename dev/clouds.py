@@ -6,7 +6,7 @@
   RECON          the built program
   FOLDER         where the clouds are unpacked, and the meshes are written
   only=PART      clouds with this in their name alone
-  seconds=N      how long finishing one of them may take (--patience); without it 2, so that large meshes stay as they were built
+  seconds=N      how long finishing one of them may take (--patience; default: 2, so large meshes are not smoothed)
 
 Each row: points, how lines of sight are known, the spacing, the noise in spacings, unit, area weight, lone points, pieces that were kept,
 visibility weight against a sight, and the part of the area that no scanner saw; or the error. The last line counts the clouds that came out.
@@ -30,16 +30,16 @@ from recon.toolbox.tool import run
 ARCHIVES = ('data', 'demo', 'examples')
 CGAL, OPENCV = Path('/usr/share/doc/libcgal-dev'), Path('/usr/share/doc/opencv-doc/examples')
 ENDINGS = ('.xyz', '.pwn', '.ply', '.las')
-HEAD = '| Cloud | Points | Sights | Apart | Noise | unit | smooth | Lone | Pieces | Against | Unseen | Seconds |\n|' + '---|' * 12
+HEAD = '| Cloud | Points | Lines of sight | Spacing | Noise | `unit` | `smooth` | Lone | Components | Contradicted | Unseen |\n|' + '---|' * 11
 
 
 def is_cloud(name: str) -> bool:
-    """Whether a member of an archive is a cloud, by its place and its ending."""
+    """Returns whether a member of an archive is a cloud, by its place and its ending."""
     return name.endswith(ENDINGS) and 'points_3' in name or name.endswith('.las')
 
 
 def clouds(folder: Path) -> Iterator[Path]:
-    """The clouds of both packages, each name once; what is packed is unpacked first."""
+    """Yields the clouds of both packages, each name once; what is packed is unpacked first."""
     kept, seen = folder / 'clouds', set()
     kept.mkdir(parents=True, exist_ok=True)
     for archive in (CGAL / f'{name}.tar.gz' for name in ARCHIVES):
@@ -57,8 +57,8 @@ def clouds(folder: Path) -> Iterator[Path]:
 
 
 def row_of(path: Path, recon: str, folder: Path, seconds: str) -> tuple[str, bool]:
-    """The row of a cloud, and whether a surface came out."""
-    out = folder / (path.name + '.glb')
+    """Returns the row of a cloud, and whether a surface came out."""
+    out = folder / (path.name + '.ply')
     words = [sys.executable, PACKAGE, 'surface', str(path), '-o', str(out), '-q', '--program', recon, '--patience', seconds]
     done = subprocess.run(words, capture_output=True, text=True)
     if done.returncode not in (0, 4):
@@ -67,10 +67,9 @@ def row_of(path: Path, recon: str, folder: Path, seconds: str) -> tuple[str, boo
     chosen = {name: it['value'] for name, it in report['choices'].items()}
     figures, against = report['figures'], report['votes_against_per_sight']
     apart, noise = float(figures['spacing']), float(figures['noise'])
-    cells = [path.name, figures['points read'], chosen['sights'], f'{apart:.3g}', f'{noise / apart:.2f}', chosen['unit'], chosen['smooth'],
+    cells = [path.name, figures['points read'], chosen['sights'].replace('along ', ''), f'{apart:.3g}', f'{noise / apart:.2f}', chosen['unit'], chosen['smooth'],
              chosen.get('lone points', ''), f'{chosen["pieces"]} {report["choices"]["pieces"]["why"].split(",")[0]}',
-             f'**{against:.3f}**' if against > 0.1 else f'{against:.3f}', f'{report["unseen_area"]:.0%}',
-             f'{sum(report["seconds"].values()):.1f}']
+             f'**{against:.3f}**' if against > 0.1 else f'{against:.3f}', f'{report["unseen_area"]:.0%}']
     return '| ' + ' | '.join(cells) + ' |', True
 
 

@@ -19,11 +19,12 @@ class Choice:
 
 @dataclass
 class Choices:
-    """The choices of a run by name, its warnings, and the seconds of each of its steps."""
+    """The choices of a run by name, its warnings, the seconds of each of its steps, and of what ran beside them."""
     is_quiet: bool = False
     chosen: Dict[str, Choice] = field(default_factory=dict)
     warnings: List[str] = field(default_factory=list)
     seconds: Dict[str, float] = field(default_factory=dict)
+    beside: Dict[str, float] = field(default_factory=dict)
     begun: float = field(default_factory=time.monotonic)
     step_begun: float = field(default_factory=time.monotonic)
 

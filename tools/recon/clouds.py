@@ -1,6 +1,6 @@
 """What points say of themselves: how far they are apart, how noisy they are, and which origin and unit fit them.
 
-Names: spacing (distance and noise) · frame (origin and unit) · lone_points · surrounding (how much of the directions around a
+Names: spacing (distance and noise) · tree_of, neighbors (nearest points) · frame (origin and unit) · lone_points · surrounding (how much of the directions around a
 scanner has points) · thinning_side, thinned (one point a cube).
 """
 from __future__ import annotations
@@ -33,14 +33,15 @@ class Frame(NamedTuple):
     unit: int
 
 
-def spacing(points: np.ndarray) -> Spacing:
+def spacing(points: np.ndarray, tree: cKDTree | None = None) -> Spacing:
     """Returns how far the points (n, 3) are apart and how noisy they are, from a sample of 4,000 of them. Detail as small as the
-    spacing counts as noise. Both are 0 for fewer than two different points; the noise is 0 for fewer than 12."""
+    spacing counts as noise. Both are 0 for fewer than two different points; the noise is 0 for fewer than 12. `tree` is
+    `tree_of(points)`, if it is known."""
     points = np.asarray(points, float)
     if len(points) < 2:
         return Spacing(0.0, 0.0)
     some = points[np.sort(np.random.default_rng(1).permutation(len(points))[:SAMPLE])]
-    apart, near = cKDTree(points).query(some, min(AROUND + 1, len(points)))
+    apart, near = (tree_of(points) if tree is None else tree).query(some, min(AROUND + 1, len(points)), workers=-1)
     width = apart[:, 1:NEAR + 1].mean(axis=1)
     if near.shape[1] < 12 or not np.median(width):
         return Spacing(float(np.median(width)), 0.0)
@@ -86,22 +87,36 @@ def origin_for(low: np.ndarray, high: np.ndarray, unit: int) -> np.ndarray:
     raise Invalid(f'the scan is {size:.4g} across, and {2 * LIMIT:,} units is the most', hint='divide its coordinates first (--divide)')
 
 
-def neighbors(points: np.ndarray, count: int) -> tuple[np.ndarray, np.ndarray]:
+def tree_of(points: np.ndarray) -> cKDTree:
+    """Returns the tree by which nearest points are found. It is not balanced, which takes a third longer to make."""
+    return cKDTree(points, balanced_tree=False)
+
+
+def neighbors(points: np.ndarray, count: int, tree: cKDTree | None = None) -> tuple[np.ndarray, np.ndarray]:
     """Returns the distances (n, count) and rows (n, count) of the nearest points of each point, itself the first. Points are asked for in the
-    order of the tree's leaves, so that near ones are in the cache, on all processors."""
-    tree = cKDTree(points)
-    apart, near = tree.query(points[tree.indices], count, workers=-1)
-    place = np.empty(len(points), np.int64)
-    place[tree.indices] = np.arange(len(points))
-    return apart[place], near[place]
+    order of the tree's leaves, so that near ones are in the cache, on all processors. `tree` is `tree_of(points)`, if it is known."""
+    tree = tree_of(points) if tree is None else tree
+    order = tree.indices
+    found = tree.query(points[order], count, workers=-1)
+    apart, near = np.empty((len(points), count)), np.empty((len(points), count), np.int64)
+    apart[order], near[order] = (part.reshape(len(points), count) for part in found)
+    return apart, near
 
 
-def lone_points(points: np.ndarray, factor: float = 4.0) -> np.ndarray:
+def lone_points(points: np.ndarray, factor: float = 4.0, tree: cKDTree | None = None) -> np.ndarray:
     """Returns which points are more than `factor` times as far from their six nearest as the neighborhoods of their twelve nearest
-    are wide on the median."""
-    apart, near = neighbors(points, min(13, len(points)))
-    wide = apart[:, 1:NEAR + 1].mean(axis=1)
-    return np.asarray(wide > factor * np.median(wide[near[:, 1:]], axis=1))
+    are wide on the median. A point is looked at by twelve if one of its six nearest is that near to others."""
+    tree = tree_of(points) if tree is None else tree
+    apart, near = neighbors(points, min(NEAR + 1, len(points)), tree)
+    wide = apart[:, 1:].mean(axis=1)
+    least = wide[near[:, 1]]
+    for column in near.T[2:]:
+        np.minimum(least, wide[column], out=least)
+    rows = np.flatnonzero(wide > factor * least)
+    around = tree.query(points[rows], min(2 * NEAR + 1, len(points)))[1][:, 1:]
+    lone = np.zeros(len(points), bool)
+    lone[rows] = wide[rows] > factor * np.median(wide[around], axis=1)
+    return lone
 
 
 def surrounding(points: np.ndarray, scanner: np.ndarray) -> float:

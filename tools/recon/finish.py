@@ -39,15 +39,16 @@ from typing import Any, Callable, List, Optional, Sequence, Tuple
 
 import numpy as np
 
+from recon.mesh_program import Wanted, finish_mesh, mesh_program_path
 from recon.meshes import Mesh, unseen_faces
 from recon.toolbox.flips import flip_edges
-from recon.toolbox.half_edges import fans_of, pair_edges, pieces_of
+from recon.toolbox.half_edges import fans_of, mean_angle, pair_edges, pieces_of
 from recon.toolbox.mesh_files import Column, Finished, form_of, read_mesh, write_mesh
 from recon.toolbox.ply_text import IS_NUMBER, Refusal
 from recon.toolbox.scan_rows import columns_of
 from recon.toolbox.smoothing import Smoother
 from recon.toolbox.tool import Report, number_of, run, three, whole, yes
-from recon.toolbox.vectors import across, angle, axes, dot, normal
+from recon.toolbox.vectors import across, axes, dot
 
 LONGEST = 1 << 22
 FINEST = 1 << 10
@@ -74,7 +75,7 @@ class Progress:
 @dataclass
 class Wishes:
     """The request, by its options; `unit` and `origin` are those of the scan, `within` a length of it. Of `scan`
-    the properties are brought back."""
+    the properties are brought back. `program` is the path of recon-mesh."""
     unit: int = 1
     origin: Sequence[float] = (0.0, 0.0, 0.0)
     pieces: Optional[int] = None
@@ -85,6 +86,7 @@ class Wishes:
     manifold: bool = False
     seen: bool = False
     scan: Optional[str] = None
+    program: Optional[str] = None
 
     @classmethod
     def of(cls, options: Any) -> Wishes:
@@ -113,6 +115,7 @@ class FinishReport(Report):
     kept_pieces: Optional[int] = None
     pieces: int = 0
     left_out: int = 0
+    is_flipped: bool = False
     flipped: Optional[int] = None
     let_be: int = 0
     steps: int = 0
@@ -142,6 +145,8 @@ class FinishReport(Report):
             said.append(f'unit={self.unit} by {self.stamp}')
         if self.kept_pieces is not None:
             said.append(f'kept {self.kept_pieces} of {number_of(self.pieces, "piece")} and left out {number_of(self.left_out, "face")}')
+        if self.is_flipped:
+            said.append('recon-mesh flipped edges')
         if self.flipped is not None:
             said.append(f'flipped {number_of(self.flipped, "edge")} and let {self.let_be} be where faces would cross or an edge stand twice')
         if self.steps:
@@ -166,9 +171,18 @@ class Work:
         self.places, self.corners = read_mesh(name) if mesh is None else mesh
         if not len(self.corners):
             raise Refusal('the mesh has no faces: there is nothing to finish')
-        self.twins = pair_edges(self.places, self.corners)
+        self.path, self.known_twins = name, np.zeros(0, np.int64)
         self.vertex_of = np.arange(len(self.places))
+        if mesh is None:
+            self.known_twins = pair_edges(self.places, self.corners)
         self.report = FinishReport(name, len(self.places), len(self.corners) // 3, unit=wishes.unit)
+
+    @property
+    def twins(self) -> np.ndarray:
+        """The twin of each half edge, found when it is asked for the first time. Raises `Refusal` where the mesh is not closed."""
+        if len(self.known_twins) != len(self.corners):
+            self.known_twins = pair_edges(self.places, self.corners)
+        return self.known_twins
 
     def keep_pieces(self, most: int) -> None:
         """Keeps the largest pieces."""
@@ -178,9 +192,9 @@ class Work:
         is_kept = np.isin(piece, kept)
         self.report.kept_pieces, self.report.pieces, self.report.left_out = len(kept), len(sizes), int((~is_kept).sum())
         if self.report.left_out:
-            used, corners = np.unique(self.corners.reshape(-1, 3)[is_kept], return_inverse=True)
-            self.places, self.corners, self.vertex_of = self.places[used], corners, used
-            self.twins = pair_edges(self.places, self.corners)
+            used, faces = with_used(self.corners.reshape(-1, 3)[is_kept], len(self.places))
+            self.places, self.corners, self.vertex_of = self.places[used], faces.ravel(), used
+            self.known_twins = np.zeros(0, np.int64)
 
     def sizes_of(self, piece: np.ndarray) -> np.ndarray:
         """The faces of each piece, or six times its volume."""
@@ -191,8 +205,14 @@ class Work:
 
     def flip(self) -> tuple[int, int]:
         """Flips edges, and answers how many, and how many were let be."""
-        self.corners, self.twins, flipped, kept = flip_edges(self.places, self.corners, self.twins, self.tell)
+        self.corners, self.known_twins, flipped, kept = flip_edges(self.places, self.corners, self.twins, self.tell)
         return flipped, kept
+
+    def flip_by_program(self, program: str) -> None:
+        """Flips the edges of the mesh as it was read, by `recon-mesh`."""
+        self.tell(f'recon-mesh finish {self.path}')
+        self.places, self.corners = finish_mesh(self.path, Wanted(), program)
+        self.known_twins, self.report.is_flipped = np.zeros(0, np.int64), True
 
     def smooth(self) -> None:
         """Smooths, on a grid that is finer than a unit."""
@@ -208,14 +228,6 @@ class Work:
         far = np.sqrt(((self.places - smoother.home).astype(float) ** 2).sum(axis=1)) / (self.fine * self.wishes.unit)
         report.steps, report.put_back = self.wishes.steps, smoother.held_back
         report.mean_way, report.longest_way = float(far.mean()), float(far.max())
-
-    def mean_angle(self) -> float:
-        """The mean angle between neighboring faces, in degrees."""
-        spots = self.places.astype(float)
-        normals = normal(*(axes(spots, self.corners[k::3]) for k in range(3)))
-        halves = np.flatnonzero(np.arange(len(self.twins)) < self.twins)
-        one, other = ([column[faces] for column in normals] for faces in (halves // 3, self.twins[halves] // 3))
-        return float(np.degrees(angle(one, other).mean())) if len(halves) else 0.0
 
     def split(self) -> np.ndarray:
         """Splits vertices where sheets touch, and answers the vertex that each one is a copy of."""
@@ -240,14 +252,19 @@ class Work:
                         face_columns, self.vertex_of[origins])
 
     def run(self) -> Finished:
+        """Finishes the mesh. The program flips edges where nothing is to be smoothed, and before pieces are left out: a flip joins none."""
+        program = mesh_program_path(self.wishes.program) if self.wishes.flips and not self.wishes.steps else None
+        self.report.angle_before = mean_angle(self.places, self.corners)
+        if program is not None:
+            self.flip_by_program(program)
         if self.wishes.pieces is not None:
             self.keep_pieces(self.wishes.pieces)
-        self.first_places, self.report.angle_before = self.places, self.mean_angle()
-        if self.wishes.flips:
+        self.first_places = self.places
+        if self.wishes.flips and program is None:
             self.report.flipped, self.report.let_be = self.flip()
         if self.wishes.steps:
             self.smooth()
-        self.report.angle_after = self.mean_angle()
+        self.report.angle_after = mean_angle(self.places, self.corners)
         return self.finished()
 
 
@@ -259,12 +276,19 @@ def finished(path: str, wishes: Wishes, tell: Callable[[str], None] = lambda tex
     return work.run(), work.report
 
 
+def with_used(faces: np.ndarray, count: int) -> tuple[np.ndarray, np.ndarray]:
+    """The rows of the vertices, of `count`, that faces have, ascending, and the faces by their numbers among these."""
+    is_used = np.zeros(count, bool)
+    is_used[faces.ravel()] = True
+    return np.flatnonzero(is_used), (np.cumsum(is_used) - 1)[faces]
+
+
 def seen_part(mesh: Finished) -> Finished:
     """The open mesh without the faces that span unseen space, with the vertices that are left."""
     known = [np.asarray(values, bool) for name, _, values in mesh.face_columns if name == 'unseen']
     seen = Mesh(mesh.places, mesh.faces).seen(*known).faces
-    used, faces = np.unique(seen, return_inverse=True)
-    return Finished(mesh.places[used], faces.reshape(-1, 3), [(name, kind, values[used]) for name, kind, values in mesh.columns],
+    used, faces = with_used(seen, len(mesh.places))
+    return Finished(mesh.places[used], faces, [(name, kind, values[used]) for name, kind, values in mesh.columns],
                     vertex_of=mesh.vertex_of[used])
 
 

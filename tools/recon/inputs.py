@@ -18,9 +18,10 @@ from recon.clouds import spacing
 from recon.library import Sights
 from recon.program import Invalid
 from recon.sights import above, along_normals, estimated_normals, lies_flat
+from recon.toolbox.plain_tables import plain_list, plain_ply
 from recon.toolbox.point_files import has_rows
-from recon.toolbox.ply_text import Reader, Refusal
-from recon.toolbox.tool import Options, field
+from recon.toolbox.ply_text import SCANNER_LIMIT, Reader, Refusal
+from recon.toolbox.tool import Options, field, three
 
 COLORS = ('red', 'green', 'blue')
 MODELS = ('sparse/images.bin', 'sparse/images.txt', 'images.bin', 'images.txt', 'sparse/0/images.bin')
@@ -125,6 +126,31 @@ def load_lists(body: bytes, names: list[str], count: int, scanner_count: int) ->
     return Table({name: single[:, k] for k, name in enumerate(names)}, sights, scanners)
 
 
+def plain_table(names: Sequence[str]) -> Table | None:
+    """Reads plain files whole: a PLY that says all itself, or lists of numbers, each with the position that it was seen from. None if
+    they are others, which `recon-scan` reads."""
+    if len(names) == 1 and ('=' not in names[0] or os.path.exists(names[0])):
+        ply = plain_ply(names[0])
+        if ply is None or ply.scanners is None:
+            return None if ply is None else Table(ply.columns, None, None)
+        return Table(ply.columns, Sights(np.ones(len(ply.columns['x']), np.int64), ply.columns['scanner'].astype(np.int64)), ply.scanners)
+    if len(names) > SCANNER_LIMIT:
+        return None
+    found, positions = [], []
+    for name in names:
+        path, _, position = name.rpartition('=')
+        if not os.path.isfile(path) or os.path.exists(name) or len(position.split(',')) != 3 or has_rows(path):
+            return None
+        points = plain_list(path)
+        if points is None:
+            return None
+        found.append(points)
+        positions.append([float(word) for word in three(position, 'the position')])
+    numbers = np.repeat(np.arange(len(found)), [len(points) for points in found])
+    columns = dict(zip('xyz', np.concatenate(found).T))
+    return Table(columns, Sights(np.ones(len(numbers), np.int64), numbers), np.array(positions, float).reshape(-1, 3))
+
+
 class Inputs:
     """The files of a run, and the options that say how they are read. `folder` takes what is made on the way."""
 
@@ -134,6 +160,11 @@ class Inputs:
 
     def scanned(self, names: Sequence[str], **options: Any) -> Table:
         """Reads files as `recon-scan` does with these options. Raises `Refusal`."""
+        plain = plain_table(names) if not options else None
+        if plain is not None:
+            what = names[0].rpartition('=')[0] or names[0] if len(names) == 1 else f'{len(names)} files'
+            self.choices.tell(f'read {len(plain.points()):,} points of {what}')
+            return plain
         path = os.fspath(self.folder / 'points.ply')
         given = Options(scan.KEYS)
         for key, value in options.items():

@@ -170,6 +170,14 @@ class Surface(Mesh):
         against = (self.cost - self.smooth * self.counts['faces']) / self.vote
         return against / max(self.counts['sights'], 1)
 
+    def files(self) -> list[str]:
+        """The names of the files in `folder` that verify the surface."""
+        return ['scan.ply', 'mesh.ply', 'scan.cert']
+
+    def tiles(self) -> list[str]:
+        """The names of the tiles that the surface was joined of, without endings; none where it was built whole."""
+        return []
+
     def options(self) -> list[str]:
         return [f'smooth={self.smooth}', f'vote={self.vote}']
 
@@ -254,19 +262,32 @@ def build(points: Any, scanners: Any = None, seen_by: SeenBy | None = None, *, n
     if not len(places) or len(places) > POINT_LIMIT:
         raise Invalid(f'{len(places):,} points: a scan has 1 to {POINT_LIMIT:,}', hint='thin them (recon.thinned), or cut them into tiles')
     stations, sights = stations_of(places, scanners, seen_by, normals, far)
-    frame_origin, frame_unit = chosen_frame(places, stations, unit, origin)
-    whole = whole_rows(places, frame_origin, frame_unit, 'points')
-    whole_stations = whole_rows(stations, frame_origin, frame_unit, 'scanners')
     kept = Path(tempfile.mkdtemp(prefix='recon-') if folder is None else folder)
-    kept.mkdir(parents=True, exist_ok=True)
-    write_scan(kept / 'scan.ply', whole, sights, whole_stations, checked_weights(weights, len(places)))
+    scan = written_scan(places, stations, sights, weights, unit, origin, kept)
     counts = run(['build', kept / 'scan.ply', kept / 'mesh.ply', kept / 'scan.cert', f'smooth={smooth}', f'vote={vote}'], program, is_shown)
     spots, corners = read_mesh(os.fspath(kept / 'mesh.ply'))
-    surface = Surface(spots / frame_unit + frame_origin, corners.reshape(-1, 3), rows_at(whole, spots), frame_unit, frame_origin, smooth, vote,
+    surface = Surface(spots / scan.unit + scan.origin, corners.reshape(-1, 3), rows_at(scan.points, spots), scan.unit, scan.origin, smooth, vote,
                       counts, kept, program)
     if folder is None:
         weakref.finalize(surface, shutil.rmtree, kept, True)
     return surface
+
+
+class Written(NamedTuple):
+    """A scan that was written: its points (n, 3) in whole units, and the unit and origin of these."""
+    points: np.ndarray
+    unit: int
+    origin: np.ndarray
+
+
+def written_scan(points: np.ndarray, scanners: np.ndarray, sights: Sights, weights: Any, unit: int | None, origin: Any, folder: Path) -> Written:
+    """Writes a scan as `scan.ply` into a folder, in whole units. Raises `Invalid` for arrays that make no scan."""
+    frame_origin, frame_unit = chosen_frame(points, scanners, unit, origin)
+    whole = whole_rows(points, frame_origin, frame_unit, 'points')
+    whole_scanners = whole_rows(scanners, frame_origin, frame_unit, 'scanners')
+    folder.mkdir(parents=True, exist_ok=True)
+    write_scan(folder / 'scan.ply', whole, sights, whole_scanners, checked_weights(weights, len(points)))
+    return Written(whole, frame_unit, frame_origin)
 
 
 def stations_of(points: np.ndarray, scanners: Any, seen_by: SeenBy | None, normals: Any, far: float | None) -> tuple[np.ndarray, Sights]:
@@ -313,4 +334,4 @@ def checked_weights(weights: Any, count: int) -> np.ndarray | None:
     return values
 
 
-__all__ = ['Invalid', 'Mesh', 'Refusal', 'Sights', 'Surface', 'build', 'check', 'sights_of', 'write_scan']
+__all__ = ['Invalid', 'Mesh', 'Refusal', 'Sights', 'Surface', 'build', 'check', 'sights_of', 'write_scan', 'written_scan']

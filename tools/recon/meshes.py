@@ -10,12 +10,14 @@ from typing import Any
 import numpy as np
 from scipy.sparse import coo_matrix
 from scipy.sparse.csgraph import connected_components
+from scipy.spatial import cKDTree
 
-from recon.clouds import neighbors
+from recon.clouds import tree_of
 
 NEAR = 6
 FACTOR = 8.0
 LEAST_PIECE = 20
+SAMPLE = 20_000
 
 
 @dataclass
@@ -56,22 +58,40 @@ class Mesh:
 
 def longest_edges(vertices: np.ndarray, faces: np.ndarray) -> np.ndarray:
     """The length of the longest edge of each face."""
-    corners = vertices[faces]
-    return np.asarray(np.linalg.norm(corners - np.roll(corners, 1, axis=1), axis=2).max(axis=1, initial=0))
+    corners = [vertices[faces[:, k]] for k in range(3)]
+    longest = np.zeros(len(faces))
+    for start, end in zip(corners, corners[1:] + corners[:1]):
+        way = end - start
+        np.maximum(longest, np.einsum('nk,nk->n', way, way), out=longest)
+    return np.asarray(np.sqrt(longest))
 
 
 def unseen_faces(vertices: np.ndarray, faces: np.ndarray, factor: float = FACTOR) -> np.ndarray:
     """Returns which faces have an edge over `factor` times the spacing around their corners: the mean distance of a vertex to its six
-    nearest, at least half the median. Points are nowhere so far apart where a scanner saw a surface, so such faces close the surface
-    over what no scanner saw."""
+    nearest, at least half the median (of a sample of 20,000). Points are nowhere so far apart where a scanner saw a surface, so such faces
+    close the surface over what no scanner saw."""
     if not len(faces):
         return np.zeros(0, bool)
-    used = np.unique(faces)
-    distances = neighbors(vertices[used], min(NEAR + 1, len(used)))[0]
-    near = np.zeros(len(vertices))
-    near[used] = distances[:, 1:].mean(axis=1)
-    near = np.maximum(near, np.median(near[used]) / 2)
-    return np.asarray(longest_edges(vertices, faces) > factor * near[faces].mean(axis=1))
+    is_used = np.zeros(len(vertices), bool)
+    is_used[faces.ravel()] = True
+    used = vertices[is_used]
+    tree = tree_of(used)
+    some = used if len(used) <= SAMPLE else used[np.sort(np.random.default_rng(1).permutation(len(used))[:SAMPLE])]
+    least = float(np.median(near_distances(tree, some))) / 2
+    longest = longest_edges(vertices, faces)
+    long = np.flatnonzero(longest > factor * least)
+    corners, at = np.unique(faces[long], return_inverse=True)
+    near = np.maximum(near_distances(tree, vertices[corners]), least)
+    unseen = np.zeros(len(faces), bool)
+    unseen[long] = longest[long] > factor * near[at.reshape(-1, 3)].mean(axis=1)
+    return unseen
+
+
+def near_distances(tree: cKDTree, places: np.ndarray) -> np.ndarray:
+    """The mean distance of each place, a point of the tree, to the six nearest others."""
+    if tree.n < 2 or not len(places):
+        return np.zeros(len(places))
+    return np.asarray(tree.query(places, min(NEAR + 1, tree.n), workers=-1)[0][:, 1:].mean(axis=1))
 
 
 def areas(vertices: np.ndarray, faces: np.ndarray) -> np.ndarray:
@@ -83,10 +103,12 @@ def areas(vertices: np.ndarray, faces: np.ndarray) -> np.ndarray:
 def pieces(faces: np.ndarray, count: int) -> np.ndarray:
     """Returns the number of its piece for each face. Faces with an edge in common, of `count` vertices, are of one piece; the mesh may be
     open."""
-    edges = np.sort(np.concatenate([faces[:, [0, 1]], faces[:, [1, 2]], faces[:, [2, 0]]]), axis=1)
-    keys, face = edges[:, 0] * count + edges[:, 1], np.tile(np.arange(len(faces)), 3)
-    order = np.argsort(keys, kind='stable')
-    same = np.flatnonzero(np.diff(keys[order]) == 0)
-    one, other = face[order][same], face[order][same + 1]
-    joins = coo_matrix((np.ones(len(one), np.int8), (one, other)), (len(faces), len(faces)))
+    corners = faces.astype(np.int64)
+    starts, ends = corners.ravel(), np.roll(corners, -1, axis=1).ravel()
+    keys = np.minimum(starts, ends) * count + np.maximum(starts, ends)
+    order = np.argsort(keys)
+    keys = keys[order]
+    same = np.flatnonzero(keys[1:] == keys[:-1])
+    face = (order // 3).astype(np.int32)
+    joins = coo_matrix((np.ones(len(same), np.int8), (face[same], face[same + 1])), (len(faces), len(faces)))
     return np.asarray(connected_components(joins, directed=False)[1])

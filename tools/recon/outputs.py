@@ -4,7 +4,6 @@ Names: Made (what a run made) · write_outputs.
 """
 from __future__ import annotations
 
-import hashlib
 import json
 import os
 import shlex
@@ -16,6 +15,7 @@ from typing import Any, List, Optional
 
 import numpy as np
 
+from recon.beside import Beside
 from recon.choices import Choices
 from recon.clouds import Spacing
 from recon.finish import FinishReport, seen_path, write_seen
@@ -26,14 +26,13 @@ from recon.page import PageMesh, write_page
 from recon.toolbox.mesh_files import Finished, write_mesh
 
 SIGHTS = 400
-FILES = ('scan.ply', 'mesh.ply', 'scan.cert')
 HERE = os.path.dirname(os.path.abspath(__file__))
 
 
 @dataclass
 class Made:
-    """What a run made, in `folder`, which goes with the run: the cloud that was built (`read` points were read), the surface, the finished mesh with the colors of its
-    vertices, and the surfaces of a sweep."""
+    """What a run made, in `folder`, which goes with the run: the cloud that was built (`read` points were read), the surface, the finished
+    mesh with the colors of its vertices, and the surfaces of a sweep."""
     args: Any
     out: Path
     folder: Path
@@ -56,37 +55,38 @@ class Made:
         return np.asarray(next(values for name, _, values in self.mesh.face_columns if name == 'unseen'), bool)
 
 
-def digest(path: Path) -> str:
-    """The SHA-256 of a file."""
-    total = hashlib.sha256()
-    with open(path, 'rb') as file:
-        for block in iter(lambda: file.read(1 << 20), b''):
-            total.update(block)
-    return total.hexdigest()
-
-
-def write_outputs(made: Made) -> None:
-    """Writes all files of a run."""
+def write_outputs(made: Made, beside: Beside) -> None:
+    """Writes all files of a run, beside their places, and moves them there when the check has passed."""
     choices, unseen = made.choices, made.unseen()
     sizes = areas(made.mesh.places, made.mesh.faces)
     part = float(sizes[unseen].sum() / max(float(sizes.sum()), 1e-300))
     if part > 0.05:
         choices.warn(f'{part:.0%} of the area span space that no scanner saw, by {int(unseen.sum()):,} long faces: '
                      f'{os.path.basename(seen_path(os.fspath(made.out)))} is without them, and open')
-    write_mesh(os.fspath(made.out), made.mesh)
-    if not write_seen(os.fspath(made.out), made.mesh):
+    files = {made.folder / ('out' + made.out.suffix): made.out}
+    write_mesh(os.fspath(next(iter(files))), made.mesh)
+    if write_seen(os.fspath(next(iter(files))), made.mesh):
+        files[made.folder / ('out-seen' + made.out.suffix)] = Path(seen_path(os.fspath(made.out)))
+    else:
         choices.warn('nearly all faces span space that no scanner saw: there is no mesh of what was seen')
-    digests = {name: digest(made.folder / name) for name in FILES}
+    digests, figures = beside.digests(), figures_of(made, part)
     write_again(made, digests)
-    figures = figures_of(made, part)
-    write_page(os.fspath(made.out.with_suffix('.html')), meshes=page_meshes(made, unseen), scanners=made.cloud.scanners,
+    page = made.folder / 'out.html'
+    files[page] = made.out.with_suffix('.html')
+    write_page(os.fspath(page), meshes=page_meshes(made, unseen), scanners=made.cloud.scanners,
                sights=some_sights(made.cloud), figures=figures, choices=[(name, it.value, it.why) for name, it in choices.chosen.items()],
                digests=digests, commands=verifying(made), title=made.out.stem)
     choices.timed('write')
+    passed = beside.checked()
+    choices.timed('wait for check')
+    if passed is not None:
+        choices.tell(f'check: yes, mesh and certificate are those of the scan ({passed:.1f} s, beside the steps since the build)')
+        choices.beside['check'] = round(passed, 3)
     write_report(made, figures, digests, part)
-    made.kept().mkdir(parents=True, exist_ok=True)
-    for name in (*FILES, 'report.json', 'again.sh'):
-        shutil.move(os.fspath(made.folder / name), os.fspath(made.kept() / name))
+    files.update({made.folder / name: made.kept() / name for name in (*made.surface.files(), 'report.json', 'again.sh')})
+    for start, end in files.items():
+        end.parent.mkdir(parents=True, exist_ok=True)
+        shutil.move(os.fspath(start), os.fspath(end))
     choices.tell(f'wrote {made.out} ({len(made.mesh.faces):,} faces), {seen_path(os.fspath(made.out))}, {made.out.with_suffix(".html")} and '
                  f'{made.kept()}/')
 
@@ -116,13 +116,15 @@ def figures_of(made: Made, unseen: float) -> list[tuple[str, str]]:
             ('sights', f'{counts["sights"]:,}'), ('faces as built', f'{counts["faces"]:,}'), ('faces', f'{len(made.mesh.faces):,}'),
             ('cost', f'{counts["cost"]:,}'), ('votes against a sight', f'{against:.3f} ({verdict})'),
             ('spacing', f'{made.texture.distance:.4g}'), ('noise', f'{made.texture.noise:.2g}'),
-            ('area that no scanner saw', f'{unseen:.0%}'), ('checked', 'no' if made.args.no_check else 'yes')]
+            ('area that no scanner saw', f'{unseen:.0%}'), *([('tiles', str(len(made.surface.tiles())))] if made.surface.tiles() else []),
+            ('checked', 'each tile' if made.surface.tiles() else 'no' if made.args.no_check else 'yes')]
 
 
 def verifying(made: Made) -> list[str]:
     """The commands that verify the surface again."""
-    names = ' '.join(shlex.quote(os.path.join(made.kept().name, name)) for name in FILES)
-    return [f'recon check {names} {" ".join(made.surface.options())}']
+    kept, options = made.kept().name, ' '.join(made.surface.options())
+    tiles = [[f'tiles/{name}.{ending}' for ending in ('ply', 'mesh.ply', 'cert')] for name in made.surface.tiles()]
+    return [f'recon check {" ".join(shlex.quote(os.path.join(kept, name)) for name in names)} {options}' for names in tiles or [made.surface.files()]]
 
 
 def write_report(made: Made, figures: list[tuple[str, str]], digests: dict[str, str], unseen: float) -> None:
@@ -132,8 +134,8 @@ def write_report(made: Made, figures: list[tuple[str, str]], digests: dict[str, 
               'choices': {name: {'value': it.value, 'why': it.why} for name, it in choices.chosen.items()},
               'figures': dict(figures), 'counts': surface.counts, 'votes_against_per_sight': round(surface.votes_against_per_sight, 4),
               'unit': surface.unit, 'origin': surface.origin.tolist(), 'unseen_area': round(unseen, 4),
-              'finish': made.finish.sentences(), 'warnings': choices.warnings, 'seconds': choices.seconds, 'sha256': digests,
-              'commands': verifying(made)}
+              'finish': made.finish.sentences(), 'warnings': choices.warnings, 'seconds': choices.seconds, 'seconds_beside': choices.beside,
+              'sha256': digests, 'commands': verifying(made)}
     (made.folder / 'report.json').write_text(json.dumps(report, indent=1) + '\n')
 
 
@@ -145,7 +147,7 @@ def again_words(made: Made) -> list[str]:
         value = getattr(args, key)
         if value is not None:
             words.append(f'--{key}={os.path.abspath(value) if key in ("positions", "table", "images", "flight") else value}')
-    for key in ('normals', 'above', 'estimate_normals', 'no_clean', 'no_check'):
+    for key in ('normals', 'above', 'estimate_normals', 'no_clean', 'no_check', 'tiles'):
         words += ['--' + key.replace('_', '-')] if getattr(args, key) else []
     for key in ('divide', 'far', 'origin', 'unit', 'side', 'surround', 'smooth', 'pieces', 'steps', 'within'):
         words += [f'--{key}={chosen[key].value}'] if key in chosen else []

@@ -1,6 +1,6 @@
 """The program `recon`: where it is, how it is run, and its errors as exceptions.
 
-Names: program_path · run (runs a command, and returns the numbers of its line) · Refused (the program's error) · Invalid (an error
+Names: program_path · found_program · run (runs a command, and returns the numbers of its line) · Refused (the program's error) · Invalid (an error
 found before the program runs).
 """
 from __future__ import annotations
@@ -12,7 +12,6 @@ import subprocess
 from typing import Sequence
 
 HERE = os.path.dirname(os.path.abspath(__file__))
-BESIDE = ('../../recon', '../../crates/recon_main/out/recon_main', '../../../bin/recon')
 MEANINGS = {1: 'the check failed', 2: 'invalid arguments', 3: 'invalid file', 4: 'a file could not be read or written',
             5: 'out of memory'}
 NUMBER = re.compile(r'([a-z_]+) (-?[0-9]+)')
@@ -40,17 +39,19 @@ class Refused(RuntimeError):
 def program_path(path: str | None = None) -> str:
     """Returns the path of the program: `path`, else what the variable RECON names, else the one that was built or installed beside
     this package, else `recon` on the PATH. Raises FileNotFoundError if there is none."""
-    named = path or os.environ.get('RECON')
-    if named:
-        return named
-    for place in BESIDE:
-        beside = os.path.normpath(os.path.join(HERE, place))
-        if os.path.isfile(beside) and os.access(beside, os.X_OK):
-            return beside
-    found = shutil.which('recon')
+    found = path or os.environ.get('RECON') or found_program('recon', 'recon_main')
     if found is None:
         raise FileNotFoundError('the program `recon` was not found: put it on the PATH, or name it in the variable RECON')
     return found
+
+
+def found_program(name: str, crate: str) -> str | None:
+    """Returns the path of a program of this repository that was built or installed beside this package, or is on the PATH."""
+    for place in (f'../../{name}', f'../../crates/{crate}/out/{crate}', f'../../../bin/{name}'):
+        beside = os.path.normpath(os.path.join(HERE, place))
+        if os.path.isfile(beside) and os.access(beside, os.X_OK):
+            return beside
+    return shutil.which(name)
 
 
 def run(words: Sequence[object], program: str | None = None, is_shown: bool = False) -> dict[str, int]:

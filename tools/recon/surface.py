@@ -15,6 +15,7 @@ from __future__ import annotations
 
 import argparse
 import os
+import shutil
 import sys
 import tempfile
 from dataclasses import dataclass
@@ -22,21 +23,26 @@ from pathlib import Path
 from typing import Any, Sequence
 
 import numpy as np
+from scipy.spatial import cKDTree
 
+from recon.beside import Beside
 from recon.choices import Choices
-from recon.clouds import Spacing, frame, lone_points, spacing, surrounding, thinned, thinning_side
+from recon.clouds import Spacing, frame, lone_points, spacing, surrounding, thinned, thinning_side, tree_of
 from recon.finish import Wishes, finished, seen_path
 from recon.inputs import Cloud, Inputs, read_cloud
 from recon.library import Surface, build
+from recon.mesh_program import mesh_program_path
 from recon.meshes import pieces
 from recon.outputs import Made, write_outputs
 from recon.program import Invalid, Refused, program_path
+from recon.tiled import build_tiles
 from recon.toolbox.mesh_files import Column, Finished, form_of
 from recon.toolbox.ply_text import IS_NUMBER, Refusal
 
-MOST = 1_000_000
+MOST, MOST_OF_A_TILE = 1_000_000, 800_000
 LOOK, WRONG = 0.1, 0.25
-FLIPS_A_SECOND = 8000
+# faces a second whose edges are flipped: by Python, which smooths too, and by recon-mesh
+FLIPS_A_SECOND, FLIPS_BY_PROGRAM = 8000, 150_000
 ROOM = 0.8
 
 
@@ -63,8 +69,8 @@ def divided(cloud: Cloud, args: Any, choices: Choices) -> Cloud:
     return cloud
 
 
-def cleaned(cloud: Cloud, args: Any, choices: Choices) -> Cloud:
-    """The cloud without lone points."""
+def cleaned(cloud: Cloud, tree: cKDTree, args: Any, choices: Choices) -> Cloud:
+    """The cloud without lone points. `tree` is that of its points."""
     points = cloud.points
     middle = np.median(points, axis=0)
     away = np.abs(points - middle).max(axis=1)
@@ -73,7 +79,7 @@ def cleaned(cloud: Cloud, args: Any, choices: Choices) -> Cloud:
         choices.warn(f'{far} points lie over fifty times as far out as nearly all others: recon-scan with from= and to= leaves them out')
     if args.no_clean or cloud.is_made_up or len(points) <= 100:
         return cloud
-    lone = lone_points(points)
+    lone = lone_points(points, tree=tree)
     if not lone.any():
         return cloud
     choices.choose('lone points', int(lone.sum()), f'{lone.mean():.2%} are four times as far from others as those are, and left out (--no-clean)')
@@ -83,9 +89,11 @@ def cleaned(cloud: Cloud, args: Any, choices: Choices) -> Cloud:
 def thin(cloud: Cloud, texture: Spacing, args: Any, choices: Choices) -> Cloud:
     """The cloud with one point a cube, where there are too many points or they err more than they are apart."""
     side, apart = args.side, texture.distance
-    if side is None and len(cloud.points) > args.max_points:
+    if args.tiles and len(cloud.points) > args.max_points:
+        choices.choose('tiles', 'yes', f'given; {len(cloud.points):,} points are over {args.max_points:,}')
+    elif side is None and len(cloud.points) > args.max_points:
         side = thinning_side(cloud.points, args.max_points, apart)
-        choices.choose('side', f'{side:g}', f'{len(cloud.points):,} points are over {args.max_points:,}; recon-tiles keeps all')
+        choices.choose('side', f'{side:g}', f'{len(cloud.points):,} points are over {args.max_points:,}; --tiles keeps all')
     elif side is None and texture.noise > 0.8 * apart and not cloud.is_made_up:
         side = float(f'{1.5 * texture.noise:.3g}')
         choices.choose('side', f'{side:g}', 'points are nearer to each other than they err')
@@ -128,12 +136,13 @@ def prepared(inputs: Inputs) -> Scan:
     choices.timed('read')
     if not read:
         raise NoSurface('no point is left')
-    texture = spacing(cloud.points)
+    tree = tree_of(cloud.points)
+    texture = spacing(cloud.points, tree)
     if not texture.distance:
         raise NoSurface('most points stand at one place')
     choices.tell(f'{read:,} points, {len(cloud.scanners):,} positions; {texture.distance:.4g} apart, noise about {texture.noise:.2g}, '
                  f'{np.ptp(cloud.points, axis=0).max():.4g} across')
-    cloud = thin(cleaned(cloud, args, choices), texture, args, choices)
+    cloud = thin(cleaned(cloud, tree, args, choices), texture, args, choices)
     cloud, off = closed_around(cloud, texture, args, choices)
     origin, unit = framed(cloud, texture, args, choices)
     choices.timed('choose')
@@ -161,14 +170,13 @@ def plain(value: float) -> str:
 
 
 def built(scan: Scan, args: Any, folder: Path, choices: Choices) -> Surface:
-    """Builds the surface, with a smaller area weight where it vanishes, and checks it."""
+    """Builds the surface, with a smaller area weight where it vanishes."""
     cloud = scan.cloud
     usual = 1 if cloud.is_made_up else 3
     tried = [args.smooth] if args.smooth is not None else list(dict.fromkeys([usual, 1]))
     for smooth in tried:
         choices.tell(f'building at smooth={smooth}')
-        surface = build(cloud.points, cloud.scanners, lists_of(cloud), weights=cloud.weights, smooth=smooth, vote=args.vote, unit=scan.unit,
-                        origin=scan.origin, folder=folder, program=args.program, is_shown=sys.stderr.isatty() and not args.quiet)
+        surface = built_at(smooth, scan, args, folder, choices)
         if 2 * surface.counts['faces'] >= surface.counts['points']:
             break
         choices.warn(f'at smooth={smooth} there are only {surface.counts["faces"]:,} faces for {surface.counts["points"]:,} points')
@@ -178,15 +186,26 @@ def built(scan: Scan, args: Any, folder: Path, choices: Choices) -> Surface:
     choices.timed('build')
     if not surface.counts['faces']:
         raise NoSurface('the surface is empty: the points lie in a plane, or --smooth is too large')
-    if not args.no_check:
-        surface.check()
-        choices.tell('check: yes, mesh and certificate are those of the scan')
-    choices.timed('check')
     against = surface.votes_against_per_sight
     choices.tell(f'{against:.3f} votes against the surface for each line of sight')
     if against > LOOK:
         choices.warn(f'{against:.2f} votes against the surface for each line of sight, over {LOOK}: look at '
                      + ('the normals' if cloud.is_made_up else 'the positions of the scanners'))
+    return surface
+
+
+def built_at(smooth: int, scan: Scan, args: Any, folder: Path, choices: Choices) -> Surface:
+    """The surface at an area weight, of tiles where there are too many points."""
+    cloud, given = scan.cloud, {'smooth': smooth, 'vote': args.vote, 'unit': scan.unit, 'origin': scan.origin, 'weights': scan.cloud.weights,
+                                'folder': folder, 'program': args.program}
+    if 'tiles' not in choices.chosen:
+        return build(cloud.points, cloud.scanners, lists_of(cloud), is_shown=sys.stderr.isatty() and not args.quiet, **given)
+    shutil.rmtree(folder / 'tiles', ignore_errors=True)
+    surface = build_tiles(cloud.points, cloud.scanners, cloud.sights, most=min(args.max_points, MOST_OF_A_TILE), tell=choices.tell, **given)
+    assert surface.joined is not None
+    choices.tell(str(surface.joined))
+    choices.choose('tiles', len(surface.names), f'{choices.chosen["tiles"].why}; each is built and checked, the whole is not: {surface.joined.open_edges} '
+                   f'edges at seams are open, filled by {(surface.joined.filled or (0, 0))[0]} faces')
     return surface
 
 
@@ -210,13 +229,14 @@ def wishes_for(surface: Surface, scan: Scan, args: Any, choices: Choices) -> Wis
     within = args.within if args.within is not None else float(f'{2 * noise:.2g}') if noise > 0.05 * apart else 0.0
     steps = args.steps if args.steps is not None else 6 if noise > 0.3 * apart else 3
     flipping = len(surface.faces) / FLIPS_A_SECOND
-    flips = not args.no_flips and (args.steps is not None or flipping <= args.patience)
+    quick = len(surface.faces) / FLIPS_BY_PROGRAM if mesh_program_path() else flipping
+    flips = not args.no_flips and (args.steps is not None or quick <= args.patience)
     steps = steps if within else 0
     if args.steps is None and steps and flipping * (1 + 0.65 * steps) > args.patience:
         choices.warn(f'not smoothed, which would take some {flipping * (1 + 0.65 * steps) / 60:.0f} minutes (--patience SECONDS)')
         steps = 0
     choices.choose('flips', 'yes' if flips else 'no', 'given' if args.no_flips else 'edges lie better' if flips else
-                   f'they would take some {flipping / 60:.0f} minutes (--patience SECONDS)')
+                   f'they would take some {quick / 60:.0f} minutes (--patience SECONDS)')
     if steps:
         choices.choose('steps', steps, 'given' if args.steps is not None else f'noise of {noise:.2g} at {apart:.2g} apart')
         choices.choose('within', f'{within:g}', 'given' if args.within is not None else 'twice the noise')
@@ -246,18 +266,21 @@ def refuse_own_inputs(args: Any) -> None:
 
 
 def made(args: Any, choices: Choices, folder: Path) -> Made:
-    """The whole run but for its outputs. Scan, mesh and certificate are made in a folder."""
+    """The whole run. Scan, mesh and certificate are made in a folder, and while they are checked there the mesh is finished."""
     args.program = program_path(args.program)
     scan = prepared(Inputs(args, folder, choices))
     surface = built(scan, args, folder, choices)
-    wishes = wishes_for(surface, scan, args, choices)
-    choices.tell(f'finishing {len(surface.faces):,} faces')
-    mesh, report = finished(os.fspath(surface.mesh), wishes, mesh=surface.whole())
-    colors = colored(mesh, surface, scan.cloud)
-    choices.timed('finish')
-    sweep = surface.sweep(0, 1, args.sweep) if args.sweep else []
-    choices.timed('sweep')
-    return Made(args, Path(args.output), folder, scan.cloud, scan.read, scan.texture, surface, mesh, colors, report, sweep, choices)
+    with Beside(surface, is_checked=not args.no_check) as beside:
+        wishes = wishes_for(surface, scan, args, choices)
+        choices.tell(f'finishing {len(surface.faces):,} faces')
+        mesh, report = finished(os.fspath(surface.mesh), wishes, mesh=surface.whole())
+        colors = colored(mesh, surface, scan.cloud)
+        choices.timed('finish')
+        sweep = surface.sweep(0, 1, args.sweep) if args.sweep else []
+        choices.timed('sweep')
+        done = Made(args, Path(args.output), folder, scan.cloud, scan.read, scan.texture, surface, mesh, colors, report, sweep, choices)
+        write_outputs(done, beside)
+    return done
 
 
 def parser() -> argparse.ArgumentParser:
@@ -282,6 +305,7 @@ def parser() -> argparse.ArgumentParser:
     group.add_argument('--unit', type=within(1, 1_000_000), metavar='U', help='coordinates are rounded to 1/U')
     group.add_argument('--side', type=length, metavar='S', help='keep one point in each cube of this side')
     group.add_argument('--max-points', type=within(4, 1_048_576), default=MOST, metavar='N', help='thin above N points (default: %(default)s)')
+    group.add_argument('--tiles', action='store_true', help='above that keep all points: cut the scan into tiles, build and check each, join them')
     group.add_argument('--no-clean', action='store_true', help='keep lone points')
     group.add_argument('--surround', type=lambda word: 0.0 if word == '0' else length(word), metavar='D',
                        help='put eight points D outside of a scan from inside; 0 for none')
@@ -345,10 +369,11 @@ def run(words: Sequence[str]) -> int:
     choices = Choices(args.quiet)
     try:
         form_of(args.output)
+        if args.tiles and (args.sweep or args.side):
+            raise Refusal('--tiles goes without --sweep and --side')
         refuse_own_inputs(args)
         with tempfile.TemporaryDirectory(prefix='.recon-', dir=os.path.dirname(args.output) or '.') as folder:
             result = made(args, choices, Path(folder))
-            write_outputs(result)
     except MemoryError:
         return failed(1, 'error: out of memory')
     except KeyboardInterrupt:

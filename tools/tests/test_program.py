@@ -15,11 +15,19 @@ import time
 import unittest
 from typing import Any
 
-from helpers import RECON, ROOT, InFolder, equal, says, write
+from helpers import RECON, ROOT, InFolder, equal, head, says, write
+from test_library import SCANNERS, nearest, sphere
 
 EXAMPLES = os.path.join(ROOT, 'examples')
 LIMIT = 64 * 2 ** 20
 STEP = 64 * 2 ** 10
+
+
+def scan_of_ball(points: Any, seen_by: Any) -> Any:
+    """A scan of points that six scanners around them see."""
+    rows = [f'{x:.6f} {y:.6f} {z:.6f} {k}\n' for (x, y, z), k in zip(points.tolist(), seen_by.tolist())]
+    return head(len(rows), 'float x, float y, float z, int scanner', len(SCANNERS)) + ''.join(rows) + ''.join(
+        ' '.join(map(str, place)) + '\n' for place in (SCANNERS * 1000).astype(int).tolist())
 
 
 def example(name: Any) -> Any:
@@ -41,7 +49,7 @@ def recon(*words: Any, limit: Any = None) -> Any:
 
 
 def least_memory(*words: Any) -> Any:
-    """The least memory, in steps of 64 KiB, with which a run ends as it does with all of it."""
+    """Returns the least memory, in steps of 64 KiB, with which a run ends as it does with all of it."""
     wanted, low, high = recon(*words), 0, LIMIT // STEP
     equal(recon(*words, limit=LIMIT), wanted)
     while high - low > 1:
@@ -103,7 +111,7 @@ POINTS = b'0 0 0\n100 100 100\t-3.4e1 -33 -33.4\r\n1000 0 +0.'
 
 
 def header(kind: Any, elements: Any) -> Any:
-    """A header of a format with elements and their properties."""
+    """Returns a header of a format with elements and their properties."""
     lines = ['ply', f'format {kind} 1.0']
     for name, count, properties in elements:
         lines += [f'element {name} {count}'] + ['property ' + each for each in properties]
@@ -119,7 +127,7 @@ WHOLE = {'char': 'b', 'uchar': 'B', 'short': 'h', 'ushort': 'H', 'int': 'i', 'ui
 
 
 def scan_of_type(order: Any, kind: Any, scanners: Any) -> Any:
-    """A binary scan of five points and many scanners, with six properties a row and two elements more, all coordinates of one
+    """Returns a binary scan of five points and many scanners, with six properties a row and two elements more, all coordinates of one
     type; negative ones become positive where the type has none."""
     sign = abs if kind.startswith('u') else int
     axes = [f'{kind} {axis}' for axis in 'xyz']
@@ -134,7 +142,7 @@ def scan_of_type(order: Any, kind: Any, scanners: Any) -> Any:
 
 
 def text_of_type(kind: Any, scanners: Any, unit: Any) -> Any:
-    """The same scan as text, in scaled units."""
+    """Returns the same scan as text, in scaled units."""
     sign = abs if kind.startswith('u') else int
     rows = ''.join('%d %d %d %d\n' % (*(unit * sign(c) for c in point), k * 2 % scanners) for k, point in enumerate(COORDINATES))
     places = ''.join('%d %d %d\n' % (unit * 90, unit * 3 * k, unit * 120) for k in range(scanners))
@@ -167,12 +175,12 @@ def stated(file: Any, small: Any, large: Any, words: Any, line: Any) -> None:
 
 
 def scan_of_counts(others: Any = 0, points: Any = 1, scanners: Any = 1) -> Any:
-    """The head of a scan that states these counts, and its first row."""
+    """Returns the head of a scan that states these counts, and its first row."""
     return header('ascii', [('other', others, ['int a']), ('vertex', points, POINT + ['int scanner']), ('scanner', scanners, POINT)]) + b'1 2 3 0\n'
 
 
 def with_items(elements: Any, count: Any) -> Any:
-    """The head of a binary scan of these elements, and a number of items that are not there."""
+    """Returns the head of a binary scan of these elements, and a number of items that are not there."""
     return header('binary_little_endian', elements) + struct.pack('<I', count)
 
 
@@ -385,7 +393,8 @@ class Program(InFolder):
         equal(files, [data('mesh2'), data('cert2')])
         # (the hint of so small a flow is not shown to be a largest one, so rounds follow it)
         flow = ['flow 0 · 0 s', 'flow rounds 0 · 0 s']
-        equal(shown.split(CLEAR), ['', 'cells 0 of 4 · 0 s', 'sights 0 of 4 · 0 s', *flow, ''])
+        votes = 'recon: 0.000 votes against the surface for each line of sight\r\n'
+        equal(shown.split(CLEAR), ['', 'cells 0 of 4 · 0 s', 'sights 0 of 4 · 0 s', *flow, votes])
         equal(at_terminal('cells', 'scan', 'out')[2].split(CLEAR), ['', 'cells 0 of 4 · 0 s', ''])
         for words in (('check', 'scan', 'mesh', 'cert'), ('upgrade', 'scan', 'mesh', 'cert', 'new')):
             equal(at_terminal(*words)[2].split(CLEAR), ['', 'cells 0 of 4 · 0 s', 'sights 0 of 4 · 0 s', ''])
@@ -401,6 +410,33 @@ class Program(InFolder):
         equal(at_terminal('build', 'scan', 'mesh', 'cert', 'vote=1')[2].split(CLEAR)[-1][:16], 'recon: no face: ')
         equal(at_terminal('build', 'cert', 'mesh', 'out')[2][:7], 'recon: ')
         equal(at_terminal('build', 'scan', 'mesh', 'cert', term='dumb')[2], '')
+        equal(told('build', 'scan', 'mesh', 'cert')[2], '')
+
+    def test_a_person_at_a_terminal_sees_how_well_the_surface_fits(self) -> None:
+        def hints(*words: Any) -> list[str]:
+            """What a terminal gets beside the progress of a build."""
+            return [line for line in at_terminal('build', 'scan', 'mesh', 'cert', *words)[2].split(CLEAR)[-1].split('\r\n') if line]
+
+        write('scan', example('tetrahedron.ply'))
+        # The surface is against no sight, and each face costs smooth.
+        for words in ((), ('smooth=0',), ('vote=16', 'smooth=2'), ('smooth=1', 'unit=1', 'vote=8')):
+            equal(hints(*words), ['recon: 0.000 votes against the surface for each line of sight'])
+        # Points of a ball that are said to be seen from behind: a surface is there, and sights are against it.
+        points = sphere(300)
+        write('scan', scan_of_ball(points * 1000, nearest(-points)))
+        status, said, _ = at_terminal('build', 'scan', 'mesh', 'cert')
+        numbers = {name: int(number) for name, number in re.findall('([a-z]+) ([0-9]+)', said)}
+        against = (numbers['cost'] - numbers['faces']) * 1000 // 8 // numbers['sights']
+        look = ': over 0.1, so look at the positions of the scanners, or at the normals'
+        equal((status, against > 100, hints()), (0, True, [f'recon: {against // 1000}.{against % 1000:03} votes against the surface for each line '
+                                                           f'of sight{look}']))
+        # Of points that become one at a unit it is said, too.
+        write('scan', scan_of_ball(points * 4, nearest(points)))
+        status, said, _ = at_terminal('build', 'scan', 'mesh', 'cert')
+        numbers = {name: int(number) for name, number in re.findall('([a-z]+) ([0-9]+)', said)}
+        equal((status, 2 * numbers['points'] < numbers['sights'], numbers['sights']), (0, True, 300))
+        equal(hints()[-1], f'recon: {numbers["points"]} points have 300 lines of sight: if each point was seen once, many have become one at this '
+              'unit (unit=1000 makes millimetres of metres)')
         equal(told('build', 'scan', 'mesh', 'cert')[2], '')
 
     def test_counts_at_a_terminal(self) -> None:

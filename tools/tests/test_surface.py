@@ -12,7 +12,7 @@ from typing import Any
 import numpy as np
 
 from helpers import RECON, InFolder, binary, call, equal, head, write
-from recon.inputs import load_scan
+from recon.inputs import load_scan, plain_table
 from recon.surface import arguments, parser, plain
 from test_library import SCANNERS, nearest, sphere
 from test_readers import images_bin, points_bin
@@ -24,14 +24,14 @@ def listed(name: str, rows: np.ndarray) -> None:
 
 
 def scan_text(points: np.ndarray, scanners: np.ndarray, seen_by: np.ndarray) -> str:
-    """A scan with colors, as `recon-scan` writes it."""
+    """Returns a scan with colors, as `recon-scan` writes it."""
     text = head(len(points), 'double x, double y, double z, uchar red, uchar green, uchar blue, int scanner', len(scanners))
     rows = [' '.join(map(plain, point)) + f' {k % 256} 7 9 {seen}\n' for k, (point, seen) in enumerate(zip(points.tolist(), seen_by))]
     return text + ''.join(rows) + ''.join(' '.join(map(plain, place)) + '\n' for place in scanners.tolist())
 
 
 def made(*words: str, status: int = 0, out: str = 'mesh.ply') -> Any:
-    """The report of a run that ends with this status."""
+    """Returns the report of a run that ends with this status."""
     got, said, error = call('surface', *words, '-o', out, '--program', RECON)
     equal((got, said, 'Traceback' in error), (status, '', False))
     return json.loads(pathlib.Path(os.path.splitext(out)[0] + '.recon', 'report.json').read_text())
@@ -129,6 +129,31 @@ class Surfaces(InFolder):
         report = made('in.ply', '--no-check', '--divide', '1000', '--smooth', '1', '--no-flips', '--steps', '0')
         equal(chosen(report, 'divide', 'unit', 'smooth', 'flips', 'steps'), ['1000', '1000000', '1', 'no', '0'])
 
+    def test_tiles_keep_all_points(self) -> None:
+        turn, along = np.meshgrid(np.arange(12) * np.pi / 6, np.arange(240.0))
+        points = np.stack([along.ravel(), 2 * np.cos(turn.ravel()), 2 * np.sin(turn.ravel())], axis=1)
+        points += np.random.default_rng(3).normal(0, 0.01, points.shape)
+        scanners = np.array([(x, y, z) for x in (60.0, 180.0) for y, z in ((30, 0), (-30, 0), (0, 30), (0, -30))])
+        away = np.linalg.norm(points[:, None] * [1, 20, 20] - scanners[None] * [1, 1, 1], axis=2)
+        write('in.ply', scan_text(points, scanners, away.argmin(axis=1)))
+        report = made('in.ply', '--tiles', '--max-points', '1500', '--no-clean')
+        count = int(report['choices']['tiles']['value'])
+        equal((count > 1, len(report['commands']), report['figures']['tiles']), (True, count, str(count)))
+        equal(sorted(os.listdir('mesh.recon')), ['again.sh', 'mesh.ply', 'report.json', 'scan.ply', 'tiles'])
+        names = [f'{number:03}.{ending}' for number in range(count) for ending in ('cert', 'mesh.ply', 'ply')]
+        equal(sorted(os.listdir('mesh.recon/tiles')), names)
+        top = pathlib.Path('mesh.recon/mesh.ply').read_bytes().split(b'element vertex ')[1].split(b'\n')[0]
+        equal(int(top) > 0.95 * len(points), True)
+        refused('--tiles goes without', 'in.ply', '--tiles', '--sweep', '3', '-o', 'mesh.glb')
+
+    def test_nothing_is_left_if_the_check_fails(self) -> None:
+        points = sphere(300)
+        write('in.ply', scan_text(points, SCANNERS, nearest(points)))
+        write('wrong', f'#!/bin/sh\n[ "$1" = check ] && {{ echo no 5; exit 1; }}\nexec {os.path.abspath(RECON)} "$@"\n')
+        os.chmod('wrong', 0o755)
+        got, said, error = call('surface', 'in.ply', '-o', 'mesh.ply', '--program', './wrong')
+        equal((got, said, 'the check failed: no 5' in error, sorted(os.listdir())), (1, '', True, ['in.ply', 'wrong']))
+
     def test_wrong_positions_have_a_status(self) -> None:
         points = sphere(400)
         write('in.ply', scan_text(points, SCANNERS, 5 - nearest(points)))
@@ -165,6 +190,32 @@ class Words(InFolder):
             told = set(re.findall('`(--[a-z-]+)', file.read()))
         equal(sorted(told & {'--scanner', '--force', '--sweep'} | {word for word in told if word.startswith('--') and word in options}),
               sorted(word for word in told if word in options))
+
+    def test_plain_files_are_read_whole(self) -> None:
+        points = np.random.default_rng(1).normal(size=(50, 3)).round(6)
+        write('in.ply', scan_text(points, SCANNERS, np.arange(50) % len(SCANNERS)))
+        equal(call('scan', 'in.ply', 'slow.ply')[0], 0)
+        slow, quick = load_scan('slow.ply'), plain_table(['in.ply'])
+        assert quick is not None and quick.scanners is not None and slow.scanners is not None and quick.sights and slow.sights
+        equal((list(quick.columns), [column.tolist() for column in quick.columns.values()]),
+              (list(slow.columns), [column.tolist() for column in slow.columns.values()]))
+        equal((quick.scanners.tolist(), quick.sights.scanners.tolist()), (slow.scanners.tolist(), slow.sights.scanners.tolist()))
+        listed('one.xyz', np.c_[points, np.ones(50)])
+        quick = plain_table(['one.xyz=1,2,3', 'one.xyz=4,5,6'])
+        assert quick is not None and quick.scanners is not None and quick.sights
+        equal((quick.points().tolist(), quick.scanners.tolist()), (points.tolist() * 2, [[1, 2, 3], [4, 5, 6]]))
+        equal(quick.sights.scanners.tolist(), [0] * 50 + [1] * 50)
+
+    def test_other_files_are_read_row_by_row(self) -> None:
+        good = scan_text(sphere(4), SCANNERS[:1], np.zeros(4, int))
+        for text in (good[:-1], good + '1\n', good.replace(' 7 9 0', ' 7 9 1', 1), good.replace(' 7 9', ' 7-9 9', 1), good.replace(' 7 9', ' nan 9', 1),
+                     good.replace(' 7 9', ' 1e999 9', 1), good.replace(' 7 9', ' 7.1.2 9', 1), good.replace('int scanner', 'int scalar_scanner'),
+                     good.replace(' 7 9 0', ' 7 9 0.5', 1)):
+            write('in.ply', text)
+            equal(plain_table(['in.ply']), None)
+        for text in ('1 2 3\n4 5\n6\n', '1 2\n3 4\n5 6\n', '1 2 3', '1,2,3\n', '# x\n1 2 3\n', '1 2 3\n\n4 5 6\n', '1 2 nan\n', '3\n1 2 3\n'):
+            write('in.xyz', text)
+            equal(plain_table(['in.xyz=0,0,0']), None)
 
     def test_scans_are_loaded_as_they_were_written(self) -> None:
         write('a.ply', head(2, 'double x, double y, double z, ushort red, ushort green, ushort blue, int scanner', 1)

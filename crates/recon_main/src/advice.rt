@@ -2,6 +2,7 @@
 //! depends on these texts. The table of errors in `docs/howto/import.md` has the same fixes, and a test of `tools/tests` compares
 //! the two.
 
+use crate::against::Weights;
 use real_host::Advice;
 use std::rt::Env;
 
@@ -176,7 +177,7 @@ const CURES: [(&[&str], &str); 31] = [
 ];
 
 /// Returns the index in [`USES`] of the command that the arguments after the program's name begin with, if it is one.
-pub fn command_begun<R: Env>(rt: &R) -> Option<usize> {
+fn command_begun<R: Env>(rt: &R) -> Option<usize> {
     let mut word = [0; COMMAND_LIMIT];
     let Ok(length) = rt.arg(1, &mut word) else {
         return None;
@@ -217,13 +218,25 @@ pub fn has_no_face(line: &[u8]) -> bool {
             .any(|front| front == b" faces 0 ".as_slice())
 }
 
-/// The hints of `recon` for the command with this index in [`USES`].
+/// The hints of `recon` for the command with this index in [`USES`]. The weights are those of a run of `build` that a person sees at a
+/// terminal.
 #[derive(Drop)]
 pub struct Hints {
-    pub command: Option<usize>,
+    command: Option<usize>,
+    weights: Option<Weights>,
 }
 
 impl Hints {
+    /// Returns the hints for the arguments of the command line, if standard error is a terminal (`is_seen`) or not.
+    pub fn new<R: Env>(rt: &R, is_seen: bool) -> Hints {
+        let command = command_begun(rt);
+        let weights = match command {
+            Some(0) if is_seen => Some(Weights::stated(rt)),
+            _ => None,
+        };
+        Hints { command, weights }
+    }
+
     /// Prints the usage of the command, or of all commands if the arguments begin with none.
     fn tell_uses<R: Eprint>(&self, rt: &R) {
         for (place, (name, words)) in USES.iter().enumerate() {
@@ -246,6 +259,8 @@ impl Advice for Hints {
             let _ = eprintln!(rt; "recon: {cure}");
         } else if has_no_face(line) {
             let _ = eprintln!(rt; "recon: {NO_FACE}");
+        } else if let Some(weights) = self.weights {
+            weights.tell(rt, line);
         }
     }
 }

@@ -6,7 +6,7 @@ ghost use Rattle.recon_main.specs.Ends.{EndsOn, EndsAfterARun, RunsOn, RunsOrIdl
 ghost use Rattle.real_host.specs.Real.{real_state};
 ghost use Rattle.real_host.specs.Start.{fresh_state};
 
-use crate::advice::{Hints, command_begun};
+use crate::advice::Hints;
 use host::Host;
 use mesh_form::{Form, ObjForm, OffForm, PlyForm};
 use real_host::{RealHost, Unnamed, arguments_after_name};
@@ -24,14 +24,16 @@ use watch::Watch;
 /// The arguments from the system are unspecified, so the contract does not name them: it states that the status is one of
 /// [`ends_over`], whose host is dropped here. The program's name is left out of the arguments. Reports the stages of the work
 /// to a progress callback.
+/// `is_seen`: standard error is a terminal, so `build` prints hints on the surface there.
 pub fn ends_on<R: Env + Files + Print + Eprint + AllocGlobal + Drop, W: Watch>(
     rt: R,
     watch: &mut W,
+    is_seen: bool,
 ) -> ExitCode
     ensures { EndsAfterARun (exit_status result) }
 {
     let args = env::args(&(Unnamed(&rt), rt.alloc()));
-    let (status, _host) = ends_over(rt, args, watch);
+    let (status, _host) = ends_over(rt, args, watch, is_seen);
     status
 }
 
@@ -43,12 +45,13 @@ pub fn ends_over<R: Env + Files + Print + Eprint + AllocGlobal + Drop, W: Watch>
     rt: R,
     args: io::Result<Args>,
     watch: &mut W,
+    is_seen: bool,
 ) -> (ExitCode, RealHost<R, R::File, Hints>)
     ensures { EndsOn args (exit_status result.0) fresh_state (real_state result.1) }
 {
     let alloc = rt.alloc();
-    let command = command_begun(&rt);
-    let mut host = RealHost::new(rt, Hints { command });
+    let hints = Hints::new(&rt, is_seen);
+    let mut host = RealHost::new(rt, hints);
     let status = ends(alloc, args, &mut host, watch);
     (status, host)
 }

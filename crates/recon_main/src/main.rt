@@ -5,6 +5,7 @@
 #![tactic(auto)]
 
 mod advice;
+mod against;
 mod ends;
 mod progress;
 
@@ -15,5 +16,5 @@ use std::process::ExitCode;
 
 fn main(rt: HostRuntime) -> ExitCode {
     let is_seen = rt.stderr().is_terminal() && !is_dumb(&rt);
-    ends_on(rt, &mut Progress::new(rt, is_seen))
+    ends_on(rt, &mut Progress::new(rt, is_seen), is_seen)
 }

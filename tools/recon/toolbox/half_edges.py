@@ -4,7 +4,7 @@ Half edge h is side h % 3 of face h // 3: it goes from `corners[h]` to the next 
 edge of the face across, which goes the other way. Where more than two faces meet in an edge, sheets of the surface only
 touch there, and the two faces that bound one wedge of the solid belong together.
 
-Names: after, before (half edges of the same face) · edge_keys (a number for each edge) · pair_edges (the twins) · pieces_of
+Names: mean_angle · after, before (half edges of the same face) · edge_keys (a number for each edge) · pair_edges (the twins) · pieces_of
 (which faces hang together by twins) · fans_of (a number for each corner, the same for corners that hang together around
 their vertex).
 """
@@ -19,7 +19,9 @@ from scipy.sparse.csgraph import connected_components
 
 from recon.toolbox.crossing import Places, orient
 from recon.toolbox.ply_text import Refusal
-from recon.toolbox.vectors import Rows, Vector, across, dot
+from recon.toolbox.vectors import Rows, Vector, across, angle, axes, dot, normal
+
+SPREAD = 0x9E3779B97F4A7
 
 
 def after(h: np.ndarray) -> np.ndarray:
@@ -31,13 +33,13 @@ def before(h: np.ndarray) -> np.ndarray:
 
 
 def edge_keys(corners: np.ndarray, count: int) -> np.ndarray:
-    """A number for each half edge, the same for both ways. `count` is the number of vertices."""
+    """Returns a number for each half edge, the same for both ways. `count` is the number of vertices."""
     ends = corners[after(np.arange(len(corners)))]
     return np.minimum(corners, ends) * count + np.maximum(corners, ends)
 
 
 def pair_edges(places: np.ndarray, corners: np.ndarray) -> np.ndarray:
-    """The twin of each half edge. Raises `Refusal` where the mesh is not closed."""
+    """Returns the twin of each half edge. Raises `Refusal` where the mesh is not closed."""
     keys = edge_keys(corners, len(places))
     order = np.argsort(keys, kind='stable')
     starts = np.flatnonzero(np.r_[True, np.diff(keys[order]) != 0])
@@ -53,6 +55,24 @@ def pair_edges(places: np.ndarray, corners: np.ndarray) -> np.ndarray:
         for pair in pairs_around(Rows(places), near, around):
             twins[list(pair)] = pair[::-1]
     return twins
+
+
+def mean_angle(places: np.ndarray, corners: np.ndarray) -> float:
+    """The mean angle between neighboring faces, in degrees, of the edges that two faces have; of a mesh of over a hundred thousand edges
+    that of a hundred thousand of them, or two."""
+    keys = edge_keys(corners, len(places))
+    share = len(keys) >> 18
+    halves = np.flatnonzero((keys * SPREAD >> 20) % (share + 1) == 0) if share else np.arange(len(keys))
+    halves = halves[np.argsort(keys[halves], kind='stable')]
+    is_same = np.r_[False, np.diff(keys[halves]) == 0, False]
+    first = np.flatnonzero(is_same[1:] & ~is_same[:-1] & ~np.r_[is_same[2:], False])
+    one, other = halves[first] // 3, halves[first + 1] // 3
+    spots = places.astype(float)
+
+    def normals(faces: np.ndarray) -> Vector:
+        return normal(*(axes(spots, corners[3 * faces + k]) for k in range(3)))
+
+    return float(np.degrees(angle(normals(one), normals(other)).mean())) if len(one) else 0.0
 
 
 def next_of(h: int) -> int:
@@ -80,7 +100,7 @@ def pairs_around(places: Places, corners: Any, around: list[int]) -> list[tuple[
 
 
 def turned(places: Places, corners: Any, around: list[int], first: int) -> list[int]:
-    """The half edges of one edge in the order of their faces, counterclockwise seen against the edge, from `first` on."""
+    """Returns the half edges of one edge in the order of their faces, counterclockwise seen against the edge, from `first` on."""
     end, start = places[corners[first]], places[corners[next_of(first)]]
     apex = {h: places[corners[last_of(h)]] for h in around}
 
@@ -99,7 +119,7 @@ def turned(places: Places, corners: Any, around: list[int], first: int) -> list[
 
 
 def same_side(a: Vector, b: Vector, c: Vector, d: Vector) -> bool:
-    """Whether two places of a plane through a and b are on one side of the line through these."""
+    """Returns whether two places of a plane through a and b are on one side of the line through these."""
     return dot(across(a, b, c), across(a, b, d)) > 0
 
 
@@ -111,11 +131,11 @@ def wedges(order: list[int], there: set[int]) -> list[tuple[int, int]]:
             open_ones.append(h)
         elif open_ones:
             pairs.append((h, open_ones.pop()))
-    return list(dict(pairs[:len(order) // 2]).items())
+    return list(dict(pairs).items())
 
 
 def groups_of(count: int, one: np.ndarray, other: np.ndarray) -> np.ndarray:
-    """The number of its group for each of `count` things that are joined in pairs, from 0 in the order of their first members."""
+    """Returns the number of its group for each of `count` things that are joined in pairs, from 0 in the order of their first members."""
     joins = coo_matrix((np.ones(len(one), np.int8), (one, other)), (count, count))
     labels = connected_components(joins, directed=False)[1]
     _, first, labels = np.unique(labels, return_index=True, return_inverse=True)
@@ -125,7 +145,7 @@ def groups_of(count: int, one: np.ndarray, other: np.ndarray) -> np.ndarray:
 
 
 def pieces_of(twins: np.ndarray) -> np.ndarray:
-    """The number of its piece for each face, from 0 in the order of their first faces."""
+    """Returns the number of its piece for each face, from 0 in the order of their first faces."""
     return groups_of(len(twins) // 3, np.arange(len(twins)) // 3, twins // 3)
 
 
