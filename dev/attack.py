@@ -1,15 +1,15 @@
 #!/usr/bin/env python3
 """Tries the mutants of attack/NAME/, which the gate leaves out: none may be verified.
 
-usage: dev/attack.py [CRATE ..]               (at the top of the repository; without a name those of all crates)
+usage: dev/attack.py [CRATE ..]               (at the top of the repository; default: the mutants of all crates)
 
-It copies the repository to a folder of its own, puts the edits of attack/NAME/ in the place of crates/NAME/must-fail/, and runs `rt ci` there, of
-the crates that are named or of all. So what the gate has proved on this machine is not proved again, edits are tried side by side, and one that was
-tried here over the same text is not tried again. Each start is reported, as by dev/progress.py. Where `rt ci` takes no names (`rt help`
-tells), the copy keeps what was built here, and `rt must-fail` tries four crates side by side. At the end a line for each crate says
-how many were tried and refused, how many only by a name that a proof lost or by a limit of the prover (which says less of the contract), and how
-many were not refused or are bad: such an edit is reported with its name and the output of `rt`. All that `rt` prints goes to attack.log. The status is 1
-where one was not refused.
+Copies the repository to a temporary folder, puts the edits of attack/NAME/ in place of crates/NAME/must-fail/, and runs `rt ci` there, for
+the named crates or for all. So what the gate has proved on this machine is not proved again, edits are tried in parallel, and an edit that was
+tried before with the same sources is not tried again. Each start is reported, as by dev/progress.py. If `rt ci` takes no names (see `rt help`),
+the copy keeps what was built here, and `rt must-fail` tries four crates in parallel. At the end a line for each crate states how many edits were
+tried and refused, how many only by a name that a proof lost or by a limit of the prover (which says less about the contract), and how many were
+not refused or are bad: such an edit is reported with its name and the output of `rt`. The whole output of `rt` goes to attack.log. The status is
+1 if an edit was not refused.
 """
 from __future__ import annotations
 
@@ -55,7 +55,7 @@ def copied(to: pathlib.Path, crates: list[str]) -> None:
 
 
 def takes_names(help_text: str) -> bool:
-    """Whether `rt ci` takes names of crates, and so keeps what it proved."""
+    """Returns whether `rt ci` takes names of crates, and so keeps what it proved."""
     return TAKES_NAMES.search(help_text) is not None
 
 

@@ -1,20 +1,20 @@
 #!/usr/bin/env python3
-"""Prints the definitions that a contract or a definition rests on, and how many lines they have.
+"""Prints the definitions on which a contract or a definition depends, and the number of their lines.
 
 usage: dev/believed.py [CRATE FILE CALL]        (a call, as recon_cmd src/whole_run.rt run)
        dev/believed.py [CRATE MODULE NAME..]    (definitions of a file, as recon_cmd CheckLaws CheckEnds)
-       dev/believed.py write                    (puts what it prints by default into docs/verification/guarantees.md)
+       dev/believed.py write                    (puts its default output into docs/verification/guarantees.md)
        dev/believed.py audit                    (compares docs/verification/audit.md with its source, as the gate does)
        dev/believed.py audit write              (writes that page)
 
-By default: what a yes of `recon check` on the text of a scan says of the mesh, what it says on any file, what each answer says of
-all three files, and then all of the contract of the top call. A contract rests on the definitions of specs/ that its clauses name,
+By default: what a yes of `recon check` for the text of a scan says about the mesh, what it says for any file, what each answer says about
+all three files, and then the whole contract of the top call. A contract depends on the definitions of specs/ that its clauses name,
 these on those that they name, and so on. Comments, imports and blank lines are not counted. Definitions of the toolchain are left
 out, and so are types that the code declares.
 
 The page for auditors prints the first of these sets. Its source, docs/verification/audit.in.md, has a table row for each definition and
 for each type or constant of the code that one of them uses: crate, file, name, and a sentence. The page has the definition with its comment
-under the sentence. The source fails where a row is missing or superfluous, where a definition comes before one that it uses, and where a
+under the sentence. The source is invalid if a row is missing or superfluous, if a definition comes before one that it uses, or if a
 definition uses a name of the toolchain that the text does not explain in backticks.
 """
 from __future__ import annotations

@@ -57,17 +57,18 @@ class Run:
 
 
 def cells_of(runs: list[Run]) -> list[str]:
-    """The seconds of some runs, from the least to the greatest, and the largest peak."""
+    """Returns the seconds of some runs, from the least to the greatest, and the largest peak."""
     seconds = sorted((f'{run.processor:.1f}' if run.processor >= 1 else f'{run.processor:.2f}' for run in runs), key=float)
     return [seconds[0] if seconds[0] == seconds[-1] else f'{seconds[0]} to {seconds[-1]}', f'{max(run.peak for run in runs):,}']
 
 
 def least(runs: list[Run]) -> float:
+    """Returns the least processor seconds of some runs."""
     return min(run.processor for run in runs)
 
 
 def named(word: str) -> list[tuple[str, int]]:
-    """The scans of the option `scans`."""
+    """Returns the scans of the option `scans`."""
     if word == 'short':
         return list(SHORT)
     pairs = [scan.split('.') for scan in word.split(',')]
@@ -77,7 +78,7 @@ def named(word: str) -> list[tuple[str, int]]:
 
 
 def scan_of(folder: str, shape: str, size: int) -> str:
-    """The path of a scan, which is made where it is missing."""
+    """Returns the path of a scan, which is made where it is missing."""
     path = os.path.join(folder, f'{shape}.{size}.ply')
     if not os.path.exists(path):
         subprocess.run([sys.executable, PACKAGE, 'make-scan', shape, str(size), SEED, path], check=True,
@@ -86,7 +87,7 @@ def scan_of(folder: str, shape: str, size: int) -> str:
 
 
 def texts(program: str, folder: str, name: str) -> list[str]:
-    """Where a program writes its mesh and its certificate."""
+    """Returns where a program writes its mesh and its certificate."""
     label = os.path.basename(program)
     return [os.path.join(folder, f'{name}.{label}.{kind}') for kind in ('ply', 'cert')]
 
@@ -110,7 +111,7 @@ def compared(lines: list[str], meshes: list[str]) -> None:
 
 
 def measured(programs: list[str], folder: str, shape: str, size: int, count: int, check: bool) -> list[str]:
-    """A row of the table: each program's build, and where that is asked for the first one's check of its own files."""
+    """Returns a row of the table: each program's build, and where that is asked for the first one's check of its own files."""
     scan, name = scan_of(folder, shape, size), f'{shape}.{size}'
     built = {program: [] for program in programs}
     for _ in range(count):
@@ -127,7 +128,7 @@ def measured(programs: list[str], folder: str, shape: str, size: int, count: int
 
 
 def heading(programs: list[str], check: bool) -> str:
-    """The first two rows of the table."""
+    """Returns the first two rows of the table."""
     cells = ['scan', 'build s', 'peak MB']
     if len(programs) == 2:
         cells += ['reference s', 'peak MB', 'ratio']

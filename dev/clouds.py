@@ -34,12 +34,12 @@ HEAD = '| Cloud | Points | Lines of sight | Spacing | Noise | `unit` | `smooth` 
 
 
 def is_cloud(name: str) -> bool:
-    """Whether a member of an archive is a cloud, by its place and its ending."""
+    """Returns whether a member of an archive is a cloud, by its place and its ending."""
     return name.endswith(ENDINGS) and 'points_3' in name or name.endswith('.las')
 
 
 def clouds(folder: Path) -> Iterator[Path]:
-    """The clouds of both packages, each name once; what is packed is unpacked first."""
+    """Yields the clouds of both packages, each name once; what is packed is unpacked first."""
     kept, seen = folder / 'clouds', set()
     kept.mkdir(parents=True, exist_ok=True)
     for archive in (CGAL / f'{name}.tar.gz' for name in ARCHIVES):
@@ -57,7 +57,7 @@ def clouds(folder: Path) -> Iterator[Path]:
 
 
 def row_of(path: Path, recon: str, folder: Path, seconds: str) -> tuple[str, bool]:
-    """The row of a cloud, and whether a surface came out."""
+    """Returns the row of a cloud, and whether a surface came out."""
     out = folder / (path.name + '.ply')
     words = [sys.executable, PACKAGE, 'surface', str(path), '-o', str(out), '-q', '--program', recon, '--patience', seconds]
     done = subprocess.run(words, capture_output=True, text=True)

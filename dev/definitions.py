@@ -1,15 +1,16 @@
 #!/usr/bin/env python3
-"""Fails where docs/verification/definitions.md is not what its source and the heads of specs/ come to, or where its source names what is not there.
+"""Fails if docs/verification/definitions.md differs from what its source and the heads of specs/ give, or if its source names something that
+does not exist.
 
 usage: dev/definitions.py           (compares, as the gate does)
        dev/definitions.py write     (writes the page)
 
 The source is docs/verification/definitions.in.md: text, and tables of names by theme. Each name of a table has to be defined in a crate that the
-heading over it names, or that its own cell names. The files are printed into each row. Where a second cell is empty, it becomes what the
-heads of these files say of the names, or the line over a definition that a head does not name, and names that stand there alone get the
+heading over it names, or that its own cell names. The files are printed into each row. If a second cell is empty, it becomes the descriptions
+of the names in the heads of these files, or the line over a definition that a head does not name, and names without arguments get the
 arguments that they have in the heads. {shared} becomes the names that more than one crate defines, and {others} the meaning of the
-names that no table has, by crate. What stands in marks above {shared} has to be such a name, a crate or a file; each such name has to stand
-there, and there may be no more of them than the text there says. Of each definition a head or a line over it has to say something.
+names that no table has, by crate. A name in backticks above {shared} has to be such a name, a crate or a file; each such name has to occur
+there, and their number may not exceed the number that the text there states. Each definition needs a description in a head or in a line over it.
 """
 from __future__ import annotations
 

@@ -1,9 +1,8 @@
 #!/usr/bin/env python3
-"""Fails where the example of a crate's page (under `# Example` in the `//!` of its root file) is not, line by line, the body of
-the crate's test `example`, where one stands without the other, or where a crate that is a library for others has none. The test
-may stand in a crate of tests alone, as `example_of_CRATE`.
+"""Fails if the example of a crate's page (under `# Example` in the `//!` of its root file) is not, line by line, the body of the crate's
+test `example`, if only one of the two exists, or if a library crate has none. The test may be in a crate of tests, as `example_of_CRATE`.
 
-usage: dev/examples.py [CRATE..]      (no CRATE: all)
+usage: dev/examples.py [CRATE..]      (default: all)
 """
 from __future__ import annotations
 

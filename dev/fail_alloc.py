@@ -1,11 +1,11 @@
 #!/usr/bin/env python3
-"""Makes each allocation of the built program fail in turn, one a run, on a scan of four points, and says how the runs ended.
+"""Makes each allocation of the built program fail in turn, one a run, on a scan of four points, and prints how the runs ended.
 
-usage: dev/fail_alloc.py [PROGRAM]    (default ./recon; it needs a C compiler, and takes half a minute)
+usage: dev/fail_alloc.py [PROGRAM]    (default: ./recon; needs a C compiler, and takes half a minute)
 
-Behind an allocation that fails a command ends with status 5, says nothing and leaves all files as they were; or the call of the
-system that lacked memory failed, with status 4 and the files as they were or a front of what is written; or the command found
-another way and is done. In each case the same arguments with memory then do what they would have done at first.
+After an allocation that fails a command ends with status 5, prints nothing and leaves all files unchanged; or the call of the system that ran
+out of memory failed, with status 4 and the files unchanged or with a prefix of what is written; or the command found another way and is done.
+In each case the same arguments with memory then do what they would have done at first.
 """
 from __future__ import annotations
 
@@ -71,7 +71,7 @@ def ran(folder: pathlib.Path, program: str, words: Sequence[str], number: int) -
 
 
 def held(folder: pathlib.Path) -> dict[str, bytes]:
-    """The bytes of each file."""
+    """Returns the bytes of each file."""
     return {name: (folder / name).read_bytes() for name in NAMES if (folder / name).exists()}
 
 
@@ -84,7 +84,7 @@ def put(folder: pathlib.Path, files: dict[str, bytes]) -> None:
 
 
 def ended(answer: Answer, files: dict[str, bytes], before: dict[str, bytes], done: Answer, whole: dict[str, bytes]) -> str:
-    """How a run ended, or why that is not as promised."""
+    """Returns how a run ended, or why that is not as promised."""
     if (answer, files) == (done, whole):
         return 'done'
     if answer == (5, b'') and files == before:
@@ -97,7 +97,7 @@ def ended(answer: Answer, files: dict[str, bytes], before: dict[str, bytes], don
 
 def tried(folder: pathlib.Path, program: str, words: Sequence[str],
           before: dict[str, bytes]) -> tuple[collections.Counter[str], dict[str, bytes]]:
-    """The ends of a command by their counts, and the files that it leaves with memory."""
+    """Returns the ends of a command by their counts, and the files that it leaves with memory."""
     put(folder, before)
     done, _ = ran(folder, program, words, 0)
     whole, ends, number = held(folder), collections.Counter(), 0

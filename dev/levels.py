@@ -1,11 +1,11 @@
 #!/usr/bin/env python3
-"""Fails where a chain of crates is longer than docs/dev/architecture.md allows, or where that page has other levels, or other crates below one.
+"""Fails if a chain of crates is longer than docs/dev/architecture.md allows, or if that page has other levels, or other crates below one.
 
 usage: dev/levels.py            (compares, as the gate does)
        dev/levels.py write      (writes the second column of the page's table)
 
 The level of a crate is that of crates.txt. It depends on those crates that its files name outside of comments and tests; the table names those
-of them on which no other of them depends. A crate of tests alone depends on all that it uses.
+of them on which no other of them depends. A crate that has only tests depends on all that it uses.
 """
 from __future__ import annotations
 

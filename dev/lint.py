@@ -1,6 +1,7 @@
 #!/usr/bin/env python3
-"""Checks the types and the style of the Python programs by mypy and ruff, as tools/pyproject.toml says, each where it is installed
-(Debian: mypy); where one is not, a line says that it was left out."""
+"""Checks the types and the style of the Python programs by mypy and ruff, as configured in tools/pyproject.toml, if they are installed
+(Debian: mypy). If one is not, prints that it was left out.
+"""
 from __future__ import annotations
 
 import os

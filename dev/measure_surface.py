@@ -1,25 +1,23 @@
 #!/usr/bin/env python3
-"""Scans of a known object, and how far a surface is from that object. It needs numpy.
+"""Makes scans of a known object, and measures how far surfaces are from that object. Needs numpy.
 
   measure_surface.py scan OBJECT OUT [points=N] [noise=F] [stray=F] [seed=WORD]
   measure_surface.py compare OBJECT MESH .. [samples=N] [own=yes]
   measure_surface.py room OUT
 
-  OBJECT             a mesh of triangles, OFF or PLY; its box has the diagonal 1000 in all that is written and said, but with
-                     own=yes it stays as it is
-  OUT                a scan of it from 12 places around it, for `recon build` with unit=1000
-  MESH               surfaces to be compared, in the numbers of the scan, as recon-finish and recon-mesh-to-floats write them
-  points=N           how many points the scan has. Without it 42000
-  noise=F            how far a point errs along its sight, as the deviation of a normal error, in diagonals. Without it 0.0005
-  stray=F            which part of the points is wrong, half of them too short on their sight, half anywhere. Without it 0
-  seed=WORD          another word draws other points. Without it 1
-  samples=N          how many places are drawn for distances, each way. Without it 50000
+  OBJECT             a triangle mesh, OFF or PLY; it is scaled so that its box has the diagonal 1000, but not with own=yes
+  OUT                a scan of it from 12 positions around it, for `recon build` with unit=1000
+  MESH               surfaces to be compared, in the scan's units, as recon-finish and recon-mesh-to-floats write them
+  points=N           the number of points of the scan (default: 42000)
+  noise=F            the standard deviation of a point's error along its sight, in diagonals (default: 0.0005)
+  stray=F            the part of the points that are outliers, half of them too short on their sight, half anywhere (default: 0)
+  seed=WORD          the seed of the generator (default: 1)
+  samples=N          the number of points that are drawn for distances, each way (default: 50000)
 
-A place is drawn evenly on the object together with a scanner, and kept where that scanner sees it, and not at a grazing
-angle. `room` writes the room of recon-make-scan as an object, OFF in thousandths of its length 1. `compare` says a line for each
-surface: distances from it to the object and from the object to it (mean, 95 of 100, greatest), to exact triangles; how many
-edges are open, how many have more than two faces, where sheets touch; how many pieces hang together by edges; the mean angle
-between neighboring faces; and how many pairs of faces cross.
+A point is drawn evenly on the object together with a scanner, and kept if that scanner sees it, not at a grazing angle. `room` writes the
+room of recon-make-scan as an object, OFF in thousandths of its length 1. `compare` prints a line for each surface: distances from it to
+the object and from the object to it (mean, 95th percentile, greatest), to exact triangles; the number of open edges, and of edges with more than
+two faces (non-manifold); the number of components by edges; the mean angle between adjacent faces; and the number of pairs of faces that cross.
 """
 from __future__ import annotations
 
@@ -49,7 +47,7 @@ def number(text: str | None, key: str, otherwise: str, most: int) -> float:
 
 
 def placed(path: str) -> tuple[np.ndarray, np.ndarray]:
-    """The object about the origin, with the diagonal 1000."""
+    """Returns the object about the origin, with the diagonal 1000."""
     places, faces = joined(*read_object(path))
     low, high = places.min(axis=0), places.max(axis=0)
     return (places - (low + high) / 2) * (DIAGONAL / np.linalg.norm(high - low)), faces
@@ -112,7 +110,7 @@ def told(values: np.ndarray) -> str:
 
 
 def edges_of(faces: np.ndarray) -> tuple[int, int, np.ndarray, np.ndarray]:
-    """How many edges are open, how many have more than two faces, and pairs of faces with a common edge of two."""
+    """Returns how many edges are open, how many have more than two faces, and pairs of faces with a common edge of two."""
     corners = faces.ravel()
     keys = half_edges.edge_keys(corners, corners.max() + 1)
     order = np.argsort(keys, kind='stable')
@@ -123,7 +121,7 @@ def edges_of(faces: np.ndarray) -> tuple[int, int, np.ndarray, np.ndarray]:
 
 
 def piece_count(faces: np.ndarray, one: np.ndarray, other: np.ndarray) -> int:
-    """How many pieces hang together by edges of two faces."""
+    """Returns how many pieces hang together by edges of two faces."""
     piece = np.arange(len(faces))
     while True:
         least = piece.copy()
@@ -136,7 +134,7 @@ def piece_count(faces: np.ndarray, one: np.ndarray, other: np.ndarray) -> int:
 
 
 def crossing_pairs(places: np.ndarray, faces: np.ndarray) -> int:
-    """How many pairs of faces cross, of places rounded to a 2^36th of the box: coarser ones make neighbors cross."""
+    """Returns how many pairs of faces cross, of places rounded to a 2^36th of the box: coarser ones make neighbors cross."""
     scale = (1 << 36) / max(np.ptp(places, axis=0).max(), 1e-300)
     whole = np.round((places - places.min(axis=0)) * scale).astype(np.int64)
     low, high = triangles.boxes_of(whole, faces)
@@ -171,7 +169,7 @@ def compare(names: Sequence[str], options: Any) -> str:
 
 
 def make_room(names: Sequence[str], options: Any) -> str:
-    """The sides of the room and of what stands in it, each of two triangles, seen from where its scanners are."""
+    """Returns the sides of the room and of what stands in it, each of two triangles, seen from where its scanners are."""
     if len(names) != 1:
         raise Refusal('room takes the file to be written')
     places, faces = [], []

@@ -1,13 +1,13 @@
 #!/usr/bin/env python3
-"""Runs a command, such as the gate, and writes a table of the processor minutes that each crate took: proofs, tests and edits apart.
+"""Runs a command, such as the gate, and writes a table of the processor minutes of each crate, separately for proofs, tests and edits.
 
 usage: dev/minutes.py TABLE COMMAND ..        as dev/minutes.py minutes.md rt ci --anew
 
-`rt` prints no times, so the processes that the command starts are looked at twice a second: the time of each, user and system, with its
-children, goes to the crate whose check it is, as the command line of `rattle` has it. Proofs are checks of a crate as it stands, tests those
-with its tests and their runs, edits those of a copy of the crate for a mutant. The command's output and its status are its own. The
-table is rewritten every ten seconds, so a run that is cut off leaves one. Its last rows are what the sum of the crates leaves of the
-whole, as the system counts it: the work of `rt` itself, the programs of tools/, and what a process did after it was last seen.
+`rt` prints no times, so the processes that the command starts are sampled twice a second: the time of each, user and system, with its children,
+counts for the crate that it checks, by the command line of `rattle`. Proofs are checks of a crate without changes, tests those with its tests
+and their runs, edits those of a copy of the crate for a mutant. The output and the status are those of the command. The table is rewritten
+every ten seconds, so an interrupted run leaves one. Its last rows are the difference between the sum of the crates and the total, as the system
+counts it: the work of `rt` itself, the programs of tools/, and the work of a process after its last sample.
 """
 from __future__ import annotations
 

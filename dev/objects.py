@@ -52,7 +52,7 @@ def read_ply(path: str) -> tuple[np.ndarray, np.ndarray]:
 
 
 def joined(places: np.ndarray, faces: np.ndarray) -> tuple[np.ndarray, np.ndarray]:
-    """The same mesh with equal places as one, without faces that have two corners at one place."""
+    """Returns the same mesh with equal places as one, without faces that have two corners at one place."""
     places, number = np.unique(places, axis=0, return_inverse=True)
     faces = number.reshape(-1)[faces]
     whole = (faces[:, 0] != faces[:, 1]) & (faces[:, 1] != faces[:, 2]) & (faces[:, 2] != faces[:, 0])
@@ -86,7 +86,7 @@ class Surface:
         self.grid = Grid(least - 1, most + 1, np.arange(len(faces)))
 
     def distances(self, places: np.ndarray) -> tuple[np.ndarray, np.ndarray]:
-        """The distance of each place to the nearest triangle, and that triangle's number."""
+        """Returns the distance of each place to the nearest triangle, and that triangle's number."""
         found, nearest = np.full(len(places), np.inf), np.zeros(len(places), int)
         whole = np.round((places - self.low) * self.scale).astype(np.int64)
         left, reach = np.arange(len(places)), FINE >> 10
@@ -108,7 +108,7 @@ class Surface:
 
 
 def to_triangles(p: np.ndarray, a: np.ndarray, b: np.ndarray, c: np.ndarray) -> np.ndarray:
-    """The distance of each place to its triangle."""
+    """Returns the distance of each place to its triangle."""
     across = np.cross(b - a, c - a)
     area = (across ** 2).sum(axis=1)
     height = ((p - a) * across).sum(axis=1)

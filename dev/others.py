@@ -54,7 +54,7 @@ print(o3d.__version__)
 
 
 def python_with(module: str) -> str:
-    """A Python interpreter that has a module, or nothing."""
+    """Returns a Python interpreter that has a module, or nothing."""
     every = [python for python in (sys.executable, '/usr/bin/python3') if os.path.exists(python)]
     return next((it for it in every if subprocess.run([it, '-c', f'import {module}'], capture_output=True).returncode == 0), '')
 
@@ -85,7 +85,7 @@ def ran(*words: str) -> Optional[Cost]:
 
 
 def tool(name: str) -> list[str]:
-    """How a program of tools/ is run."""
+    """Returns how a program of tools/ is run."""
     path = os.path.join(TOOLS, name + '.py')
     return [PYTHON, path] if os.path.exists(path) else [PYTHON, os.path.join(TOOLS, 'recon'), name.replace('_', '-')]
 
@@ -145,7 +145,7 @@ def of_cgal(folder: str, scan: Scan) -> list[Row]:
 
 
 def of_colmap(scan: Scan) -> list[Row]:
-    """A workspace as COLMAP's dense reconstruction leaves it, with a picture for each scanner."""
+    """Returns a workspace as COLMAP's dense reconstruction leaves it, with a picture for each scanner."""
     if shutil.which('colmap') is None:
         print('COLMAP is left out: it is not here (Debian: colmap)', file=sys.stderr)
         return []
@@ -185,7 +185,7 @@ def of_open3d(scan: Scan) -> list[Row]:
 
 
 def measured(scan: Scan, rows: Sequence[Row]) -> dict[str, list[str]]:
-    """What measure_surface.py says of each mesh, by its path: distances there and back, open edges."""
+    """Returns what measure_surface.py says of each mesh, by its path: distances there and back, open edges."""
     meshes = [row.mesh for row in rows if row.mesh]
     said = subprocess.run([PYTHON, MEASURE, 'compare', scan.object, *meshes], capture_output=True, text=True)
     if said.returncode != 0:

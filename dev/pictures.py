@@ -54,7 +54,7 @@ SCANNERS = np.array([[-2.6, 1.5], [2.5, 1.75], [2.3, -1.6], [-2.3, -1.7]])
 
 
 def sketch(points: np.ndarray) -> tuple[Triangulation, np.ndarray]:
-    """The plane cut into triangles between the points and four corners, and which of them are within the curve."""
+    """Returns the plane cut into triangles between the points and four corners, and which of them are within the curve."""
     corners = np.array([[-3.4, -2.3], [3.4, -2.3], [3.4, 2.3], [-3.4, 2.3]])
     places = np.concatenate([points, corners])
     cut = Triangulation(places[:, 0], places[:, 1])
@@ -70,7 +70,7 @@ def empty_axes(width: float, height: float) -> tuple[plt.Figure, plt.Axes]:
 
 
 def nearest_scanner(points: np.ndarray) -> np.ndarray:
-    """The scanner that each point is seen from: the one that it faces."""
+    """Returns the scanner that each point is seen from: the one that it faces."""
     return np.argmin(((points[:, None] - SCANNERS) ** 2).sum(axis=2), axis=1)
 
 
@@ -148,13 +148,13 @@ def save(image: np.ndarray, folder: str, name: str) -> None:
 
 
 def half(image: np.ndarray) -> np.ndarray:
-    """The image at half its size, so that edges are soft."""
+    """Returns the image at half its size, so that edges are soft."""
     rows, columns, _ = image.shape
     return image.reshape(rows // 2, 2, columns // 2, 2, 3).mean(axis=(1, 3))
 
 
 def title(image: np.ndarray, text: str) -> np.ndarray:
-    """The image with a line of text over it."""
+    """Returns the image with a line of text over it."""
     figure = plt.figure(figsize=(image.shape[1] / 100, 0.26), dpi=100)
     figure.text(0.5, 0.5, text, ha='center', va='center', fontsize=10)
     figure.canvas.draw()
@@ -164,7 +164,7 @@ def title(image: np.ndarray, text: str) -> np.ndarray:
 
 
 def trimmed(image: np.ndarray) -> np.ndarray:
-    """The image without the white rows above and below."""
+    """Returns the image without the white rows above and below."""
     rows = np.flatnonzero((image < 0.999).any(axis=(1, 2)))
     return image[max(rows[0] - 8, 0):rows[-1] + 9] if len(rows) else image
 
@@ -196,7 +196,7 @@ def surface(recon: str, path: str, *options: str) -> tuple[np.ndarray, np.ndarra
 
 
 def is_near(middles: np.ndarray) -> np.ndarray:
-    """What is left of a room without its ceiling and the wall that one looks from."""
+    """Returns what is left of a room without its ceiling and the wall that one looks from."""
     return (middles[:, 2] < 235000) & (middles[:, 1] > -385000)
 
 
@@ -268,7 +268,7 @@ def sliced(folder: str, recon: str, work: str) -> None:
 
 
 def debian(work: str, name: str) -> str:
-    """A file of the data of CGAL, as Debian packs them."""
+    """Returns a file of the data of CGAL, as Debian packs them."""
     with tarfile.open(CGAL) as archive:
         path = os.path.join(work, os.path.basename(name))
         with open(path, 'wb') as file:
@@ -298,7 +298,7 @@ def finish(folder: str, recon: str, work: str) -> None:
 
 
 def upright(view: render.View) -> render.View:
-    """The view with y up."""
+    """Returns the view with y up."""
     view.right = np.cross(view.toward, [0.0, 1.0, 0.0])
     view.right /= np.linalg.norm(view.right)
     view.up = np.cross(view.right, view.toward)

@@ -1,12 +1,12 @@
 #!/usr/bin/env python3
-"""Runs `rt` and says in few lines how far it is; all that it prints goes to a file.
+"""Runs `rt` and prints its progress in few lines; its whole output goes to a file.
 
 usage: dev/progress.py LOG COMMAND ..         as dev/progress.py test.log bash .ci/run, at the top or in the folder of a crate
 
-The first line says how long it takes here from nothing, by the table of docs/dev/contributing.md. Then a line for each crate as it is proved,
-with its number of all and the minutes so far (`proved votes, 22 of 37, 9 min`), one as its tests are proved and one as its mutants begin to
-be tried. A crate that fails is reported with the line of LOG where its text begins. After the gate's last line, and after the line with which
-`rt run` starts the program, everything is printed as it comes. The status is the command's.
+The first line states how long a run from nothing takes here, by the table of docs/dev/contributing.md. Then follows a line for each crate when it
+is proved, with its number among all and the minutes so far (`proved votes, 22 of 37, 9 min`), one when its tests are proved and one before its
+mutants are tried. A crate that fails is reported with the line of LOG where its text begins. After the gate's last line, and after the line with
+which `rt run` starts the program, everything is printed unchanged. The status is the command's.
 """
 from __future__ import annotations
 

@@ -85,7 +85,7 @@ def corner_normals(places: np.ndarray, faces: np.ndarray) -> np.ndarray:
 
 def mesh_image(view: View, places: np.ndarray, faces: np.ndarray, keep: Callable[[np.ndarray], np.ndarray] | None = None,
                is_flat: bool = False) -> np.ndarray:
-    """A mesh, its front sides warm and its back sides cold. `keep` tells by the middle of a face whether it is drawn. Flat, each
+    """Returns a mesh, its front sides warm and its back sides cold. `keep` tells by the middle of a face whether it is drawn. Flat, each
     face has the shade of its own direction, as printers, and viewers at their defaults, show it."""
     if is_flat:
         places, faces = places[faces].reshape(-1, 3), np.arange(faces.size).reshape(-1, 3)

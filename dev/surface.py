@@ -1,11 +1,11 @@
 #!/usr/bin/env python3
-"""Compares the public interface in docs/reference/api.md with the sources, and fails where an item is missing or has another signature.
+"""Compares the public interface in docs/reference/api.md with the sources, and fails if an item is missing or has another signature.
 
 usage: dev/surface.py                     (compares, as the gate does)
-       dev/surface.py show CRATE [NAME]   (prints the rows of a crate's public items, or of one item, as the sources have them)
+       dev/surface.py show CRATE [NAME]   (prints the rows of a crate's public items, or of one item, from the sources)
 
-The page's tables have a row for each item: its name, below its type where it is a method, and its signature. Contracts, comments,
-attributes and private fields are left out of both. An item that another crate declares counts where a crate exports it by `pub use`.
+The page's tables have a row for each item: its name, a method below its type, and its signature. Contracts, comments, attributes and private
+fields are left out of both. An item that another crate declares counts if a crate exports it by `pub use`.
 """
 from __future__ import annotations
 

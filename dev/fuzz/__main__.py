@@ -54,7 +54,7 @@ def work(part: str, programs: Programs, seed: str, seconds: float, worker: int, 
 
 
 def tried(part: str, programs: Programs, seed: str, seconds: float, jobs: int) -> Tally:
-    """A part in some processes."""
+    """Returns a part in some processes."""
     queue: Any = multiprocessing.Queue()
     workers = [multiprocessing.Process(target=work, args=(part, programs, seed, seconds, k, jobs, queue)) for k in range(jobs)]
     for worker in workers:
@@ -68,7 +68,7 @@ def tried(part: str, programs: Programs, seed: str, seconds: float, jobs: int) -
 
 
 def understood(words: list[str]) -> tuple[list[str], dict[str, str]]:
-    """The parts and the options; ends the program if they are not understood."""
+    """Returns the parts and the options; ends the program if they are not understood."""
     if words[:1] in (['--help'], ['-h']):
         print((__doc__ or '').strip())
         sys.exit(0)

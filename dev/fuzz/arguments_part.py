@@ -39,7 +39,7 @@ def number(draw: Draw) -> str:
 
 
 def option(draw: Draw) -> str:
-    """An option that may be understood."""
+    """Returns an option that may be understood."""
     how = draw.random()
     if how < 0.4:
         key = draw.choice(list(LIMITS))
@@ -89,7 +89,7 @@ def drawn_words(draw: Draw) -> list[str]:
 
 
 def is_long(words: Sequence[str]) -> bool:
-    """Whether the model would take long, or the names lead out of the folder."""
+    """Returns whether the model would take long, or the names lead out of the folder."""
     command = understood(words)
     if command is None:
         return False
@@ -98,7 +98,7 @@ def is_long(words: Sequence[str]) -> bool:
 
 
 def spelled(draw: Draw, unit: int) -> str:
-    """A decimal at some limit: of its digits, of its exponent, of its value, or at a half."""
+    """Returns a decimal at some limit: of its digits, of its exponent, of its value, or at a half."""
     if draw.random() < 0.4:
         value = draw.choice([2097151, 2097152, 2097151.5, 0.5, 1.5, 1, 0, 7])
         n = int(value * 2) * 10 ** 40 // (2 * unit) + draw.choice([0, 0, 1, -1, 10 ** draw.randint(0, 39), -10 ** draw.randint(0, 39)])

@@ -19,7 +19,7 @@ MOST_SIGHTS = 250
 
 
 def written(folder: Folder, program: str, data: bytes, options: Sequence[str]) -> list[Certificate]:
-    """The certificate that a program writes."""
+    """Returns the certificate that a program writes."""
     folder.put({'in': data})
     done = folder.run([program, 'build', 'in', 'm', 'c', *options])
     files = folder.look()

@@ -20,7 +20,7 @@ def fits(kind: str, number: int) -> bool:
 
 
 def decimal(draw: Draw, value: int, unit: int) -> str:
-    """A spelling of about value / unit."""
+    """Returns a spelling of about value / unit."""
     sign, n = '-' if value < 0 else draw.choice(['', '', '', '+']), abs(value)
     if unit == 1:
         spellings = [str(n)] * 6 + [f'{n}.0', f'{n}.', f'{n}.4999', f'0{n}', f'{n}e0', f'{n}0e-1', f'{n}00E-02']
@@ -62,7 +62,7 @@ class Document:
         return number.to_bytes(WHOLE[kind][1], 'big' if self.order == 'big' else 'little', signed=WHOLE[kind][2])
 
     def numbers(self, name: str, values: Sequence[int], unit: int = 0) -> Column:
-        """A column of whole numbers, or of decimals if there is a unit."""
+        """Returns a column of whole numbers, or of decimals if there is a unit."""
         if self.form == 'ascii':
             spelled = [decimal(self.draw, v, unit) if unit else self.draw.choice(['%d', '%d', '%d', '+%d', '0%d']) % v if v >= 0 else str(v)
                        for v in values]
@@ -79,7 +79,7 @@ class Document:
         return Column(name, kind, length, [self.packed(length, len(row)) + b''.join(self.packed(kind, n) for n in row) for row in values])
 
     def other(self, name: str, rows: int) -> Column:
-        """A column that a scan does not need."""
+        """Returns a column that a scan does not need."""
         draw, kind = self.draw, self.draw.choice(list(SIZES))
         length = draw.choice(list(WHOLE)) if draw.random() < 0.3 else None
         counts = [1 if length is None else draw.choice([0, 0, 1, 2, 3]) for _ in range(rows)]
@@ -147,7 +147,7 @@ def document_of(draw: Draw, scan: Scan, unit: int, is_fixed: bool) -> Document:
 
 
 def drawn_document(draw: Draw) -> tuple[Document, list[str]]:
-    """A document of a small scan, and the options `unit` and `scanner` that belong to it."""
+    """Returns a document of a small scan, and the options `unit` and `scanner` that belong to it."""
     scan = drawn_scan(draw, draw.choice([1, 2, 3, 4, 4, 5, 6, 8, 8, 10])).scan
     scan = Scan(scan.rows[:16], scan.scanners)
     unit = draw.choice([1, 1, 1, 10, 1000, 3, 1000000])
@@ -239,7 +239,7 @@ def break_bytes(draw: Draw, data: bytes) -> bytes:
 
 
 def broken(draw: Draw, doc: Document) -> bytes:
-    """The document with one or two things changed; it may stay a good one."""
+    """Returns the document with one or two things changed; it may stay a good one."""
     for _ in range(draw.choice([1, 1, 1, 2])):
         how = draw.random()
         if how < 0.5 or not doc.rows:

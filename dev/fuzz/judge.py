@@ -33,7 +33,7 @@ def wanted_of(words: Sequence[str], files: Files) -> Wanted:
 
 
 def command_of(words: Sequence[str]) -> Command:
-    """The command of arguments that are one."""
+    """Returns the command of arguments that are one."""
     command = understood(words)
     assert command is not None, words
     return command
@@ -59,14 +59,14 @@ def solved_of(data: bytes, options: Sequence[str]) -> Solved:
 
 
 def texts_of(data: bytes, options: Sequence[str]) -> tuple[bytes, bytes, bytes]:
-    """The mesh of a scan and its certificates of version 1 and 2."""
+    """Returns the mesh of a scan and its certificates of version 1 and 2."""
     solved = solved_of(data, options)
     cert = solved.certificate
     return push_mesh(solved.solution.mesh), push_certificate(cert._replace(stamp=None)), push_certificate(cert)
 
 
 def wrong_certificate(got: bytes, wanted: bytes, words: Sequence[str], files: Files) -> Optional[str]:
-    """What is wrong with a certificate that `build` wrote: all but its flow is that of the model, and the flow is one of that value."""
+    """Returns what is wrong with a certificate that `build` wrote: all but its flow is that of the model, and the flow is one of that value."""
     try:
         cert = read_certificate(got)
     except Rejected as error:
@@ -86,7 +86,7 @@ def wrong_certificate(got: bytes, wanted: bytes, words: Sequence[str], files: Fi
 
 
 def wrong_files(after: Files, words: Sequence[str], files: Files, wanted: Wanted) -> Optional[str]:
-    """The first file that holds other bytes than it should."""
+    """Returns the first file that holds other bytes than it should."""
     for name in sorted(set(after) | set(wanted.files)):
         got, right = after.get(name), wanted.files.get(name)
         if got == right:
@@ -100,7 +100,7 @@ def wrong_files(after: Files, words: Sequence[str], files: Files, wanted: Wanted
 
 
 def wrong_in(done: Done, after: Files, words: Sequence[str], files: Files, wanted: Wanted) -> Optional[tuple[str, str]]:
-    """The kind of a failure and what is wrong, or None."""
+    """Returns the kind of a failure and what is wrong, or None."""
     if done.status != wanted.status:
         return 'status', f'{done}; wanted status {wanted.status}, {wanted.out[:300]!r}'
     if done.out != wanted.out:

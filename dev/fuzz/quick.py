@@ -28,7 +28,7 @@ class Growing:
         self.last = cell
 
     def located(self, p: Point) -> Cell:
-        """A cell in which a point lies, by a walk."""
+        """Returns a cell in which a point lies, by a walk."""
         at = self.last
         while True:
             v = self.vertices
@@ -54,7 +54,7 @@ class Growing:
 
 
 def by_insertion(vertices: Sequence[Point]) -> list[Cell]:
-    """What `delaunay` answers."""
+    """Returns what `delaunay` answers."""
     growing = Growing(vertices)
     for new in range(8, len(vertices)):
         growing.insert(new)
@@ -137,7 +137,7 @@ class Levels(Residual):
 
 
 def by_levels(network: Network) -> Flow:
-    """A maximum flow."""
+    """Returns a maximum flow."""
     left = Levels()
     arcs = [left.add(FROM if network.fixed[arc.own] else arc.own, arc.across, arc.capacity) for arc in network.arcs]
     sinks = [None if network.fixed[k] else left.add(k, TO, sink) for k, sink in enumerate(network.sink)]
@@ -196,7 +196,7 @@ class Quick(Model):
         return Asked(tuple(scan.points()), tuple(scan.sights()), tuple(scan.scanners))
 
     def network(self, scan: Scan, vote: int, smooth: int) -> Network:
-        """The network at weight 1 and no smoothing is kept, and multiplied."""
+        """Returns the network. That with visibility weight 1 and area weight 0 is kept, and scaled."""
         counted = self.counted.get(self.asked(scan), lambda: super(Quick, self).network(scan, 1, 0))
         network = Network.__new__(Network)
         network.cells, network.fixed = counted.cells, counted.fixed

@@ -35,7 +35,7 @@ class Done(NamedTuple):
 
 
 def drained(descriptor: int) -> bytes:
-    """All that a pipe or a file holds; closes it."""
+    """Returns all that a pipe or a file holds; closes it."""
     with os.fdopen(descriptor, 'rb') as file:
         return file.read()
 
@@ -66,7 +66,7 @@ class Folder:
                 self.held[name] = data
 
     def look(self) -> Files:
-        """What the folder holds now."""
+        """Returns what the folder holds now."""
         self.held = {}
         for folder, _, names in os.walk('.'):
             for name in names:

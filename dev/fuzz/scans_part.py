@@ -44,7 +44,7 @@ def places(draw: Draw, solved: Solved, most: int = 24) -> list[Point]:
 
 
 def points_text(draw: Draw, points: Sequence[Point], unit: int) -> bytes:
-    """The points as a text, a few of them with something wrong."""
+    """Returns the points as a text, a few of them with something wrong."""
     tokens = [decimal(draw, w, unit).encode() for p in points for w in p]
     if draw.random() < 0.12 and tokens:
         at = draw.randrange(len(tokens))

@@ -23,7 +23,7 @@ def times(k: int, p: Point) -> Point:
 
 
 def on_sphere(squared: int) -> Points:
-    """The whole-number points on a sphere."""
+    """Returns the whole-number points on a sphere."""
     r = math.isqrt(squared)
     found = []
     for x, y in itertools.product(range(-r, r + 1), repeat=2):
@@ -86,7 +86,7 @@ def circles(draw: Draw, n: int) -> Points:
 
 
 def moment(draw: Draw, n: int) -> Points:
-    """The curve on which every two points are joined."""
+    """Returns the curve on which every two points are joined."""
     k = draw.choice([1, 1, 2])
     m = min(n, 240 // k)
     return [clipped((k * t, (k * t) ** 2, (k * t) ** 3)) for t in range(-(m // 2), m - m // 2)]
@@ -146,7 +146,7 @@ SMOOTHS = [0, 0, 1, 1, 2, 3, 5, 40, 65535]
 
 
 def scanner_near(draw: Draw, a: Point, b: Point, c: Point) -> Point:
-    """A scanner in some relation to three points."""
+    """Returns a scanner in some relation to three points."""
     ways: list[Callable[[], Sequence[float]]] = [
         lambda: times(draw.choice([2, 3, 10, 100]), a), lambda: times(10, a), lambda: a,
         lambda: [p + q - r for p, q, r in zip(a, b, c)], lambda: [2 * p - q for p, q in zip(a, b)], lambda: [(p + q) // 2 for p, q in zip(a, b)],
@@ -172,7 +172,7 @@ def far_corners(points: Points) -> Points:
 
 
 def drawn_scan(draw: Draw, n: int, kind: Optional[str] = None) -> Drawn:
-    """A scan of about n points; half of them enclose something."""
+    """Returns a scan of about n points; half of them enclose something."""
     kind = kind or draw.choice(list(KINDS))
     points = [clipped(p) for p in KINDS[kind](draw, n)]
     if draw.random() < 0.3:
@@ -196,7 +196,7 @@ def drawn_scan(draw: Draw, n: int, kind: Optional[str] = None) -> Drawn:
 
 
 def text_of(draw: Draw, scan: Scan, fixed_share: float = 0.15) -> tuple[bytes, list[str]]:
-    """A scan as a text with options; some are seen from a fixed scanner."""
+    """Returns a scan as a text with options; some are seen from a fixed scanner."""
     if draw.random() >= fixed_share:
         return push_scan(scan), []
     weighed = any(row.weight != 1 for row in scan.rows)

@@ -102,7 +102,7 @@ class Change(NamedTuple):
 
 
 def largest_inside(network: Network) -> frozenset[int]:
-    """The largest set of inside cells of least cost: all that the cells fixed outside do not reach over a maximum flow."""
+    """Returns the largest set of inside cells of least cost: all that the cells fixed outside do not reach over a maximum flow."""
     flow = by_levels(network)
     out: list[list[int]] = [[] for _ in network.sink]
     for arc, amount in zip(network.arcs, flow.on_arc):
@@ -256,7 +256,7 @@ class Changes:
 
 
 def changed_text(draw: Draw, base: Sheet, changes: Sequence[Change], most: int = 3) -> Optional[tuple[str, bytes]]:
-    """The text after one change, or two or three at once; None if the first leaves nothing for the others."""
+    """Returns the text after one change, or two or three at once; None if the first leaves nothing for the others."""
     sheet, some = base.copy(), draw.sample(list(changes), draw.choice([1] * 5 + list(range(2, most + 1))))
     try:
         for change in some:
@@ -267,7 +267,7 @@ def changed_text(draw: Draw, base: Sheet, changes: Sequence[Change], most: int =
 
 
 def broken_mesh(draw: Draw, mesh: bytes) -> bytes:
-    """A mesh text with one thing changed."""
+    """Returns a mesh text with one thing changed."""
     lines = mesh.split(b'\n')[:-1]
     k, how = draw.randrange(len(lines)), draw.randrange(5)
     if how == 0:
@@ -288,7 +288,7 @@ def broken_mesh(draw: Draw, mesh: bytes) -> bytes:
 
 
 def spoiled_answer(draw: Draw, solved: Solved) -> tuple[bytes, bytes]:
-    """The mesh and a certificate of a solution, mostly with something wrong."""
+    """Returns the mesh and a certificate of a solution, mostly with something wrong."""
     network, cert = solved.solution.network, solved.certificate
     base = Sheet(cert if draw.random() < 0.5 else cert._replace(stamp=None))
     changes = Changes(draw, network, base).found

@@ -46,7 +46,7 @@ class Command:
         self.whole = {output: after.get(output) for output in outputs}
 
     def before(self, draw: Draw) -> Files:
-        """The inputs, and some outputs of an earlier run."""
+        """Returns the inputs, and some outputs of an earlier run."""
         return {**self.files, **{output: OLD for output in self.outputs if draw.random() < 0.5}}
 
 
@@ -86,7 +86,7 @@ def commands(context: Context, folder: Folder, points: int = 0) -> list[Command]
 
 
 def wrong_outputs(command: Command, before: Files, after: Files, done: Done) -> Optional[str]:
-    """What is wrong after status 4."""
+    """Returns what is wrong after status 4."""
     complete = True
     for k, output in enumerate(command.outputs):
         now, whole, was = after.get(output), command.whole[output], before.get(output)
@@ -102,7 +102,7 @@ def wrong_outputs(command: Command, before: Files, after: Files, done: Done) -> 
 
 
 def wrong_in(command: Command, before: Files, after: Files, done: Done, statuses: Sequence[Optional[int]]) -> Optional[str]:
-    """What of the promise does not hold."""
+    """Returns what of the promise does not hold."""
     if done.status not in statuses or b'panicked' in done.err:
         return f'{done}, wanted status {statuses}'
     for name in set(before) | set(after):
@@ -146,7 +146,7 @@ class Part:
     # Calls that fail.
 
     def calls_of(self, command: Command) -> list[tuple[str, int, str]]:
-        """The calls of a command after its loader: the name, the number among its kind, and what follows."""
+        """Returns the calls of a command after its loader: the name, the number among its kind, and what follows."""
         log = os.path.join(self.place, 'calls')
         self.folder.put(command.files)
         self.folder.run([STRACE, '-qq', '-s', '64', '-e', 'trace=' + ','.join(ERRORS), '-o', log, *command.argv])
@@ -160,7 +160,7 @@ class Part:
         return [(name, names[:k + 1].count(name), rest) for k, (name, rest) in enumerate(calls) if k >= first and name in ERRORS]
 
     def faults(self) -> list[tuple[Command, str, str, Sequence[Optional[int]]]]:
-        """Each way in which each call may fail, and the status that follows."""
+        """Returns each way in which each call may fail, and the status that follows."""
         found: list[tuple[Command, str, str, Sequence[Optional[int]]]] = []
         for command in self.small:
             for name, number, rest in self.calls_of(command):

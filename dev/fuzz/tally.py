@@ -88,11 +88,11 @@ class Context:
         return time.monotonic() > self.deadline
 
     def share(self, items: Iterable[Item]) -> list[Item]:
-        """The items of this worker, in an order that the seed decides."""
+        """Returns the items of this worker, in an order that the seed decides."""
         every = list(items)
         random.Random(f'{self.seed}/{self.part}').shuffle(every)
         return every[self.worker::self.workers]
 
     def until(self, share: float) -> float:
-        """The time at which this share of the time that is left has passed."""
+        """Returns the time at which this share of the time that is left has passed."""
         return time.monotonic() + share * max(0.0, self.deadline - time.monotonic())

@@ -13,7 +13,7 @@ CODES = {'float': 'f', 'double': 'd', 'uchar': 'B', 'short': 'h', 'int': 'i'}
 
 
 def ply(order: str, columns: str, rows: Sequence[Sequence[float]], more: str = '') -> bytes:
-    """A PLY; `columns` are pairs of a type and a name."""
+    """Returns a PLY; `columns` are pairs of a type and a name."""
     words = columns.split()
     types, names = words[::2], words[1::2]
     kind = {'': 'ascii', '<': 'binary_little_endian', '>': 'binary_big_endian'}[order]
@@ -68,7 +68,7 @@ POSE = ('<pose type="Structure"><rotation type="Structure"><w type="Float">0.5</
 
 
 def e57(stated: int = 6, before: str = '', columns: str = COLUMNS, is_empty: bool = False) -> bytes:
-    """An E57 of six points; `before` stands before the root of its XML, and an empty one has columns without bytes."""
+    """Returns an E57 of six points; `before` stands before the root of its XML, and an empty one has columns without bytes."""
     z = sum((k % 1006) << (10 * k) for k in range(6)).to_bytes(8, 'little')
     parts = [struct.pack('<6f', *range(6)), struct.pack('<6d', *[k / 4 for k in range(6)]), z, bytes([7] * 6)] if not is_empty else [b''] * 3
     body = struct.pack(f'<{len(parts)}H', *map(len, parts)) + b''.join(parts)

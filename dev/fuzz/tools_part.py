@@ -66,7 +66,7 @@ class Tools:
         return lambda: runpy.run_path(os.path.join(self.folder, name + '.py'), run_name='__main__')
 
     def run(self, folder: Folder, tool: str, words: Sequence[str]) -> Done:
-        """A tool in a fork of this process."""
+        """Returns a tool in a fork of this process."""
         def work() -> int:
             resource.setrlimit(resource.RLIMIT_AS, (MOST_MEMORY, MOST_MEMORY))
             resource.setrlimit(resource.RLIMIT_CPU, (2 * MOST_SECONDS, 2 * MOST_SECONDS))
@@ -93,7 +93,7 @@ class Tools:
 
 
 def spoiled(draw: random.Random, data: bytes, is_text: bool) -> bytes:
-    """The bytes with one place changed."""
+    """Returns the bytes with one place changed."""
     how, at = draw.random(), draw.randrange(len(data) + 1)
     if how < 0.25:
         return data[:at]
@@ -125,7 +125,7 @@ def other_words(draw: random.Random, words: Sequence[str]) -> list[str]:
 
 
 def wrong_in(job: Job, done: Done, before: Files, after: Files) -> Optional[tuple[str, str]]:
-    """The kind of a failure and what is wrong."""
+    """Returns the kind of a failure and what is wrong."""
     if any(word in ('--help', '-h') for word in job.words):
         return None if done.status == 0 and done.out and after == before else ('help', str(done))
     if done.status in (OUT_OF_MEMORY, None, -signal.SIGXCPU) or done.seconds > MOST_SECONDS:
@@ -163,7 +163,7 @@ class Part:
         return done
 
     def unread(self, scan: bytes) -> Optional[tuple[str, str]]:
-        """Whether `recon` refuses what scan wrote, but for numbers that are out of its limits."""
+        """Returns whether `recon` refuses what scan wrote, but for numbers that are out of its limits."""
         self.folder.clear()
         self.folder.put({'out': scan})
         one = [] if b'element scanner' in scan else ['scanner=9,9,9']

@@ -12,7 +12,7 @@ from .points import CORNERS, Cell, Facet, Point, conflict, facets_of, opposite, 
 
 
 def delaunay(vertices: Sequence[Point]) -> list[Cell]:
-    """The sorted vertex tuples of all cells, ascending: of every four vertices, those not in one plane with which no other is in conflict."""
+    """Returns the sorted vertex tuples of all cells, ascending: of every four vertices, those not in one plane with which no other is in conflict."""
     found = []
     for four in combinations(range(len(vertices)), 4):
         cell = positive(vertices, four)
@@ -22,14 +22,14 @@ def delaunay(vertices: Sequence[Point]) -> list[Cell]:
 
 
 def crosses(facet: Sequence[Point], p: Point, scanner: Point) -> bool:
-    """Whether the line of sight from the perturbed scanner to p crosses a directed facet towards its negative side."""
+    """Returns whether the line of sight from the perturbed scanner to p crosses a directed facet towards its negative side."""
     a, b, c = facet
     return side(a, b, c, scanner) > 0 > orientation(a, b, c, p) and side(p, a, b, scanner) > 0 \
         and side(p, b, c, scanner) > 0 and side(p, c, a, scanner) > 0
 
 
 def first_at(cell: Cell, v: int) -> Cell:
-    """The same cell, reordered by an even permutation so that the vertex v is first."""
+    """Returns the same cell, reordered by an even permutation so that the vertex v is first."""
     a, b, c, d = cell
     return {a: (a, b, c, d), b: (b, a, d, c), c: (c, d, a, b), d: (d, c, b, a)}[v]
 
@@ -56,12 +56,12 @@ class Cells:
         return [self.vertices[i] for i in numbers]
 
     def holds(self, k: int, scanner: Point) -> bool:
-        """Whether the perturbed scanner is strictly inside cell k."""
+        """Returns whether the perturbed scanner is strictly inside cell k."""
         v = self.vertices
         return all(side(v[a], v[b], v[c], scanner) > 0 for a, b, c in facets_of(self.cells[k]))
 
     def scanner_cell(self, scanner: Point) -> int:
-        """The one cell that holds the perturbed scanner."""
+        """Returns the one cell that holds the perturbed scanner."""
         (found,) = [k for k in range(len(self.cells)) if self.holds(k, scanner)]
         return found
 
@@ -71,12 +71,12 @@ class Cells:
         return [side(p, a, b, scanner), side(p, b, c, scanner), side(p, c, a, scanner)]
 
     def behind(self, v: int, scanner: Point) -> int:
-        """The one cell into which the line of sight would go on after the vertex v."""
+        """Returns the one cell into which the line of sight would go on after the vertex v."""
         (found,) = [k for k, row in enumerate(self.rows) if v in row and all(s < 0 for s in self.sides_at(k, v, scanner))]
         return found
 
     def crossed(self, v: int, scanner: Point) -> list[Facet]:
-        """The directed facets that a line of sight crosses: every facet is tried."""
+        """Returns the directed facets that a line of sight crosses: every facet is tried."""
         return [f for f in self.owner if crosses(self.at(f), self.vertices[v], scanner)]
 
     def across(self, f: Facet) -> int | None:

@@ -84,7 +84,7 @@ class Memory:
 # Arguments.
 
 def digits(word: str, longest: int, low: int, high: int) -> Optional[int]:
-    """A number of 1 to `longest` digits within its limits."""
+    """Returns a number of 1 to `longest` digits within its limits."""
     found = re.fullmatch('[0-9]{1,%d}' % longest, word)
     return int(word) if found and low <= int(word) <= high else None
 
@@ -95,7 +95,7 @@ NAMES = {'cells': (2, ('unit', 'scanner')), 'build': (3, ALL), 'check': (3, ALL)
 
 
 def with_options(command: Command, words: Sequence[str], allowed: Sequence[str]) -> Optional[Command]:
-    """The command with its options, None if one is not understood."""
+    """Returns the command with its options, None if one is not understood."""
     given = {word.partition('=')[0]: word.partition('=')[2] for word in words}
     if len(given) < len(words) or any('=' not in word for word in words) or not given.keys() <= set(allowed):
         return None
@@ -114,7 +114,7 @@ def with_options(command: Command, words: Sequence[str], allowed: Sequence[str])
 
 
 def sweep_of(rest: Sequence[str]) -> Optional[Command]:
-    """The arguments IN FROM STEP N OUT1 .. OUTN and the options."""
+    """Returns the arguments IN FROM STEP N OUT1 .. OUTN and the options."""
     if len(rest) < 4:
         return None
     start, step, count = digits(rest[1], 10, 0, 65535), digits(rest[2], 10, 1, 65535), digits(rest[3], 10, 1, 64)
@@ -139,7 +139,7 @@ def command_of(name: str, rest: Sequence[str]) -> Optional[Command]:
 
 
 def understood(words: Sequence[str]) -> Optional[Command]:
-    """The command that arguments are, None if they are none."""
+    """Returns the command that arguments are, None if they are none."""
     try:
         for word in words:
             word.encode('utf-8')

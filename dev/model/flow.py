@@ -35,7 +35,7 @@ class Residual:
         return len(self.ends) - 2
 
     def path(self) -> list[int] | None:
-        """The edges of a shortest way with residual capacity, if there is one."""
+        """Returns the edges of a shortest way with residual capacity, if there is one."""
         came: dict[int, int] = {FROM: -1}
         queue = [FROM]
         for u in queue:
@@ -62,7 +62,7 @@ class Residual:
 
 
 def maximum(network: Network) -> Flow:
-    """A flow of the largest value."""
+    """Returns a flow of the largest value."""
     left = Residual()
     arcs = [left.add(FROM if network.fixed[arc.own] else arc.own, arc.across, arc.capacity) for arc in network.arcs]
     sinks = [None if network.fixed[k] else left.add(k, TO, sink) for k, sink in enumerate(network.sink)]
@@ -78,7 +78,7 @@ def value(network: Network, flow: Flow) -> int:
 
 
 def least_inside(network: Network, flow: Flow) -> frozenset[int]:
-    """The smallest set of inside cells of least cost: those from which, over a maximum flow, a sink with residual capacity can be reached."""
+    """Returns the smallest set of inside cells of least cost: those from which, over a maximum flow, a sink with residual capacity can be reached."""
     into: list[list[int]] = [[] for _ in network.sink]
     for arc, amount in zip(network.arcs, flow.on_arc):
         if amount < arc.capacity:

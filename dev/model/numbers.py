@@ -40,7 +40,7 @@ def scaled(token: bytes, unit: int) -> int:
 
 
 def whole(token: bytes) -> int:
-    """A whole number of at most 18 digits after leading zeros."""
+    """Returns a whole number of at most 18 digits after leading zeros."""
     found = WHOLE.fullmatch(token)
     if found is None:
         raise BadNumber(NOT_A_NUMBER)

@@ -38,13 +38,13 @@ def orientation(a: Point, b: Point, c: Point, d: Point) -> int:
 
 
 def side(a: Point, b: Point, c: Point, scanner: Point) -> int:
-    """The orientation of a facet and the symbolically perturbed scanner, times SHIFT^3. It is 0 only for three points on a line."""
+    """Returns the orientation of a facet and the symbolically perturbed scanner, times SHIFT^3. It is 0 only for three points on a line."""
     n = normal(a, b, c)
     return SHIFT ** 3 * dot(n, minus(scanner, a)) + SHIFT ** 2 * n[0] + SHIFT * n[1] + n[2]
 
 
 def replaced(four: Sequence[Point], p: Point) -> list[int]:
-    """The four orientations in which p stands in the place of one vertex."""
+    """Returns the four orientations in which p stands in the place of one vertex."""
     return [orientation(*(*four[:i], p, *four[i + 1:])) for i in range(4)]
 
 
@@ -54,7 +54,7 @@ def plain_power(four: Sequence[Point], p: Point) -> int:
 
 
 def conflict(vertices: Sequence[Point], cell: Cell, new: int) -> bool:
-    """Whether the vertex with the number `new` is inside the sphere of a positively oriented cell, ties broken by symbolic perturbation.
+    """Returns whether the vertex with the number `new` is inside the sphere of a positively oriented cell, ties broken by symbolic perturbation.
 
     Vertex i is lifted to the height |v|^2 + e(i), where each e(i) is positive and outweighs all e(j) with j < i. So where the plain power is
     0, the sign is that of the coefficient of the largest number that has one: `orientation` for `new`, minus `replaced` for a vertex.
@@ -75,7 +75,7 @@ def positive(vertices: Sequence[Point], four: Cell) -> Optional[Cell]:
 
 
 def rotated(a: int, b: int, c: int) -> Facet:
-    """The same directed facet with its smallest number first."""
+    """Returns the same directed facet with its smallest number first."""
     return (a, b, c) if a < b and a < c else (b, c, a) if b < c else (c, a, b)
 
 
@@ -85,6 +85,6 @@ def opposite(f: Facet) -> Facet:
 
 
 def facets_of(cell: Cell) -> list[Facet]:
-    """The directed facets of a positively oriented cell; the cell lies on the positive side of each."""
+    """Returns the directed facets of a positively oriented cell; the cell lies on the positive side of each."""
     a, b, c, d = cell
     return [rotated(b, d, c), rotated(a, c, d), rotated(a, d, b), rotated(a, b, c)]

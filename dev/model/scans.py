@@ -59,7 +59,7 @@ class Scan(NamedTuple):
     scanners: Sequence[Point]
 
     def points(self) -> list[Point]:
-        """The distinct points in the order of their first rows."""
+        """Returns the distinct points in the order of their first rows."""
         return list(dict.fromkeys(row.point for row in self.rows))
 
     def sights(self) -> list[Sight]:
@@ -74,7 +74,7 @@ def is_name(word: bytes) -> bool:
 
 
 def property_of(words: list[bytes]) -> Optional[Property]:
-    """The property of a header line, None if the line is not of the form."""
+    """Returns the property of a header line, None if the line is not of the form."""
     if len(words) == 3:
         item, length, name = TYPES.get(words[1]), None, words[2]
     elif len(words) == 5 and words[1] == b'list':
@@ -127,7 +127,7 @@ class Header:
 
 
 def read_header(data: bytes) -> tuple[Header, int]:
-    """The header, and the offset of the body."""
+    """Returns the header, and the offset of the body."""
     if not data.startswith((b'ply\n', b'ply\r\n')):
         raise Refused('1 not_ply')
     header, at = Header(), data.index(b'\n') + 1
@@ -198,7 +198,7 @@ class Body:
         return Value(length, tokens, b'')
 
     def wholes(self, prop: Property, value: Value, place: str) -> Iterator[int]:
-        """The whole numbers of a value."""
+        """Yields the whole numbers of a value."""
         for k in range(value.length):
             if not self.is_text:
                 size = prop.item.size
@@ -286,7 +286,7 @@ class RowReader:
 
 
 def vertex_row(reader: RowReader, needs: Needs, unit: int, before: int) -> Row:
-    """A row of `vertex`; `before` is the number of sights of the rows before it."""
+    """Returns a row of `vertex`; `before` is the number of sights of the rows before it."""
     point, weight = reader.point(needs.xyz, unit), 1
     if needs.weight is not None:
         weight = next(reader.wholes(needs.weight))
@@ -305,7 +305,7 @@ def vertex_row(reader: RowReader, needs: Needs, unit: int, before: int) -> Row:
 
 
 def read_scan(data: bytes, unit: int = 1, fixed: Optional[Point] = None) -> Scan:
-    """The scan of a PLY file; `fixed` is the one scanner of `scanner=`."""
+    """Returns the scan of a PLY file; `fixed` is the one scanner of `scanner=`."""
     header, at = read_header(data)
     needs, body = Needs(header, fixed), Body(header.kind or ASCII, data, at)
     rows: list[Row] = []
@@ -324,7 +324,7 @@ def read_scan(data: bytes, unit: int = 1, fixed: Optional[Point] = None) -> Scan
 
 
 def push_scan(scan: Scan) -> bytes:
-    """The one spelling of a scan: the plain form, or the wide form if a row has weights or not exactly one sight."""
+    """Returns the one spelling of a scan: the plain form, or the wide form if a row has weights or not exactly one sight."""
     wide = any(len(row.seen_by) != 1 or row.weight != 1 for row in scan.rows)
     xyz = ['property int x', 'property int y', 'property int z']
     seen = ['property uchar weight', 'property list uint int scanner'] if wide else ['property int scanner']
@@ -356,13 +356,13 @@ class Pcg32:
 
 
 def on_axis(axis: int, value: int, others: tuple[int, int] = (0, 0)) -> Point:
-    """The point with this value on an axis, and the others on the other two."""
+    """Returns the point with this value on an axis, and the others on the other two."""
     low, high = others
     return [(value, low, high), (low, value, high), (low, high, value)][axis]
 
 
 def generated(rows: int, seed: int) -> Scan:
-    """The scan of `demo`: points on the faces of a cube, seen by six scanners."""
+    """Returns the scan of `demo`: points on the faces of a cube, seen by six scanners."""
     words, found = Pcg32(seed, 1), []
     for i in range(rows):
         others = (words.word() % 2001 - 1000, words.word() % 2001 - 1000)

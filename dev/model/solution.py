@@ -75,7 +75,7 @@ def check_stamp(stated: Stamp, here: Stamp) -> None:
 
 
 def stated_in(cert: Certificate, network: Network) -> tuple[set[int], Flow]:
-    """The labels and the flow of a certificate by the numbers of cells and arcs."""
+    """Returns the labels and the flow of a certificate by the numbers of cells and arcs."""
     cells = network.cells
     arcs = {arc.facet: j for j, arc in enumerate(network.arcs)}
     for i, cell in enumerate(cert.inside):
@@ -184,13 +184,13 @@ class Plane:
         return 2 * self.mesh.points[v][2] > self.twice
 
     def step(self, face: int) -> Step:
-        """The point where the up edge of a face meets the plane."""
+        """Returns the point where the up edge of a face meets the plane."""
         u, v = (self.mesh.points[i] for i in self.up[face])
         d, t = 2 * (v[2] - u[2]), self.twice - 2 * u[2]
         return Step(face, u[0] * d + (v[0] - u[0]) * t, u[1] * d + (v[1] - u[1]) * t, d)
 
     def following(self) -> dict[int, int]:
-        """The face after each cut face: the k-th face with a down edge is followed by the k-th with the same edge up."""
+        """Returns the face after each cut face: the k-th face with a down edge is followed by the k-th with the same edge up."""
         with_up: dict[Edge, list[int]] = {}
         for k, edge in self.up.items():
             with_up.setdefault(edge, []).append(k)
@@ -203,7 +203,7 @@ class Plane:
 
 
 def slice_of(mesh: Mesh, height: int) -> list[list[Step]]:
-    """The loops in which the plane at `height` + 1/2 cuts a mesh, in ascending order of their smallest faces."""
+    """Returns the loops in which the plane at `height` + 1/2 cuts a mesh, in ascending order of their smallest faces."""
     check_closed(mesh)
     plane = Plane(mesh, height)
     following = plane.following()

@@ -66,13 +66,13 @@ class Lines:
             raise self.bad(self.line)
 
     def number(self, word: bytes, low: int, high: int) -> int:
-        """A number without leading zeros, plus sign or sign before zero."""
+        """Returns a number without leading zeros, plus sign or sign before zero."""
         if re.fullmatch(rb'0|-?[1-9][0-9]*', word) is None or len(word) > 30 or not low <= int(word) <= high:
             raise self.bad(self.line)
         return int(word)
 
     def named(self, name: str, low: int, high: int) -> int:
-        """A line of a name and a number."""
+        """Returns a line of a name and a number."""
         line = self.next()
         if not line.startswith(name.encode() + b' '):
             raise self.bad(self.line)
@@ -167,7 +167,7 @@ def read_stamp(lines: Lines) -> Stamp:
 
 
 def read_rows(lines: Lines, name: str, width: int, has_amount: bool) -> list[tuple[tuple[int, ...], int]]:
-    """The rows of one of the three lists: a cell or a facet, and an amount."""
+    """Returns the rows of one of the three lists: a cell or a facet, and an amount."""
     found: list[tuple[tuple[int, ...], int]] = []
     for _ in range(lines.named(name, 0, U64)):
         words = lines.words(width + has_amount)

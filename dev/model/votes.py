@@ -49,6 +49,6 @@ class Network:
         self.arcs = [Arc(f, own, to, vote * crossings[f] + smooth) for f, own, to in ways if to is not None and not self.fixed[to]]
 
     def cost(self, inside: AbstractSet[int]) -> int:
-        """What it costs that exactly these cells are inside."""
+        """Returns what it costs that exactly these cells are inside."""
         return sum(arc.capacity for arc in self.arcs if arc.own not in inside and arc.across in inside) \
             + sum(sink for k, sink in enumerate(self.sink) if k not in inside)

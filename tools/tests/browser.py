@@ -27,7 +27,7 @@ FLAGS = ['--headless=new', '--no-sandbox', '--remote-debugging-pipe', '--use-ang
 
 
 def pixels_of(data: bytes) -> list[list[tuple[int, ...]]]:
-    """The rows of pixels of a PNG of eight bits a channel, without interlacing."""
+    """Returns the rows of pixels of a PNG of eight bits a channel, without interlacing."""
     width, height, depth, kind, _, _, interlaced = struct.unpack_from('>2I5B', data, 16)
     if depth != 8 or kind not in (2, 6) or interlaced:
         raise ValueError('a PNG of another kind')
@@ -46,7 +46,7 @@ def pixels_of(data: bytes) -> list[list[tuple[int, ...]]]:
 
 
 def unfiltered(kind: int, row: bytearray, above: bytes, step: int) -> bytes:
-    """A row of a PNG without its filter."""
+    """Returns a row of a PNG without its filter."""
     for k in range(len(row)):
         left, corner = (row[k - step], above[k - step]) if k >= step else (0, 0)
         if kind == 4:
@@ -101,7 +101,7 @@ class Browser:
                 time.sleep(0.1)
 
     def call(self, method: str, **words: Any) -> Any:
-        """What a method of the protocol answers."""
+        """Returns what a method of the protocol answers."""
         self.number += 1
         message = {'id': self.number, 'method': method, 'params': words}
         if self.session:
@@ -115,7 +115,7 @@ class Browser:
                 return answer['result']
 
     def message(self) -> Any:
-        """The next message of the browser; those that tell an error are kept."""
+        """Returns the next message of the browser; those that tell an error are kept."""
         end = time.monotonic() + SECONDS
         while b'\0' not in self.text:
             if not select.select([self.back], [], [], max(0.0, end - time.monotonic()))[0]:
@@ -146,7 +146,7 @@ class Browser:
         self.until('document.getElementById("view")?.dataset.mesh !== undefined')
 
     def ask(self, text: str) -> Any:
-        """The value of a JavaScript expression, or of what it promises."""
+        """Returns the value of a JavaScript expression, or of what it promises."""
         result = self.call('Runtime.evaluate', expression=text, awaitPromise=True, returnByValue=True)
         if 'exceptionDetails' in result:
             raise RuntimeError(f'{text}: {result["exceptionDetails"]}')
@@ -161,7 +161,7 @@ class Browser:
             time.sleep(0.05)
 
     def spot(self, name: str, right: float = 0.5, down: float = 0.5) -> tuple[float, float]:
-        """A place of an element of this id, in parts of its size."""
+        """Returns a place of an element of this id, in parts of its size."""
         x, y, width, height = self.ask(f'(r => [r.x, r.y, r.width, r.height])(document.getElementById("{name}").getBoundingClientRect())')
         return x + right * width, y + down * height
 
@@ -193,7 +193,7 @@ class Browser:
         self.call('Input.dispatchKeyEvent', type='keyUp', key=key, windowsVirtualKeyCode=code, modifiers=modifiers)
 
     def picture(self, name: str = 'view') -> list[list[tuple[int, ...]]]:
-        """What an element shows, after the next two frames."""
+        """Returns what an element shows, after the next two frames."""
         self.ask('new Promise(done => requestAnimationFrame(() => requestAnimationFrame(() => done(1))))')
         (left, top), (right, bottom) = self.spot(name, 0, 0), self.spot(name, 1, 1)
         clip = {'x': left, 'y': top, 'width': right - left, 'height': bottom - top, 'scale': 1}

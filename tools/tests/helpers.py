@@ -61,7 +61,7 @@ def is_packed(program: str) -> bool:
 
 
 def spoken(program: str) -> str:
-    """The name under which a program speaks."""
+    """Returns the name under which a program speaks."""
     return 'recon-' + program.replace('_', '-') if is_packed(program) else program + '.py'
 
 
@@ -95,7 +95,7 @@ def holds(name: str, wanted: str) -> None:
 
 
 def head(count: int, columns: str, scanners: int | None = None) -> str:
-    """The header of what the programs write."""
+    """Returns the header of what the programs write."""
     lines = ['ply', 'format ascii 1.0', f'element vertex {count}'] + ['property ' + column for column in columns.split(', ')]
     if scanners is not None:
         lines += [f'element scanner {scanners}'] + ['property double ' + axis for axis in 'xyz']
@@ -126,7 +126,7 @@ SCAN = 'double x, double y, double z, int scanner'
 
 def binary(order: str, end: str, rows: Sequence[Any], columns: str = 'fffB', names: str = 'x y z red',
            extra: bytes = b'', more: str = '') -> bytes:
-    """A binary PLY as other programs write it."""
+    """Returns a binary PLY as other programs write it."""
     types = {'f': 'float', 'd': 'double', 'B': 'uchar', 'h': 'short', 'i': 'int', 'q': 'list uchar int'}
     kind = {'<': 'little', '>': 'big'}[order]
     lines = ['ply', f'format binary_{kind}_endian 1.0', 'comment by another program', f'element vertex {len(rows)}']

@@ -18,7 +18,7 @@ SLICE = 'loops 1\nloop 4\n0 200 40000 400\n2 40000 200 400\n3 -200 -40000 400\n1
 
 
 def changed(draw: random.Random, data: bytes) -> bytes:
-    """The file with a byte or two put in, taken out or made another."""
+    """Returns the file with a byte or two put in, taken out or made another."""
     data = bytearray(data)
     for _ in range(draw.choice((1, 1, 2, 3))):
         k = draw.randrange(len(data))

@@ -38,18 +38,18 @@ WIDE = 'property uchar weight\nproperty list uint int scanner\n'
 
 
 def scan(rows: Sequence[str], places: Sequence[str], properties: str = ONE) -> str:
-    """A scan with these rows of points and of scanners."""
+    """Returns a scan with these rows of points and of scanners."""
     head = f'ply\nformat ascii 1.0\nelement vertex {len(rows)}\n{XYZ}{properties}element scanner {len(places)}\n{XYZ}end_header\n'
     return head + ''.join(row + '\n' for row in [*rows, *places])
 
 
 def seen(properties: str, values: Sequence[str]) -> str:
-    """The four points and their scanners, with these values after the coordinates."""
+    """Returns the four points and their scanners, with these values after the coordinates."""
     return scan([f'{row} {value}' for row, value in zip(ROWS, values)], PLACES, properties)
 
 
 def changed(text: str, old: str, new: str) -> str:
-    """The text with another part in the place of the first one like this."""
+    """Returns the text with another part in the place of the first one like this."""
     front, found, behind = text.partition(old)
     equal(found, old)
     return front + new + behind

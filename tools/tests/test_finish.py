@@ -21,7 +21,7 @@ from recon.toolbox.vectors import axes, normal
 
 
 def mesh_text(places: Sequence[Any], faces: Sequence[Any]) -> str:
-    """A mesh as `recon build` writes it."""
+    """Returns a mesh as `recon build` writes it."""
     lines = ['ply', 'format ascii 1.0', f'element vertex {len(places)}', 'property int x', 'property int y', 'property int z',
              f'element face {len(faces)}', 'property list uchar int vertex_indices', 'end_header']
     lines += [' '.join(map(str, place)) for place in places] + ['3 ' + ' '.join(map(str, face)) for face in faces]
@@ -32,7 +32,7 @@ TETRAHEDRON = [(0, 2, 1), (0, 1, 3), (0, 3, 2), (1, 2, 3)]
 
 
 def ball(count: int, size: int, roughness: float = 0, seed: int = 1) -> Any:
-    """A closed mesh of a cube's sides cut into squares of two triangles each, drawn out to a ball."""
+    """Returns a closed mesh of a cube's sides cut into squares of two triangles each, drawn out to a ball."""
     draw, places, faces = random.Random(seed), {}, []
 
     def number(place: Sequence[Any]) -> int:
@@ -65,7 +65,7 @@ def crossing_pairs(places: Sequence[Any], corners: list[int]) -> set[Any]:
 
 
 def common_places(one: Sequence[Any], other: Sequence[Any]) -> bool:
-    """Whether two triangles have a place in common, by cutting one's corners off at the planes of the other, in fractions."""
+    """Returns whether two triangles have a place in common, by cutting one's corners off at the planes of the other, in fractions."""
     a, b, c = other
     away = tuple(normal_of(a, b, c))
     if all(not orient(a, b, c, p) for p in one):
@@ -89,7 +89,7 @@ def normal_of(a: Sequence[Any], b: Sequence[Any], c: Sequence[Any]) -> Any:
 
 
 def clipped(polygon: Sequence[Any], walls: Sequence[Any]) -> list[Any]:
-    """What is left of a polygon on the inner sides of some planes, borders too."""
+    """Returns what is left of a polygon on the inner sides of some planes, borders too."""
     for start, inward in walls:
         sides = [sum(x * y for x, y in zip(less(p, start), inward)) for p in polygon]
         left = []
@@ -126,7 +126,7 @@ def check_flips(places: Sequence[Any], faces: Sequence[Any]) -> int:
 
 
 def total_angle(places: Sequence[Any], corners: np.ndarray) -> float:
-    """The sum of angle times length."""
+    """Returns the sum of angle times length."""
     from math import acos, dist
     twins = half_edges.pair_edges(np.array(places), corners)
     spots = np.array(places, float)
@@ -136,7 +136,7 @@ def total_angle(places: Sequence[Any], corners: np.ndarray) -> float:
 
 
 def best_edge(places: Sequence[Any], corners: list[int]) -> Any:
-    """The flipper of a mesh and the edge that gains most."""
+    """Returns the flipper of a mesh and the edge that gains most."""
     array, sides = np.array(places), np.array(corners)
     flipper = flips.Flipper(array, sides, half_edges.pair_edges(array, sides))
     flipper.weigh(np.flatnonzero(np.arange(len(sides)) < flipper.twins))
@@ -147,7 +147,7 @@ TOUCHING = [(0, 0, 0), (0, 0, 10), (10, 0, 5), (0, 10, 5), (-10, 0, 5), (0, -10,
 
 
 def outward(places: Sequence[Any], faces: Sequence[Any]) -> list[Any]:
-    """The faces of a tetrahedron, seen from outside."""
+    """Returns the faces of a tetrahedron, seen from outside."""
     middle = [sum(places[k][axis] for k in set(flat(faces))) for axis in range(3)]
     scaled = [tuple(4 * x for x in place) for place in places]
     return [face if orient(*(scaled[k] for k in face), tuple(middle)) < 0 else face[::-1] for face in faces]

@@ -49,7 +49,7 @@ def faults(text: str, source: str = 'if a < b {\n') -> list[str]:
 
 
 def said(text: str, in_turn: bool) -> list[str]:
-    """What is said of a run, line by line."""
+    """Returns what is said of a run, line by line."""
     seen = progress.Progress(['low', 'host', 'high'] if not in_turn else ['low', 'high'], in_turn, 'LOG')
     return [it for it in (seen.said(line, 9) for line in text.splitlines()) if it is not None]
 

@@ -22,7 +22,7 @@ def limit() -> None:
 
 
 def error_of(program: str, *words: str) -> str:
-    """The line that a program ends with; nothing else is said, and no file is written."""
+    """Returns the line that a program ends with; nothing else is said, and no file is written."""
     before = {name: os.stat(name).st_mtime_ns for name in os.listdir()}
     environment = {**os.environ, 'OPENBLAS_NUM_THREADS': '1'}
     done = subprocess.run([*command(program), *words], capture_output=True, text=True, preexec_fn=limit, env=environment)
@@ -39,7 +39,7 @@ def is_error(part: str, program: str, *words: str) -> None:
 
 
 def e57_of(columns: str, parts: list[bytes], stated: int, xml: str = XML) -> bytes:
-    """An E57 of one station of these columns."""
+    """Returns an E57 of one station of these columns."""
     packets = packet(parts)
     section = struct.pack('<B7xQQQ', 1, 32 + len(packets), physical(80), 0) + packets
     text = xml.format(station_xml(physical(48), stated, columns=columns)).encode('ascii')

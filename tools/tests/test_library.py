@@ -25,7 +25,7 @@ def sphere(count: int, seed: int = 1) -> np.ndarray:
 
 
 def nearest(points: np.ndarray) -> np.ndarray:
-    """The scanner that is nearest to each point."""
+    """Returns the scanner that is nearest to each point."""
     return (points @ SCANNERS.T).argmax(axis=1)
 
 

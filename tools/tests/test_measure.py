@@ -19,7 +19,7 @@ CUBE = 'OFF\n8 12 0\n' + ''.join(f'{k & 1} {k >> 1 & 1} {k >> 2}\n' for k in ran
 
 
 def nearest_by_trying(place: list[float], triangle: Sequence[Any], steps: int = 60) -> float:
-    """The distance to the nearest of many places of a triangle."""
+    """Returns the distance to the nearest of many places of a triangle."""
     best = float('inf')
     for i in range(steps + 1):
         for j in range(steps + 1 - i):

@@ -24,7 +24,7 @@ def mesh_program(*words: str) -> Any:
 
 
 def rows_of(text: str) -> tuple[list[tuple[int, ...]], list[tuple[int, ...]]]:
-    """The points and faces of a mesh's text."""
+    """Returns the points and faces of a mesh's text."""
     lines = text.split('end_header\n')[1].splitlines()
     rows = [tuple(map(int, line.split())) for line in lines]
     count = int(text.split('element vertex ')[1].split()[0])
@@ -32,7 +32,7 @@ def rows_of(text: str) -> tuple[list[tuple[int, ...]], list[tuple[int, ...]]]:
 
 
 def edges_of(faces: Sequence[Any]) -> Counter[tuple[int, int]]:
-    """How often each directed edge occurs."""
+    """Returns how often each directed edge occurs."""
     return Counter(pair for a, b, c in faces for pair in ((a, b), (b, c), (c, a)))
 
 
@@ -94,7 +94,7 @@ class MeshProgram(InFolder):
 
 
 def turned(face: Sequence[int]) -> tuple[int, ...]:
-    """The face with its smallest number first."""
+    """Returns the face with its smallest number first."""
     k = min(range(3), key=lambda k: face[k])
     return tuple(face[k:]) + tuple(face[:k])
 

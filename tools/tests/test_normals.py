@@ -11,7 +11,7 @@ NORMALS = 'float x, float y, float z, float nx, float ny, float nz'
 
 
 def scanners_of(name: str) -> Any:
-    """The point rows of a scan, and its scanners."""
+    """Returns the point rows of a scan, and its scanners."""
     text, body = read(name).split('end_header\n')
     count = int(text.split('element vertex ')[1].split()[0])
     rows = body.splitlines()

@@ -43,7 +43,7 @@ COMPRESSED = '\n'.join(['VERSION 0.7', 'FIELDS x y z', 'SIZE 4 4 4', 'TYPE F F F
 
 
 def las(version: int, kind: int, rows: list[bytes], count: None = None, extra: bytes = b'') -> bytes:
-    """A LAS file of the format of the American Society for Photogrammetry."""
+    """Returns a LAS file of the format of the American Society for Photogrammetry."""
     size = 375 if version == 4 else 227
     body = b''.join(rows)
     data = bytearray(size)
@@ -57,7 +57,7 @@ def las(version: int, kind: int, rows: list[bytes], count: None = None, extra: b
 
 
 def paged(data: bytes) -> bytes:
-    """The pages of an E57: 1020 bytes and a checksum each."""
+    """Returns the pages of an E57: 1020 bytes and a checksum each."""
     return b''.join(data[at:at + 1020].ljust(1020, b'\0') + b'\0\0\0\0' for at in range(0, len(data), 1020))
 
 
@@ -92,7 +92,7 @@ def packet(parts: list[bytes]) -> bytes:
 
 
 def e57(count: int, spoil: Callable[..., Any] = lambda text: text) -> bytes:
-    """An E57 of one station whose points stand in two packets that divide bytes anywhere."""
+    """Returns an E57 of one station whose points stand in two packets that divide bytes anywhere."""
     x = struct.pack(f'<{count}f', *range(count))
     y = struct.pack(f'<{count}d', *[k / 4 for k in range(count)])
     z, state, red = bits([k % 1006 for k in range(count)], 10), bits([int(k == 1) for k in range(count)], 2), bytes([7] * count)

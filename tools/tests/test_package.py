@@ -11,7 +11,7 @@ from helpers import DEV, PACKAGE, ROOT, TOOLS, InFolder, equal, write
 
 
 def programs() -> list[str]:
-    """The programs that the package installs."""
+    """Returns the programs that the package installs."""
     with open(os.path.join(TOOLS, 'pyproject.toml'), encoding='utf-8') as file:
         return re.findall(r'^recon-([a-z-]+) = "recon\.([a-z_]+):main"', file.read(), re.MULTILINE)
 

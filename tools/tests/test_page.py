@@ -17,7 +17,7 @@ HOSTILE = '</script></title><script>hit = 1</script><img src=x onerror="hit = 1"
 
 
 def cube(side: float = 1.0) -> tuple[Any, Any]:
-    """A cube with its least corner at 0, each face outward."""
+    """Returns a cube with its least corner at 0, each face outward."""
     corners = np.array([[k & 1, k >> 1 & 1, k >> 2] for k in range(8)], float) * side
     squares = ((0, 2, 3, 1), (4, 5, 7, 6), (0, 1, 5, 4), (2, 6, 7, 3), (0, 4, 6, 2), (1, 3, 7, 5))
     return corners, np.array([(a, b, c) for a, b, c, d in squares for a, b, c in ((a, b, c), (a, c, d))])
@@ -34,7 +34,7 @@ def ground(width: int) -> tuple[Any, Any]:
 
 
 def written(path: str = 'mesh.html', **changed: Any) -> str:
-    """A page of a red cube whose upper half is unseen, and of a smaller cube without colors."""
+    """Returns a page of a red cube whose upper half is unseen, and of a smaller cube without colors."""
     vertices, faces = cube()
     small, _ = cube(0.5)
     red = np.full((8, 3), (255, 0, 0), np.uint8)
@@ -50,7 +50,7 @@ def written(path: str = 'mesh.html', **changed: Any) -> str:
 
 
 def share(picture: Any, test: Any) -> float:
-    """The part of the pixels that pass."""
+    """Returns the part of the pixels that pass."""
     return sum(test(*pixel) for row in picture for pixel in row) / sum(map(len, picture))
 
 

@@ -56,7 +56,7 @@ def law():
 
 
 def found(text: str, users: bool = True) -> list[str]:
-    """The phrases of a text, as the table names them."""
+    """Returns the phrases of a text, as the table names them."""
     return [name for _, _, name, _ in phrases.found_in(phrases.blanked(text), users)]
 
 

@@ -49,7 +49,7 @@ def recon(*words: Any, limit: Any = None) -> Any:
 
 
 def least_memory(*words: Any) -> Any:
-    """The least memory, in steps of 64 KiB, with which a run ends as it does with all of it."""
+    """Returns the least memory, in steps of 64 KiB, with which a run ends as it does with all of it."""
     wanted, low, high = recon(*words), 0, LIMIT // STEP
     equal(recon(*words, limit=LIMIT), wanted)
     while high - low > 1:
@@ -111,7 +111,7 @@ POINTS = b'0 0 0\n100 100 100\t-3.4e1 -33 -33.4\r\n1000 0 +0.'
 
 
 def header(kind: Any, elements: Any) -> Any:
-    """A header of a format with elements and their properties."""
+    """Returns a header of a format with elements and their properties."""
     lines = ['ply', f'format {kind} 1.0']
     for name, count, properties in elements:
         lines += [f'element {name} {count}'] + ['property ' + each for each in properties]
@@ -127,7 +127,7 @@ WHOLE = {'char': 'b', 'uchar': 'B', 'short': 'h', 'ushort': 'H', 'int': 'i', 'ui
 
 
 def scan_of_type(order: Any, kind: Any, scanners: Any) -> Any:
-    """A binary scan of five points and many scanners, with six properties a row and two elements more, all coordinates of one
+    """Returns a binary scan of five points and many scanners, with six properties a row and two elements more, all coordinates of one
     type; negative ones become positive where the type has none."""
     sign = abs if kind.startswith('u') else int
     axes = [f'{kind} {axis}' for axis in 'xyz']
@@ -142,7 +142,7 @@ def scan_of_type(order: Any, kind: Any, scanners: Any) -> Any:
 
 
 def text_of_type(kind: Any, scanners: Any, unit: Any) -> Any:
-    """The same scan as text, in scaled units."""
+    """Returns the same scan as text, in scaled units."""
     sign = abs if kind.startswith('u') else int
     rows = ''.join('%d %d %d %d\n' % (*(unit * sign(c) for c in point), k * 2 % scanners) for k, point in enumerate(COORDINATES))
     places = ''.join('%d %d %d\n' % (unit * 90, unit * 3 * k, unit * 120) for k in range(scanners))
@@ -175,12 +175,12 @@ def stated(file: Any, small: Any, large: Any, words: Any, line: Any) -> None:
 
 
 def scan_of_counts(others: Any = 0, points: Any = 1, scanners: Any = 1) -> Any:
-    """The head of a scan that states these counts, and its first row."""
+    """Returns the head of a scan that states these counts, and its first row."""
     return header('ascii', [('other', others, ['int a']), ('vertex', points, POINT + ['int scanner']), ('scanner', scanners, POINT)]) + b'1 2 3 0\n'
 
 
 def with_items(elements: Any, count: Any) -> Any:
-    """The head of a binary scan of these elements, and a number of items that are not there."""
+    """Returns the head of a binary scan of these elements, and a number of items that are not there."""
     return header('binary_little_endian', elements) + struct.pack('<I', count)
 
 

@@ -73,7 +73,7 @@ SPHERICAL = ''.join(f'<spherical{name} type="Float"/>' for name in ('Range', 'Az
 
 
 def viewed(kind: str, rows: Any = tuple(ROWS)) -> bytes:
-    """A PCD whose points say each where it was seen from."""
+    """Returns a PCD whose points say each where it was seen from."""
     text = VIEWED.format(kind).replace('POINTS 4', f'POINTS {len(rows)}').encode('ascii')
     if kind == 'ascii':
         return text + ''.join(' '.join(map(str, row)) + '\n' for row in rows).encode('ascii')

@@ -24,14 +24,14 @@ def listed(name: str, rows: np.ndarray) -> None:
 
 
 def scan_text(points: np.ndarray, scanners: np.ndarray, seen_by: np.ndarray) -> str:
-    """A scan with colors, as `recon-scan` writes it."""
+    """Returns a scan with colors, as `recon-scan` writes it."""
     text = head(len(points), 'double x, double y, double z, uchar red, uchar green, uchar blue, int scanner', len(scanners))
     rows = [' '.join(map(plain, point)) + f' {k % 256} 7 9 {seen}\n' for k, (point, seen) in enumerate(zip(points.tolist(), seen_by))]
     return text + ''.join(rows) + ''.join(' '.join(map(plain, place)) + '\n' for place in scanners.tolist())
 
 
 def made(*words: str, status: int = 0, out: str = 'mesh.ply') -> Any:
-    """The report of a run that ends with this status."""
+    """Returns the report of a run that ends with this status."""
     got, said, error = call('surface', *words, '-o', out, '--program', RECON)
     equal((got, said, 'Traceback' in error), (status, '', False))
     return json.loads(pathlib.Path(os.path.splitext(out)[0] + '.recon', 'report.json').read_text())

@@ -58,7 +58,7 @@ def is_held(tile: dict[Any, Any], row: Sequence[Any]) -> bool:
 
 
 def are_tiles(folder: str, rows: Sequence[Any], limit: int) -> list[Any]:
-    """Each tile has exactly the rows in its box and some from outside, no more than the limit; each place is of one core."""
+    """Returns whether each tile has exactly the rows in its box and some from outside, no more than the limit; each place is of one core."""
     about, tiles = tiles_of(folder)
     placed = [tuple(map(str, row[:3] + PLACES[row[3]] + row[4:])) for row in rows]
     handed = set(read(os.path.join(folder, 'handed.txt')).splitlines())
@@ -78,7 +78,7 @@ def exact(words: Sequence[Any]) -> list[str]:
 
 
 def listed(folder: str, tile: dict[Any, Any]) -> list[Any]:
-    """The rows of a tile with lists: point, weight, and the places of its scanners."""
+    """Returns the rows of a tile with lists: point, weight, and the places of its scanners."""
     text = read(os.path.join(folder, tile['name'] + '.ply'))
     lines = [line.split() for line in text.split('end_header\n')[1].splitlines()]
     rows, places = lines[:tile['points']], lines[tile['points']:]
@@ -177,14 +177,14 @@ def names() -> list[str]:
 
 
 def calls() -> list[str]:
-    """What the stand-in was asked for since the last time, sorted."""
+    """Returns what the stand-in was asked for since the last time, sorted."""
     found = sorted(read('tiles/calls').splitlines()) if os.path.exists('tiles/calls') else []
     write('tiles/calls', '')
     return found
 
 
 def faces_of(name: str) -> list[Any]:
-    """The faces of a mesh as places, the smallest number first."""
+    """Returns the faces of a mesh as places, the smallest number first."""
     text = read(name).split('end_header\n')
     rows = [tuple(map(int, line.split())) for line in text[1].splitlines()]
     count = int(text[0].split('element vertex ')[1].split()[0])
@@ -199,7 +199,7 @@ def turned(faces: Sequence[Any]) -> list[Any]:
 
 
 def edges_of(faces: Sequence[Any]) -> dict[Any, Any]:
-    """How often each edge is there one way and the other."""
+    """Returns how often each edge is there one way and the other."""
     counts = {}
     for face in faces:
         for start, end in zip(face, face[1:] + face[:1]):

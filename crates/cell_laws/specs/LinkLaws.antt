@@ -63,7 +63,7 @@ pub record AreAllCells (v : Vertices) (live : List ℕ) (cell : ℕ → Tetrahed
 abbrev pub six_names : List ℕ
 six_names = 0 ∷ 1 ∷ 2 ∷ 3 ∷ 4 ∷ 5 ∷ []
 
--- one tetrahedron at corner 0, one at corner 7, and between them four round the diagonal from 3 to 4; all written positively
+-- one tetrahedron at corner 0, one at corner 7, and between them four round the diagonal from 3 to 4; all positively oriented
 abbrev pub six_cell : ℕ → Tetrahedron
 six_cell zero = tetrahedron 0 1 2 4
 six_cell (suc zero) = tetrahedron 1 2 4 3

@@ -1,6 +1,6 @@
--- The sign of a power by the tie rule is settled, and does not depend on the exponent.
+-- The sign of a power under symbolic perturbation is never zero and does not depend on the exponent.
 --
---   IsFifth v t u     four vertices written positively, and a fifth that is none of them
+--   IsFifth v t u     four vertices positively oriented, and a fifth that is none of them
 --   IsSettled v t u   its power is not zero, and has one sign at the heights of every exponent above the five numbers
 --   TieLaw            the power of each such vertex is settled
 use Rattle.std.specs.Prelude.{ℕ, ◌<◌, ◌≡◌, ◌≢◌, ℤ, pos, ◌<ℤ◌}

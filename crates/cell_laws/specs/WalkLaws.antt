@@ -3,7 +3,7 @@
 --
 --   StepLaw       a walk over linked cells to a place of the box goes on, and ends
 --   NearLaw       the places of walks are in the box, and how the sign of a side of theirs is found
---   SpreadLaw     a displaced scanner is in the plane of no three points but those on one line
+--   SpreadLaw     a perturbed scanner is in the plane of no three points but those on one line
 --   ScannerLaw    each scanner has one cell
 --   VertexSightLaw   each sight has one cell towards its scanner, and one behind
 --   SightLaw      a cell on a sight is left through one facet, or is the scanner's
@@ -44,7 +44,7 @@ StepLaw =
     AreLinked v live cell next → AreCells v live cell → (q : RationalPoint) → IsInBox q → IsWalk v live cell next q
 
 -- ---- places near a data point
--- p is moved a little towards the displaced scanner, or away from it: the side of any facet on which it then lies is the one on
+-- p is moved a little towards the perturbed scanner, or away from it: the side of any facet on which it then lies is the one on
 -- which p lies, and where p is in the facet's plane the scanner's, or the one opposite to the scanner's
 pub record AreNear (p s : Point) : Type 0 where
   pub towards_in_box : IsInBox (towards_place p s)

@@ -1,37 +1,37 @@
-//! Laws of one vertex more (Bowyer 1981 and Watson 1981): the cells in conflict with it are taken out, and over each facet at their
-//! rim, the fan, there is a cell with it as apex. They suppose vertices of the box and a data point that is not in yet (`IsNew`).
+//! Theorems on the insertion of a vertex (Bowyer 1981 and Watson 1981): the cells in conflict with it are removed, and each facet on the
+//! boundary of the conflict region gets a cell with the vertex as apex. They suppose vertices of the box and a data point that is not in
+//! yet (`IsNew`).
 
 ghost use Rattle.cell_laws.specs.InsertionLaws.{FanLaw, StayLaw, VertexLaw, FloodLaw, EdgeLaw};
 
-/// The new cells are those over the fan: four vertices with the new one as apex are a cell exactly where the other three are a facet
-/// of the fan. The new vertex is before each of these facets, each directed edge stands in one of them, and its reverse too. There is
-/// one where any cell is in conflict.
-/// It is for whoever inserts a vertex: these are the cells to make.
+/// States which cells are new: four vertices with the new one as apex are a cell exactly if the other three are a facet on the boundary of
+/// the conflict region. The new vertex is on the positive side of each of these facets, each directed edge occurs in one of them, and its
+/// reverse too. If any cell is in conflict, there is such a facet.
 pub fn fan_law()
     ensures { FanLaw }
 {}
 
-/// Four vertices without the new one are a cell exactly where they were one and the new vertex is not in conflict with them.
-/// It is for whoever inserts a vertex: these are the cells to leave.
+/// States which cells stay: four vertices without the new one are a cell exactly if they were one and the new vertex is not in conflict
+/// with them.
 pub fn stay_law()
     ensures { StayLaw }
 {}
 
-/// No vertex is lost: each is in a facet of the fan, or in a cell that stays.
-/// It is for whoever keeps a cell for each vertex.
+/// States that no vertex is lost: each is in a facet on the boundary of the conflict region, or in a cell that stays. So a store can keep
+/// an incident cell for each vertex.
 pub fn vertex_law()
     ensures { VertexLaw }
 {}
 
-/// The cells in conflict are joined: some of them that no step across a facet to another in conflict leaves are all of them. Else the
-/// highest of these and the highest of the others over a place near the new vertex would both hold that place.
-/// It is for whoever collects the cells in conflict from one of them on.
+/// States that the cells in conflict are connected: a set of them that no step between adjacent cells in conflict leaves is all of them.
+/// Otherwise the highest of these and the highest of the others over a place near the new vertex would both contain that place. So a
+/// search from one cell in conflict finds all.
 pub fn flood_law()
     ensures { FloodLaw }
 {}
 
-/// In a list of the fan's facets, each once, each directed edge stands in one facet, and its reverse in one.
-/// It is for whoever joins new cells by their edges: each has one partner.
+/// States that in a list of the boundary's facets, each once, each directed edge occurs in one facet, and its reverse in one. So each edge
+/// joins two new cells.
 pub fn edge_law()
     ensures { EdgeLaw }
 {}

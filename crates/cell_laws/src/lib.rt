@@ -1,19 +1,20 @@
-//! Laws of one Delaunay tetrahedrization under the tie rule: what insertion, walks and sights need from geometry, for any store.
+//! Theorems on one Delaunay tetrahedralization under symbolic perturbation: what insertion, walks and lines of sight need from geometry,
+//! for any store of cells.
 //!
-//! The crate does no work when a program runs. Each function is a law by its contract, with an empty body, and the proofs of other
-//! crates cite it. All laws stand on one record of hypotheses, `IsBoxed`: the corners of the box are in their places and in, the
-//! other vertices are distinct data points, of which any may be in, and all have the heights of the tie rule. Cells are four
-//! vertices by the empty-sphere definition, and never what some program has made.
+//! The crate does no work at run time. Each function is a theorem: its contract is the statement and its body is empty, and proofs of
+//! other crates cite it. All theorems suppose one record of hypotheses, `IsBoxed`: the corners of the box are in place and in, the other
+//! vertices are distinct data points, any of which may be in, and all have the heights of the perturbation. Cells are four vertices by the
+//! empty-sphere definition, and never what some program has made.
 //!
-//! | File | Laws |
+//! | File | Theorems |
 //! |---|---|
-//! | `cells` | cells cover the box, do not overlap, meet in facets, and are joined; the sign of a power is settled |
-//! | `insertion` | one vertex more: which cells go, which come, and that the fan is closed |
+//! | `cells` | cells cover the box, do not overlap and meet in facets; the sign of a power |
+//! | `insertion` | one more vertex: which cells go, which come, and that the boundary of the conflict region is closed |
 //! | `links` | linked cells: a list of names, the vertices of each, and its neighbor at each side; closed facets between labels |
 //! | `walks` | walks to a place end; one cell is a scanner's, one towards it, one behind a sight; what a sight crosses, in order |
 //! | `stores` | the points, names and rows of a store |
 //!
-//! The crate stands on `geo_sign` alone.
+//! The crate depends on `geo_sign` alone.
 #![tactic(auto)]
 
 mod cells;

@@ -1,27 +1,25 @@
-//! Laws for stores of cells: the vertices that a store's points are, and its cells as rows of numbers.
+//! Theorems for stores of cells: which vertices a store's points are, and its cells as sorted vertex tuples.
 
 ghost use Rattle.cell_laws.specs.RowLaws.{ListLaw};
 ghost use Rattle.cell_laws.specs.StoredLaws.{AllLaw, StoredLaw, RowLaw};
 
-/// The corners of the box and distinct data points, all in, are vertices of the box: what the other laws suppose.
+/// States that the corners of the box and distinct data points, all in, are vertices of the box, as the other theorems suppose.
 pub fn all_law()
     ensures { AllLaw }
 {}
 
-/// The corners and points of which those with a flag are in are vertices of the box. One flag more is one vertex more, and with all
-/// flags set the cells are those of all vertices.
-/// It is for whoever speaks of a store's points and flags as of vertices of the box.
+/// States that the corners and points, of which those with a flag are in, are vertices of the box. One more flag is one more vertex, and
+/// with all flags set the cells are those of all vertices.
 pub fn stored_law()
     ensures { StoredLaw }
 {}
 
-/// Each of the names that stand for all cells has one row of rising numbers, each row of a cell is that of one name.
-/// It is for whoever sorts or prints the cells of a store.
+/// States that each name of a list of all cells has one sorted vertex tuple, and that each tuple of a cell is that of one name.
 pub fn row_law()
     ensures { RowLaw }
 {}
 
-/// The rows of the list of all cells stand for all cells, each row for one. So what is said of cells by names is said of rows.
+/// States that the rows of the list of all cells are all cells, each once. So what holds of cells by name holds of rows.
 pub fn list_law()
     ensures { ListLaw }
 {}

@@ -5,7 +5,7 @@
 //! without a cell stands for a fixed node without arcs on which anything can flow, and so do sides on walls and towards fixed cells
 //! for arcs. That these numbers decide nothing is a law of `flow_net`, and what the others stand for is one of `vote_net`.
 //!
-//! The crate stands on `tetra_store` (linked cells) and `flow_net` (networks by numbers).
+//! The crate depends on `tetra_store` (linked cells) and `flow_net` (networks by numbers).
 #![tactic(auto)]
 
 mod counts;

@@ -1,4 +1,4 @@
-//! Nodes at which a flow is not balanced. It stands on the totals of `flow_valid`.
+//! Nodes at which a flow is not balanced. It depends on the totals of `flow_valid`.
 
 ghost use Rattle.std.specs.Prelude.{◌≡◌, length, IfSome, IfNone};
 ghost use Rattle.flow_net.specs.Flows.{amount_in};

@@ -1,4 +1,4 @@
-//! The check of labels and a flow. It stands on the searches for each kind of fault, and on `max_flow`.
+//! The check of labels and a flow. It depends on the searches for each kind of fault, and on `max_flow`.
 
 ghost use Rattle.std.specs.Prelude.{◌≡◌, ◌↔◌, length, IfOk, IfSome, IfNone};
 ghost use Rattle.flow_net.specs.Flows.{IsValidFlow, IsLeastInside, value_of, cost_of};
@@ -48,7 +48,7 @@ fn not_least(
 ///
 /// There is one label and one amount a node, and one amount an arc. The faults are tried in the order of the variants of
 /// [`Verdict`], and the first is answered, at its smallest node or arc. `Yes` comes exactly where the flow is valid, its
-/// value is the cost of the labels, and these are the least-inside ones. The only error is want of memory.
+/// value is the cost of the labels, and these are the least-inside ones. The only error is out of memory.
 pub fn check_flow(
     alloc: Global,
     net: &Net,

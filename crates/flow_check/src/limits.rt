@@ -1,4 +1,4 @@
-//! Fixed nodes that are inside, and amounts over their limits. It stands on `flow_net` alone.
+//! Fixed nodes that are inside, and amounts over their limits. It depends on `flow_net` alone.
 
 ghost use Rattle.std.specs.Prelude.{◌≡◌, length, IfSome, IfNone};
 ghost use Rattle.flow_net.specs.Firsts.{IsFirst, NoneBelow};

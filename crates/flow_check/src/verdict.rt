@@ -1,4 +1,4 @@
-//! The answers of a check of labels and a flow. It stands on nothing else.
+//! The answers of a check of labels and a flow. It depends on nothing else.
 
 /// What a check of labels and a flow finds: the first fault in the order of the variants, at its smallest node or arc.
 #[derive(Clone, Copy, Debug, PartialEq, Eq)]

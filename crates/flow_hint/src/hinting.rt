@@ -20,7 +20,7 @@ use watch::{Silent, Watch};
 pub struct Hint {
     /// An amount for each arc, and an amount for each node.
     pub flow: Flow,
-    /// The nodes from which a sink with residual capacity can be reached. Returned amounts flow only between other nodes, so no
+    /// The nodes from which a sink with residual capacity can be reached. Amounts that go back flow only between other nodes, so no
     /// level changes.
     pub levels: Levels,
 }
@@ -138,7 +138,7 @@ fn settled_and_kept<N: FlowNetwork>(
 }
 
 /// Returns a hint at a maximum flow, or `None` if there is none: the capacities sum to more than 2^62, or there are no arcs
-/// between free nodes, or more arcs than fit in 32 bits, or returning the excess took too long.
+/// between free nodes, or more arcs than fit in 32 bits, or sending the excess back took too long.
 ///
 /// Run time is not specified; on the networks of scans it is about linear in the network. Beside its result it takes 8 bytes an
 /// arc, or 12 if capacities are large, 4 more if the arcs of a node are not adjacent in the network, and at most 48 a node.

@@ -17,7 +17,7 @@ use watch::{Watch, tell};
 pub enum Start {
     /// Every arc full, which usually is near the maximum.
     Full,
-    /// Every arc between free nodes empty, which leaves less to return.
+    /// Every arc between free nodes empty, which leaves less to send back.
     Plain,
 }
 

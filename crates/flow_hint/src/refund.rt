@@ -1,4 +1,4 @@
-//! Returns amounts that have reached no sink to the fixed nodes. Depends on preflows.
+//! Sends amounts that have reached no sink back to the fixed nodes. Depends on preflows.
 
 ghost use Rattle.std.specs.Prelude.{◌≡◌, ◌<◌, length, IfOk};
 
@@ -9,7 +9,7 @@ use flow_net::{Flow, FlowNetwork, Sequence};
 use std::alloc::Global;
 
 impl<'a, N: FlowNetwork> Preflow<'a, N> {
-    /// Returns the excess of each node to the adjacent fixed nodes, as far as it came from there.
+    /// Sends the excess of each node back to the adjacent fixed nodes, as far as it came from there.
     pub fn give_beside(&mut self)
         ensures { self.new.wiring ≡ self.old.wiring }
     {
@@ -20,7 +20,7 @@ impl<'a, N: FlowNetwork> Preflow<'a, N> {
         }
     }
 
-    /// Returns whether nothing is left to return.
+    /// Returns whether nothing is left to send back.
     pub fn is_settled(&self) -> bool {
         self.excess.iter().all(|amount| *amount == 0)
     }
@@ -38,7 +38,7 @@ impl<'a, N: FlowNetwork> Preflow<'a, N> {
         room.saturating_sub(self.wiring.cap(arc))
     }
 
-    /// Adds an amount to a node, and returns it to fixed nodes as far as it came from there.
+    /// Adds an amount to a node, and sends it back to fixed nodes as far as it came from there.
     pub fn return_to(&mut self, node: usize, amount: u64)
         requires { node < self.old.wiring.nodes }
         ensures { self.new.wiring ≡ self.old.wiring }

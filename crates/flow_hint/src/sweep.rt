@@ -1,7 +1,7 @@
-//! One sweep that returns excess along the arcs on which it came. Depends on `refund`.
+//! One sweep that sends excess back along the arcs on which it came. Depends on `refund`.
 //!
-//! A depth-first search lists the nodes, each after those to which it can return flow, except for cycles. In reverse order each
-//! node returns its excess, so that everything that can be returned to a node is there before its turn.
+//! A depth-first search lists the nodes, each after those to which it can send flow back, except for cycles. In reverse order each
+//! node sends its excess back, so that everything that can come back to a node is there before its turn.
 
 ghost use Rattle.std.specs.Prelude.{◌≡◌, ◌<◌, length, slice_index, EachIndex, IfOk};
 
@@ -10,10 +10,10 @@ use crate::preflow::Preflow;
 use flow_net::FlowNetwork;
 use std::alloc::Global;
 
-/// The cursor of a node that has returned its excess, and the end of the stack of the search.
+/// The cursor of a node that has sent its excess back, and the end of the stack of the search.
 const NONE: u32 = u32::MAX;
 
-/// Amounts, and a depth-first search along arcs on which flow can be returned.
+/// Amounts, and a depth-first search along arcs on which flow can go back.
 #[derive(Debug, Drop)]
 pub struct Sweep<'a, N: FlowNetwork> {
     /// The amounts.
@@ -125,7 +125,7 @@ impl<'a, N: FlowNetwork> Sweep<'a, N> {
         }
     }
 
-    /// Returns an amount from a node to those that have not had their turn, and returns the rest.
+    /// Sends an amount from a node back to those that have not had their turn, and returns the rest.
     fn hand_on(&mut self, node: usize, amount: u64) -> u64
         requires { node < self.old.preflow.wiring.nodes }
         ensures { self.new.preflow.wiring ≡ self.old.preflow.wiring }
@@ -148,7 +148,7 @@ impl<'a, N: FlowNetwork> Sweep<'a, N> {
         left
     }
 
-    /// Returns the excess of a node.
+    /// Sends the excess of a node back.
     fn give(&mut self, node: usize)
         requires { node < self.old.preflow.wiring.nodes }
         ensures { self.new.preflow.wiring ≡ self.old.preflow.wiring }
@@ -160,7 +160,7 @@ impl<'a, N: FlowNetwork> Sweep<'a, N> {
         preflow.excess[node] = left;
     }
 
-    /// Returns as much as possible in one sweep.
+    /// Sends back as much as possible in one sweep.
     pub fn run(&mut self)
         ensures { self.new.preflow.wiring ≡ self.old.preflow.wiring }
     {

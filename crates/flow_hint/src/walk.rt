@@ -1,6 +1,6 @@
-//! Walks that return the excess of one node after the other along the arcs on which it came. Depends on `refund`.
+//! Walks that send the excess of one node after the other back along the arcs on which it came. Depends on `refund`.
 //!
-//! A walk goes on from a node along an arc on which flow can be returned, until it reaches a node next to fixed ones that take
+//! A walk goes on from a node along an arc on which flow can go back, until it reaches a node next to fixed ones that take
 //! it. If it reaches a node of its path again, the flow around that cycle is cancelled. The work is bounded by fuel.
 
 ghost use Rattle.std.specs.Prelude.{◌≡◌, ◌+◌, ◌<◌, ◌≤◌, length, slice_index, EachIndex, IfOk, IfSome};
@@ -16,7 +16,7 @@ const NONE: u32 = u32::MAX;
 /// The number of steps allowed for each arc.
 const FUEL: usize = 6;
 
-/// Amounts, and a path along arcs on which flow can be returned.
+/// Amounts, and a path along arcs on which flow can go back.
 #[derive(Debug, Drop)]
 pub struct Walk<'a, N: FlowNetwork> {
     /// The amounts.
@@ -115,7 +115,7 @@ impl<'a, N: FlowNetwork> Walk<'a, N> {
         self.steps = self.steps.min(place);
     }
 
-    /// Returns the next arc of a node along which flow can be returned.
+    /// Returns the next arc of a node along which flow can go back.
     fn next_arc(&mut self, node: usize) -> Option<usize>
         requires { node < self.old.preflow.wiring.nodes }
         ensures preflow { self.new.preflow ≡ self.old.preflow }
@@ -173,7 +173,7 @@ impl<'a, N: FlowNetwork> Walk<'a, N> {
         true
     }
 
-    /// Returns the maximal amount along the path from a node with excess to a node next to fixed ones.
+    /// Sends back the maximal amount along the path from a node with excess to a node next to fixed ones.
     fn pay(&mut self, start: usize, end: usize)
         requires start { start < self.old.preflow.wiring.nodes }
         requires end { end < self.old.preflow.wiring.nodes }
@@ -188,7 +188,7 @@ impl<'a, N: FlowNetwork> Walk<'a, N> {
         self.cut_to(cut);
     }
 
-    /// Returns the excess of a node, as far as the fuel goes.
+    /// Sends the excess of a node back, as far as the fuel goes.
     fn walk_from(&mut self, start: usize)
         requires { start < self.old.preflow.wiring.nodes }
         ensures { self.new.preflow.wiring ≡ self.old.preflow.wiring }
@@ -210,7 +210,7 @@ impl<'a, N: FlowNetwork> Walk<'a, N> {
         self.depth[start] = NONE;
     }
 
-    /// Returns the excess of each node.
+    /// Sends the excess of each node back.
     pub fn run(&mut self)
         ensures { self.new.preflow.wiring ≡ self.old.preflow.wiring }
     {

@@ -1,4 +1,4 @@
-//! A network made node by node and join by join, with its arcs valid at each step. It stands on the types at the head of
+//! A network made node by node and join by join, with its arcs valid at each step. It depends on the types at the head of
 //! the crate.
 
 ghost use Rattle.std.specs.Prelude.{◌≡◌, ◌<◌, ◌≤◌, length, true, false, IfOk, IfErr, OnOk, OnErr};

@@ -1,4 +1,4 @@
-//! The list of a network's arcs. It stands on `Arc`.
+//! The list of a network's arcs. It depends on `Arc`.
 //!
 //! The network of a million points has 24 million arcs, so each is kept in 16 bytes as long as its numbers fit in 32 bits.
 

@@ -1,5 +1,5 @@
 //! What holds between the costs of labels and the values of flows in every network, as contracts of calls that do
-//! nothing. It stands on the definitions alone.
+//! nothing. It depends on the definitions alone.
 
 ghost use Rattle.flow_net.specs.Laws.{ValueIsAtMostCost, EqualIsBest};
 

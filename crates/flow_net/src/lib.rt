@@ -1,7 +1,7 @@
 //! Networks of nodes and arcs with a sink at each node, labels that cut them, and flows through them.
 //!
 //! The labelling of cells as inside or outside by minimum cut, as in Labatut, Pons and Keriven (2007 and 2009): each
-//! cell is a node, and each directed facet towards a free cell is an arc. The crate stands on the standard library
+//! cell is a node, and each directed facet towards a free cell is an arc. The crate depends on the standard library
 //! and `thiserror` alone, and knows nothing of geometry.
 //!
 //! This file holds the types. `lists` and `compact` hold the lists that stand in their fields, `network` says what a network by

@@ -1,4 +1,4 @@
-//! The list that stands in the fields of networks, labels and flows. It stands on `Vec`.
+//! The list that stands in the fields of networks, labels and flows. It depends on `Vec`.
 
 ghost use Rattle.std.specs.Prelude.{◌≡◌, ◌<◌, length, slice_set};
 

@@ -1,4 +1,4 @@
-//! Networks by numbers, as the calls that look for flows and labels see them. It stands on `Net` alone.
+//! Networks by numbers, as the calls that look for flows and labels see them. It depends on `Net` alone.
 
 ghost use Rattle.std.specs.Prelude.{ℕ, ◌≡◌, ◌<◌, ◌≤◌, ◌^◌, ◌↔◌, Bool, true, IfSome, IsSome, is_some};
 ghost use Rattle.flow_net.specs.Numbered.{NumberedNetwork};

@@ -1,4 +1,4 @@
-//! The cost of labels and the value of a flow. It stands on the types at the head of the crate and on networks by numbers.
+//! The cost of labels and the value of a flow. It depends on the types at the head of the crate and on networks by numbers.
 //!
 //! A list has fewer than 2^64 elements, a capacity or a sink is at most 2^60, and an amount is below 2^64. So a cost is
 //! at most 2^125 and a value below 2^128, and neither sum wraps.

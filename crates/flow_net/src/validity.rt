@@ -1,4 +1,4 @@
-//! The test whether parts make a valid network. It stands on `Arc` alone.
+//! The test whether parts make a valid network. It depends on `Arc` alone.
 
 ghost use Rattle.std.specs.Prelude.{◌↔◌, ◌≤◌, ◌^◌, IsTrue, slice_index, EachIndex};
 ghost use Rattle.flow_net.specs.Nets.{AreValidArcs, IsReverseArc, IsValidArc, IsValidNet};

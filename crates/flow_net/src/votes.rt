@@ -1,4 +1,4 @@
-//! What cells are voted on by: the settings and the sights. It stands on nothing else.
+//! What cells are voted on by: the settings and the sights. It depends on nothing else.
 
 ghost use Rattle.std.specs.Prelude.{◌≡◌, ◌≤◌, ◌↔◌, IsSome, IsTrue, IfSome};
 ghost use Rattle.flow_net.specs.Weights.{IsSightList, IsWeighed};

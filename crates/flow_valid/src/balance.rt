@@ -1,4 +1,4 @@
-//! What enters and what leaves each node over arcs. It stands on `flow_net` alone.
+//! What enters and what leaves each node over arcs. It depends on `flow_net` alone.
 //!
 //! Fewer than 2^64 amounts, each below 2^64, are added up, so no sum of 128 bits wraps.
 

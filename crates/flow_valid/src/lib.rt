@@ -1,7 +1,7 @@
 //! Tests whether amounts on the arcs and at the sinks of a network are a valid flow.
 //!
 //! `balance` adds up what enters and leaves each node, which a check that names a fault takes too, and `testing` puts the
-//! tests together. The crate stands on `flow_net` alone.
+//! tests together. The crate depends on `flow_net` alone.
 #![tactic(auto)]
 
 mod balance;

@@ -1,4 +1,4 @@
-//! The test of a flow. It stands on totals.
+//! The test of a flow. It depends on totals.
 
 ghost use Rattle.std.specs.Prelude.{◌≡◌, ◌↔◌, length, IfOk, IsTrue};
 ghost use Rattle.flow_net.specs.NumberedFlows.{IsValidFlow};

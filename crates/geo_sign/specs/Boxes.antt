@@ -1,8 +1,8 @@
 -- Vertices of the box, of which some are in, and one vertex more.
 --
 --   inserted_vertices points flags   the box's corners and these points; those with a flag are in
---   IsTied v                         all have the heights of the tie rule
---   IsBoxed v                        the box's corners and data points, with the heights of the tie rule
+--   IsTied v                         all have the heights of the symbolic perturbation
+--   IsBoxed v                        the box's corners and data points, with the heights of the symbolic perturbation
 --   with_vertex v p                  the same vertices, and p is in too
 --   IsNew v p                        p is a data point that is not in yet
 --   IsInConflict v p t               p is in conflict with t
@@ -24,12 +24,12 @@ inserted_vertices points flags =
       is_in = λ u. get_or flags u false;
     }
 
--- each height is that of the tie rule
+-- each height is that of the symbolic perturbation
 abbrev pub IsTied : Vertices → Type 0
 IsTied v = (u : ℕ) → v.high u ≡ height v.count u (v.at u)
 
 -- The corners are vertices 0 to 7 and are in, the other vertices are data points, no two are at one point, and all have
--- the heights of the tie rule. Which of the data points are in is left open.
+-- the heights of the symbolic perturbation. Which of the data points are in is left open.
 pub record IsBoxed (v : Vertices) : Type 0 where
   pub corner_in : (k : ℕ) → k < CORNERS → Has v k
   pub corner_at : (k : ℕ) → k < CORNERS → v.at k ≡ corner_point k

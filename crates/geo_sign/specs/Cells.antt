@@ -1,16 +1,16 @@
--- The cells: Delaunay tetrahedra by the empty-sphere definition under the tie rule.
+-- The cells: Delaunay tetrahedra by the empty-sphere definition under symbolic perturbation.
 --
---   IsCell vertices a b c d        four vertices written positively with which none that is in is in conflict
+--   IsCell vertices a b c d        four vertices positively oriented with which none that is in is in conflict
 --   FormCell vertices a b c d      the four are a cell, in this order or with the last two exchanged
 --   IsCellList vertices rows       the list of all cells, numbers rising in each, the cells rising
---   written vertices row           a cell's four rising numbers in an order in which it is positive
+--   written vertices row           a cell's four ascending numbers in an order in which it is positive
 use Rattle.std.specs.Prelude.{ℕ, ◌<◌, ◌⊎◌, pos, ◌<ℤ◌, ◌≤ℤ◌, int_lt, List, [], ◌∷◌, slice_index, AllPairs, Contains}
 use Rattle.std.specs.Prelude.{if◌then◌else◌}
 use Rattle.geo_sign.specs.Rising.{IsBefore}
 use Rattle.geo_sign.specs.Tetrahedron.{Tetrahedron, tetrahedron}
 use Rattle.geo_sign.specs.Vertices.{Vertices, Has, orientation_of, power_of}
 
--- Four vertices that are in, written positively, such that no vertex that is in has a negative power at them. Their own
+-- Four vertices that are in, positively oriented, such that no vertex that is in has a negative power at them. Their own
 -- powers are zero.
 pub record IsCell (v : Vertices) (a b c d : ℕ) : Type 0 where
   pub has_a : Has v a
@@ -29,7 +29,7 @@ abbrev pub IsRisingCell : Vertices → List ℕ → Type 0
 IsRisingCell v (a ∷ b ∷ c ∷ d ∷ []) = (a < b) × (b < c) × (c < d) × FormCell v a b c d
 IsRisingCell v _ = ⊥
 
--- the list of all cells: each once, its numbers rising, in rising order
+-- the list of all cells: each once, its numbers rising, in ascending order
 pub record IsCellList (v : Vertices) (rows : List (List ℕ)) : Type 0 where
   pub rising : AllPairs IsBefore rows
   pub cells : (row : List ℕ) → Contains rows row → IsRisingCell v row

@@ -4,7 +4,7 @@
 --   mix i p j s             i times p and j times s
 --   near t p s              the place between p and s at which p weighs t times as much
 --   reversed q              q turned round: its side of each facet is the opposite
---   weight                  so much that no side of a displaced scanner counts as much as a whole place's
+--   weight                  so much that no side of a perturbed scanner counts as much as a whole place's
 --   towards_place p s       the place near p on the way to the scanner at s
 --   behind_place p s        the place near p on the way from it
 use Rattle.std.specs.Prelude.{ℕ, ℤ, pos, neg_ℤ, ◌^◌, ◌+ℤ◌, ◌*ℤ◌}
@@ -27,7 +27,7 @@ near t p s = mix (pos t) p (pos 1) s
 abbrev pub reversed : RationalPoint → RationalPoint
 reversed q = record { at = point (neg_ℤ q.at.x) (neg_ℤ q.at.y) (neg_ℤ q.at.z); over = neg_ℤ q.over }
 
--- above the side of any displaced scanner
+-- above the side of any perturbed scanner
 abbrev pub weight : ℕ
 weight = 2 ^ 270
 

@@ -1,4 +1,4 @@
--- Places: points with rational coordinates, in the box and in cells. A displaced scanner is one.
+-- Places: points with rational coordinates, in the box and in cells. A perturbed scanner is one.
 --
 --   IsInBox q                q is a place of the box
 --   IsLyingIn v t q          q is on the outer side of no facet of t

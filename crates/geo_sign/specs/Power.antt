@@ -13,6 +13,6 @@ power a b c d p ha hb hc hd hp =
     orientation a b c d *ℤ hp
     -ℤ (ha *ℤ orientation p b c d +ℤ hb *ℤ orientation a p c d +ℤ hc *ℤ orientation a b p d +ℤ hd *ℤ orientation a b c p)
 
--- For four points written positively: negative where p is inside the sphere through them, zero where it is on it.
+-- For four points positively oriented: negative where p is inside the sphere through them, zero where it is on it.
 abbrev pub plain_power : (a b c d p : Point) → ℤ
 plain_power a b c d p = power a b c d p (square a) (square b) (square c) (square d) (square p)

@@ -1,4 +1,4 @@
--- Rows of numbers in rising order, compared number by number.
+-- Rows of numbers in ascending order, compared number by number.
 --
 --   IsBefore xs ys           xs is smaller where the two differ first
 --   AllPairs IsBefore xss    (of std) the rows rise strictly

@@ -3,7 +3,7 @@
 --
 --   IsRowOf t row        the row's numbers rise, and are those of t, in an even order or with the last two exchanged
 --   IsOneRow t row       a row of t, and no other list is one
---   IsPositive v t       t is written positively
+--   IsPositive v t       t is positively oriented
 --   IsFirstLeast f       the facet's smallest number comes first
 --   RowsExist            a positive tetrahedron has one row
 --   RowsAreWritten       what `written` makes of the row is t written anew
@@ -28,7 +28,7 @@ pub record IsOneRow (t : Tetrahedron) (row : List ℕ) : Type 0 where
   pub is : IsRowOf t row
   pub one : (other : List ℕ) → IsRowOf t other → other ≡ row
 
--- written positively
+-- positively oriented
 abbrev pub IsPositive : Vertices → Tetrahedron → Type 0
 IsPositive v t = pos 0 <ℤ orientation_of v t.a t.b t.c t.d
 

@@ -1,9 +1,9 @@
 -- Lines of sight through the cells (Labatut, Pons and Keriven 2007). A sight goes from a vertex p to a place s, its
--- displaced scanner.
+-- perturbed scanner.
 --
 --   side_of v f s              the side of the directed facet f on which s lies
 --   is_crossed v p s f         the sight crosses the directed facet
---   is_behind v p s t          the cell t, written positively, is behind the sight's vertex
+--   is_behind v p s t          the cell t, positively oriented, is behind the sight's vertex
 --   is_towards v p s t         it is at the vertex, towards the scanner
 --   is_cell_of v s t           it is the cell in which the scanner lies
 use Rattle.std.specs.Prelude.{ℕ, ◌==◌, ◌&&◌, ◌||◌, Bool, ℤ, pos, int_lt}

@@ -37,7 +37,7 @@ vertex_of t (suc zero) = t.b
 vertex_of t (suc (suc zero)) = t.c
 vertex_of t (suc (suc (suc k))) = t.d
 
--- the directed facet opposite to vertex k, from which that vertex is on the positive side if t is written positively
+-- the directed facet opposite to vertex k, from which that vertex is on the positive side if t is positively oriented
 abbrev pub facet_of : Tetrahedron → ℕ → DirectedFacet
 facet_of t zero = facet t.b t.d t.c
 facet_of t (suc zero) = facet t.a t.c t.d

@@ -1,4 +1,4 @@
--- The written tie rule: each vertex is lifted by its number too, so that no five vertices lie on one sphere.
+-- The written symbolic perturbation: each vertex is lifted by its number too, so that no five vertices lie on one sphere.
 --
 --   height n i p                the height of vertex i at p among fewer than n vertices
 --   tied_power n a b c d p      the power of five numbered points at these heights

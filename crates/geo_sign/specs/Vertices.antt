@@ -5,7 +5,7 @@
 --   orientation_of, power_of    orientation and power of vertices by their numbers
 --   AreOnWall at f              three corners that agree in one coordinate
 --   IsWall vertices f           a facet on a wall of the box
---   boxed_vertices points       the box's corners and these points, all in, with the heights of the tie rule
+--   boxed_vertices points       the box's corners and these points, all in, with the heights of the symbolic perturbation
 use Rattle.std.specs.Prelude.{ℕ, ◌<◌, ◌≡◌, ◌⊎◌, ◌+◌, Bool, true, ℤ, List, [], ◌∷◌, ◌++◌, length, get_or}
 use Rattle.geo_sign.specs.declared.point.TheConstants.{CORNERS}
 use Rattle.geo_sign.specs.Point.{Point, origin, corner_point}

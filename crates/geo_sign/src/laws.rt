@@ -1,4 +1,4 @@
-//! Laws over the definitions, as the contracts of calls that do nothing.
+//! Theorems on the definitions, as the contracts of calls that do nothing.
 
 ghost use Rattle.std.specs.Prelude.{◌≡◌};
 ghost use Rattle.geo_sign.specs.RisingLaws.{RisingLaw, CellListLaw};

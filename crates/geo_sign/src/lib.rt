@@ -5,7 +5,7 @@
 //!
 //! Orientation is right-handed. The orientation of a, b, c, d is positive where a, b, c turn counterclockwise as seen from d, which
 //! is where d lies on the side of their plane to which the normal (b - a) x (c - a) points. Four points with a positive orientation
-//! are written positively. A side of a facet a, b, c is positive in the same way, as seen from the place in question.
+//! are positively oriented. A side of a facet a, b, c is positive in the same way, as seen from the place in question.
 //!
 //! | Sign | Polynomial | Degree | Bits |
 //! |---|---|---|---|
@@ -19,7 +19,7 @@
 //!
 //! # Example
 //!
-//! A tetrahedron written positively, and points in, on and outside the sphere through its vertices:
+//! A tetrahedron positively oriented, and points in, on and outside the sphere through its vertices:
 //!
 //! ```rust
 //! let a = Point::data(0, 0, 0).ok_or("a data point")?;

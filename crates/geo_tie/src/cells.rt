@@ -15,7 +15,7 @@ use std::alloc::Global;
 /// The most points that the oracle accepts: it tries each four of them and the corners.
 pub const PLAIN_LIMIT: usize = 56;
 
-/// Vertex u with its number.
+/// Returns vertex u with its number.
 fn numbered(vertices: &[Point], u: usize) -> (u32, Point)
     requires few { length vertices.now ≤ 64 }
     requires inside { u < length vertices.now }

@@ -11,7 +11,7 @@ pub fn header_to_vertices() -> &'static [u8]
     b"ply\nformat ascii 1.0\nelement vertex "
 }
 
-/// From there up to the number of faces.
+/// Returns the header from there up to the number of faces.
 #[tactic(auto, unfolding(crate::specs::Texts::x_line, crate::specs::Texts::y_line, crate::specs::Texts::z_line, crate::specs::Texts::face_word))]
 pub fn header_to_faces() -> &'static [u8]
     ensures { result.now ≡ face_head }

@@ -127,7 +127,7 @@ impl<R: Files + Print + Eprint + AllocGlobal + Drop, A: Advice> Host for RealHos
         Ok(())
     }
 
-    /// All postconditions except the last are those of `Host`; the last states what the file gave.
+    /// Reads by the contract of `Host`; the last postcondition states what the file gave.
     fn read(&mut self, buffer: &mut [u8]) -> Result<usize, Failed>
         requires { IsTrue (real_state self.old).reading }
         ensures within { IfOk result (λ count. count ≤ length buffer.new) }
@@ -153,7 +153,7 @@ impl<R: Files + Print + Eprint + AllocGlobal + Drop, A: Advice> Host for RealHos
         Ok(())
     }
 
-    /// All postconditions except the last are those of `Host`; the last states what the file took.
+    /// Appends by the contract of `Host`; the last postcondition states what the file took.
     fn append(&mut self, bytes: &[u8]) -> Result<usize, Failed>
         requires { IsTrue (real_state self.old).writing }
         ensures front { IfOk result (λ count. IsFrontCount count bytes.now) }
@@ -173,7 +173,7 @@ impl<R: Files + Print + Eprint + AllocGlobal + Drop, A: Advice> Host for RealHos
         }
     }
 
-    /// If a write failed, the file is not finished for that reason.
+    /// Syncs and closes the file. Fails if a write failed before, with that error.
     fn finish(&mut self) -> Result<(), Failed> {
         let put = match &self.writing {
             Some(file) => sync(file),

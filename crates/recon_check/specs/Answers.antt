@@ -9,13 +9,13 @@
 --   IsOtherCount scan settings claim which a b    the first number that differs
 --   IsReason scan s complex claim mesh reason     the first fault of what a certificate with the scan's numbers states
 --   IsFaultOver, IsFault scan settings mesh ..    the first fault of what a certificate states
---   IsFaultHere scan settings stamp mesh ..       its stamp is another, or this is the first fault of what it states
+--   IsFaultHere scan settings stamp mesh ..       its fingerprint differs, or this is the first fault of what it states
 --   HasCertificate cert P                         a certificate has the text, and something holds of what it states
---   IsAccepted scan settings stamp mesh cert      the two texts are those of a solution, and the stamp is this one
+--   IsAccepted scan settings stamp mesh cert      the two texts are those of a solution with no fingerprint or this one
 --   IsSolvedWith scan settings mesh a b c claim   and these are its inside cells, faces and cost
 --   IsAnswer scan settings stamp mesh cert ..     the answer
 --   IsYes answer                                  the answer is Yes
---   IsYesWhereSolved scan settings stamp mesh ..  it is Yes with the numbers of whatever solution has these two texts
+--   IsYesWhereSolved scan settings stamp mesh ..  it is Yes with the numbers of any solution that has these two texts
 use Rattle.std.specs.Prelude.{ℕ, ◌≡◌, ◌≢◌, ◌⊎◌, ◌++◌, Bool, List, [], ◌∷◌, All, Contains, length, ⊤}
 use Rattle.cert_text.specs.Stamps.{StampView}
 use Rattle.cert_text.specs.Certificates.{Claim, IsWellFormed}
@@ -51,7 +51,7 @@ use Rattle.recon_check.specs.declared.answer.Reason.TheVariants.{Unbalanced, Not
 use Rattle.recon_check.specs.declared.answer.Which.{Which}
 use Rattle.recon_check.specs.declared.answer.Which.TheVariants.{Points, Scanners, Sights, Vote, Smooth}
 
--- the mesh of the facets of outside cells with an inside cell across
+-- the mesh of the facets of outside cells with an inside adjacent cell
 abbrev pub best_surface : Shown → Complex → (List ℕ → Bool) → Surface
 best_surface scan complex inside =
     mesh_of (corners ++ points_of scan) (cut_facets (boxed_vertices (points_of scan)) complex inside)
@@ -98,7 +98,7 @@ pub record IsOtherCount (scan : Shown) (settings : Settings) (claim : Claim) (wh
   pub differs : stated ≢ here
 
 -- The first fault, in the order of the cases, of what a certificate states about a scan with this complex. Each is the
--- first in its list: of rows as the certificate has them, of cells and of facets as they rise.
+-- first in its list: of rows in the order of the certificate, of cells and of facets in ascending order.
 abbrev pub IsReason : Shown → Scene → Complex → Claim → List ℕ → Reason → Type 0
 IsReason scan s complex claim mesh (NoSuchCell k) = IsFirst (length claim.inside) (IsStray complex.cells claim.inside) k
 IsReason scan s complex claim mesh (NoSuchFacet k) =
@@ -144,7 +144,7 @@ abbrev pub IsFault : Shown → Settings → List ℕ → Claim → Reason → Ty
 IsFault scan settings mesh claim (OtherCounts which stated here) = IsOtherCount scan settings claim which stated here
 IsFault scan settings mesh claim reason = IsFaultOver scan settings mesh claim reason
 
--- the stamp's first part that is another, or else the first fault of what the certificate states
+-- the first part of the fingerprint that differs, or else the first fault of what the certificate states
 abbrev pub IsFaultHere : Shown → Settings → StampView → List ℕ → Claim → Reason → Type 0
 IsFaultHere scan settings stamp mesh claim reason =
     IsOtherStamp stamp claim reason ⊎ (IsStampedFor stamp claim × IsFault scan settings mesh claim reason)
@@ -157,12 +157,12 @@ pub record HasCertificate (cert : List ℕ) (P : Claim → Type 0) : Type 0 wher
   pub holds : P claim
 
 -- the two texts are those of a solution: there are a surface and a claim with these texts that solve the scan, and the claim
--- has no stamp or this one
+-- has no fingerprint of the input or this one
 abbrev pub IsAccepted : Shown → Settings → StampView → (mesh cert : List ℕ) → Type 0
 IsAccepted scan settings stamp mesh cert =
     HasCertificate cert (λ claim. IsStampedFor stamp claim × IsSolved scan settings mesh claim)
 
--- the two texts are those of a solution with so many inside cells and faces, and of this cost
+-- the two texts are those of a solution with these numbers of inside cells and faces, and of this cost
 pub record IsSolvedWith (scan : Shown) (settings : Settings) (mesh : List ℕ) (inside faces least : ℕ)
     (claim : Claim) : Type 0 where
   pub shown : IsSolved scan settings mesh claim
@@ -170,8 +170,8 @@ pub record IsSolvedWith (scan : Shown) (settings : Settings) (mesh : List ℕ) (
   pub faces_is : faces ≡ length shown.surface.faces
   pub cost_is : least ≡ claim.counts.cost
 
--- Yes is a solution and no other stamp, with the numbers of its inside cells and faces and its cost. Else it is the first
--- reason: the certificate is no text of a certificate, its stamp is another, or the first fault of what it states.
+-- Yes, with the numbers of inside cells and faces and the cost of a solution that has no other fingerprint. Otherwise no, with the
+-- first reason: the text is invalid as a certificate, its fingerprint differs, or the first fault of what it states.
 abbrev pub IsAnswer : Shown → Settings → StampView → (mesh cert : List ℕ) → Answer → Type 0
 IsAnswer scan settings stamp mesh cert (Yes inside faces least) =
     HasCertificate cert (λ claim. IsStampedFor stamp claim × IsSolvedWith scan settings mesh inside faces least claim)
@@ -186,7 +186,7 @@ abbrev pub IsYes : Answer → Type 0
 IsYes (Yes inside faces least) = ⊤
 IsYes (No reason) = ⊥
 
--- where a surface and a claim with no stamp or this one are a solution whose texts these are, the answer is Yes with their numbers
+-- if a surface and a claim with no fingerprint or this one are a solution with these texts, the answer is Yes with their numbers
 abbrev pub IsYesWhereSolved : Shown → Settings → StampView → (mesh cert : List ℕ) → Answer → Type 0
 IsYesWhereSolved scan settings stamp mesh cert answer =
     (surface : Surface) (claim : Claim) → IsSolution scan settings surface claim → IsWellFormed claim → IsStampedFor stamp claim

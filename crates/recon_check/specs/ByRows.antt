@@ -1,12 +1,12 @@
--- What is wrong with what is stated about cells and sides, by their numbers, in a network by numbers: of a list of numbers the one at a
--- place, and of all nodes the one whose row is the least.
+-- What is wrong with what is stated about cells and sides, by their numbers, in a network by numbers: of a list of numbers the one at an
+-- index, and of all nodes the one whose row is the first in ascending order.
 --
---   IsFixedAt net nodes k               the node at place k is fixed
---   IsOverAt net sides amounts k        more flows on the arc at place k than its capacity
---   IsOverSinkAt net nodes amounts k    more leaves at the sink of the node at place k than may
---   IsOutsideAt flags nodes k           the node at place k has no flag
+--   IsFixedAt net nodes k               the node at index k is fixed
+--   IsOverAt net sides amounts k        the flow on the arc at index k exceeds its capacity
+--   IsOverSinkAt net nodes amounts k    the flow at the sink of the node at index k exceeds its limit
+--   IsOutsideAt flags nodes k           the node at index k has no flag
 --   numbers net                         linked cells and counts as a network by numbers
---   IsUnbalanced net flow v             what enters the free node v is not what leaves it
+--   IsUnbalanced net flow v             the flow is not conserved at the free node v
 --   IsUnbalanceAt net flow v found      so it is of this cell, with these amounts
 --   IsLeastUnbalance net flow found     and of no cell with a lesser row
 use Rattle.std.specs.Prelude.{ℕ, ◌≡◌, ◌<◌, ◌≤◌, Bool, true, false, List, slice_index}
@@ -23,19 +23,19 @@ use Rattle.vote_net.specs.Counts.{row_of}
 use Rattle.vote_net.specs.Gathered.{row_key}
 use Rattle.recon_check.specs.declared.balance.Unbalance.{Unbalance}
 
--- the node at a place is fixed
+-- the node at an index is fixed
 abbrev pub IsFixedAt : NumberedNetwork → List ℕ → ℕ → Type 0
 IsFixedAt net nodes k = net.is_fixed (slice_index nodes k) ≡ true
 
--- more flows on the arc at a place than its capacity
+-- the flow on the arc at an index exceeds its capacity
 abbrev pub IsOverAt : NumberedNetwork → List ℕ → List ℕ → ℕ → Type 0
 IsOverAt net sides amounts k = net.capacity (slice_index sides k) < slice_index amounts (slice_index sides k)
 
--- more leaves at the sink of the node at a place than may
+-- the flow at the sink of the node at an index exceeds its limit
 abbrev pub IsOverSinkAt : NumberedNetwork → List ℕ → List ℕ → ℕ → Type 0
 IsOverSinkAt net nodes amounts k = sink_limit (network_by net) (slice_index nodes k) < slice_index amounts (slice_index nodes k)
 
--- the node at a place has no flag
+-- the node at an index has no flag
 abbrev pub IsOutsideAt : List Bool → List ℕ → ℕ → Type 0
 IsOutsideAt flags nodes k = flag_at flags (slice_index nodes k) ≡ false
 
@@ -44,7 +44,7 @@ abbrev pub numbers : CellNetwork → NumberedNetwork
 numbers net =
     numbered_with net.tetra.now.slots net.counts.crossed.now net.counts.behind.now net.counts.fixed.now net.settings net.shape
 
--- what enters the node, if it is free, is not what leaves it
+-- the node is free, and the flow is not conserved there
 abbrev pub IsUnbalanced : CellNetwork → Flow → ℕ → Type 0
 IsUnbalanced net flow =
     faults.IsUnbalanced (network_by (numbers net)) (slice_index flow.on_arc) (slice_index flow.on_sink)

@@ -1,4 +1,4 @@
--- What the rows of a certificate say of the cells and facets of a scan.
+-- What the rows of a certificate state about the cells and facets of a scan.
 --
 --   is_among_rows rows row       the row is one of a list
 --   is_inside claim row          the certificate has the cell as inside

@@ -1,15 +1,15 @@
 -- Rows found by their keys, and what is noted of them.
 --
 --   least_number key              the first number of a key, which is its least
---   AreStarts keys starts         for each number the place of the first key that begins with it or a greater one
---   IsNoted keys key n old new    the number stands at the places of the key, and at others what stood there
+--   AreStarts keys starts         for each number the index of the first key that begins with it or a greater one
+--   IsNoted keys key n old new    the number is written at the indices of the key, and the others are as before
 --   AreNumbersOf is_there key_at keys numbers
 --                                 one number a key, of what has it
 --   AreFound limit upto is_there key_at keys numbers
 --                                 one number a key: of what has it, below the limit, where anything up to a number has it
 --   side_facet slots j            the facet of the side with number j
---   is_open_side slots fixed j         it has a free cell across
---   AreCellsFound, AreSidesFound  so the live cells, and the sides with a free cell across
+--   is_open_side slots fixed j         its adjacent cell is free
+--   AreCellsFound, AreSidesFound  the same of live cells, and of sides whose adjacent cell is free
 --   AreNumbersApart numbers       no two are equal
 use Rattle.std.specs.Prelude.{ℕ, ◌≡◌, ◌≢◌, ◌<◌, ◌≤◌, ◌/◌, ◌%◌, Bool, true, Option, List, [], length, slice_index, slice_index_or}
 use Rattle.cell_net.specs.Arcs.{across, is_free}
@@ -22,13 +22,13 @@ use Rattle.vote_net.specs.Counts.{row_of}
 abbrev pub least_number : List ℕ → ℕ
 least_number key = slice_index key 0
 
--- keys before the place of a number begin with less, and those from it on with as much at least
+-- keys before the index of a number begin with a lesser one, and those from it on with that number or a greater one
 pub record AreStarts (keys : List (List ℕ)) (starts : List ℕ) : Type 0 where
   pub within : (n : ℕ) → n < length starts → slice_index starts n ≤ length keys
   pub below : (n k : ℕ) → n < length starts → k < slice_index starts n → least_number (slice_index_or keys k []) < n
   pub above : (n k : ℕ) → n < length starts → slice_index starts n ≤ k → k < length keys → n ≤ least_number (slice_index_or keys k [])
 
--- places of keys are those of numbers
+-- keys and numbers have the same indices
 pub record IsNoted (keys : List (List ℕ)) (key : List ℕ) (number : ℕ) (old new : List ℕ) : Type 0 where
   pub count : length new ≡ length old
   pub here : (k : ℕ) → k < length keys → slice_index_or keys k [] ≡ key → slice_index new k ≡ number
@@ -53,7 +53,7 @@ pub record AreFound (limit upto : ℕ) (is_there : ℕ → Bool) (key_at : ℕ �
 abbrev pub side_facet : List (Option Cell) → ℕ → List ℕ
 side_facet slots j = facet_row ((links_of slots).at (j / 4)) (j % 4)
 
--- there is a free cell across
+-- the adjacent cell is free
 abbrev pub is_open_side : List (Option Cell) → List Bool → ℕ → Bool
 is_open_side slots fixed j = is_free fixed (across slots j)
 
@@ -61,7 +61,7 @@ is_open_side slots fixed j = is_free fixed (across slots j)
 abbrev pub AreCellsFound : List (Option Cell) → (limit upto : ℕ) → (keys : List (List ℕ)) → List ℕ → Type 0
 AreCellsFound slots limit upto = AreFound limit upto (links_of slots).is_live (row_of slots)
 
--- the sides with a free cell across
+-- the sides whose adjacent cell is free
 abbrev pub AreSidesFound : List (Option Cell) → List Bool → (limit upto : ℕ) → (keys : List (List ℕ)) → List ℕ → Type 0
 AreSidesFound slots fixed limit upto = AreFound limit upto (is_open_side slots fixed) (side_facet slots)
 

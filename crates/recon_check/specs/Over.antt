@@ -1,7 +1,7 @@
 -- Labels and amounts by the numbers of cells and sides that are what a certificate states about a scene.
 --
 --   IsStatedOver s complex net claim stated    linked cells and counts of the scene, and what the certificate states about them
---   IsAdmissibleOver, IsValidOver              all rows are there, and no fixed cell is inside; and the flow is valid
+--   IsAdmissibleOver, IsValidOver              all rows name something there, and no cell fixed outside is inside; and the flow is valid
 --   TellsOf slots fixed claim reason           the reason is the first fault, of whatever scene the cells and flags are
 --   TellsOver net claim stated Before reason   the reason is the first fault, where what is before it holds
 --   ShowsOver net claim stated Before After    one of two holds where the other does
@@ -36,7 +36,7 @@ pub record IsStatedOver (s : Scene) (complex : Complex) (net : CellNetwork) (cla
 abbrev pub IsThereOver : Scene → Complex → Claim → Type 0
 IsThereOver s complex claim = AreThere complex claim
 
--- and no fixed cell is inside
+-- and no cell fixed outside is inside
 pub record IsAdmissibleOver (s : Scene) (complex : Complex) (claim : Claim) : Type 0 where
   pub there : AreThere complex claim
   pub admissible : IsAdmissible s complex (is_inside claim)

@@ -1,8 +1,9 @@
--- Whether a certificate belongs to this run: its stamp against that of the scan's file, the unit and the fixed scanner.
+-- Whether a certificate belongs to this run: its fingerprint of the input against the digest of the scan's file, the scale and the fixed
+-- scanner of the run.
 --
---   IsStampedFor here claim          the certificate has no stamp, or this one
---   IsOtherPart here stated reason   the first part of a stamp that differs
---   IsOtherStamp here claim reason   the certificate has a stamp, and this is the first part of it that differs
+--   IsStampedFor here claim          the certificate has no fingerprint, or this one
+--   IsOtherPart here stated reason   the first part of a fingerprint that differs
+--   IsOtherStamp here claim reason   the certificate has a fingerprint, and this is the first part of it that differs
 use Rattle.std.specs.Prelude.{◌≡◌, ◌≢◌, Some}
 use Rattle.std.specs.Option.{ForSome}
 use Rattle.cert_text.specs.Stamps.{StampView}
@@ -10,11 +11,11 @@ use Rattle.cert_text.specs.Certificates.{Claim}
 use Rattle.recon_check.specs.declared.answer.Reason.{Reason}
 use Rattle.recon_check.specs.declared.answer.Reason.TheVariants.{OtherScan, OtherUnit, OtherFixed}
 
--- the certificate has no stamp, or this one
+-- the certificate has no fingerprint, or this one
 abbrev pub IsStampedFor : StampView → Claim → Type 0
 IsStampedFor here claim = ForSome claim.stamp (λ stated. stated ≡ here)
 
--- the first part that differs: the digest, the unit, the fixed scanner
+-- the first part that differs: the digest, the scale, the fixed scanner
 abbrev pub IsOtherPart : (here stated : StampView) → Reason → Type 0
 IsOtherPart here stated (OtherScan a b) = (a ≡ stated.digest) × (b ≡ here.digest) × (a ≢ b)
 IsOtherPart here stated (OtherUnit a b) = (stated.digest ≡ here.digest) × (a ≡ stated.unit) × (b ≡ here.unit) × (a ≢ b)
@@ -22,7 +23,7 @@ IsOtherPart here stated (OtherFixed p q) =
     (stated.digest ≡ here.digest) × (stated.unit ≡ here.unit) × (p ≡ stated.fixed) × (q ≡ here.fixed) × (p ≢ q)
 IsOtherPart here stated _ = ⊥
 
--- the certificate has a stamp, and this is the first part of it that differs
+-- the certificate has a fingerprint, and this is the first part of it that differs
 pub record IsOtherStamp (here : StampView) (claim : Claim) (reason : Reason) : Type 0 where
   pub stated : StampView
   pub stamp_is : claim.stamp ≡ Some stated

@@ -1,7 +1,7 @@
 -- What the rows of a certificate state about linked cells, by the numbers that these have in the store: that of a cell is its id, that
 -- of side k of it 4 * id + k.
 --
---   IsFlaggedFor s slots fixed             the store has all cells of the scene, and the flags are those of its fixed cells
+--   IsFlaggedFor s slots fixed             the store has all cells of the scene, and the flags are those of its cells fixed outside
 --   IsSaid is_there key_at at says nothing
 --                                          by number what is said by key, and nothing elsewhere
 --   IsStatedBy slots fixed claim stated    labels and amounts are what the rows state, and each row is about a cell or a side
@@ -29,8 +29,8 @@ pub record IsSaid {X : Type 0} (is_there : ℕ → Bool) (key_at : ℕ → List 
   pub there : (j : ℕ) → is_there j ≡ true → at j ≡ says (key_at j)
   pub elsewhere : (j : ℕ) → is_there j ≡ false → at j ≡ nothing
 
--- As many labels and sinks as flags, four amounts of sides for each. A number without a cell is outside and has amount 0, and so
--- has a side without a free cell across.
+-- As many labels and sinks as flags, four amounts of sides for each. A number without a cell is outside and has amount 0. So
+-- has a side whose adjacent cell is not free.
 pub record IsStatedBy (slots : List (Option Cell)) (fixed : List Bool) (claim : Claim) (stated : Stated) : Type 0 where
   pub labels : length stated.labels.inside ≡ length fixed
   pub arcs : length stated.flow.on_arc ≡ 4 * length fixed

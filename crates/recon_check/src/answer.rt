@@ -1,148 +1,147 @@
-//! The answers of a check of a mesh and a certificate. It stands on the points of `geo_sign`.
+//! The answers of a check of a mesh and a certificate. It depends on the points of `geo_sign`.
 
 use geo_sign::Point;
 
-/// A number that a certificate states about the scan that it belongs to.
+/// Names a number that a certificate states about its scan.
 #[derive(Clone, Copy, Debug, PartialEq, Eq)]
 pub enum Which {
-    /// How many distinct points the scan has.
+    /// The number of distinct points of the scan.
     Points,
-    /// How many scanners.
+    /// The number of scanners.
     Scanners,
-    /// How many lines of sight: one for each scanner that a point's row names, or one a row from a fixed scanner.
+    /// The number of lines of sight: one for each scanner that a point's row names, or one for each row from a fixed scanner.
     Sights,
-    /// What a sight of weight 1 weighs.
+    /// The visibility weight: the weight of a sight that counts once.
     Vote,
-    /// The weight of one facet of the surface.
+    /// The area weight: the weight of one facet of the surface.
     Smooth,
 }
 
-/// Why a mesh and a certificate are not the best surface of a scan and the certificate that shows it.
+/// States why a mesh and a certificate are not the best surface of a scan and its certificate of optimality.
 ///
-/// A cell is its four vertex numbers, a directed facet its three with the smallest first. What has no row in the
-/// certificate is outside, or 0. Rows are counted from 0 in their list.
+/// A cell is the sorted tuple of its four vertex indices, a directed facet the tuple of its three with the smallest first. A cell without
+/// an inside row is outside; an amount without a row is 0. Row indices count from 0 in their list.
 #[derive(Clone, Copy, Debug, PartialEq, Eq)]
 pub enum Reason {
-    /// A line of the certificate, counted from 1, is not of the form that stands there.
+    /// A line of the certificate, counted from 1, is invalid there.
     CertLine(u64),
-    /// The row in a line of the certificate does not rise above the row before it.
+    /// The rows of the certificate are not in ascending order at this line, counted from 1.
     CertOrder(u64),
-    /// The certificate ends before an expected line does.
+    /// The certificate is truncated: it ends before an expected line does.
     CertCut,
-    /// The certificate belongs to the scan of another file. Only a certificate that has a stamp says so, here and in the
-    /// next two.
+    /// The certificate belongs to the scan of another file. This and the next two apply to certificates with a fingerprint of the input.
     OtherScan {
-        /// The digest of the file that it belongs to.
+        /// The SHA-256 digest that the certificate states.
         stated: [u8; 32],
-        /// The digest of the file that was read.
+        /// The digest of the scan file of this run.
         here: [u8; 32],
     },
-    /// The certificate was made in another unit.
+    /// The certificate was made at another scale.
     OtherUnit {
-        /// The unit that it states.
+        /// The scale that it states.
         stated: u32,
-        /// The unit of this run.
+        /// The scale of this run.
         here: u32,
     },
     /// The certificate was made with another fixed scanner, or one of the two has none.
     OtherFixed {
         /// The fixed scanner that it states, in scaled units.
         stated: Option<Point>,
-        /// That of this run.
+        /// The fixed scanner of this run.
         here: Option<Point>,
     },
     /// The certificate belongs to another scan or to other weights: the first of the numbers that differs.
     OtherCounts {
         /// The number.
         which: Which,
-        /// What the certificate states.
+        /// The value that the certificate states.
         stated: u32,
-        /// The scan's own.
+        /// The value of this scan.
         here: u32,
     },
-    /// A row of inside cells is no cell.
+    /// An inside row names no cell of the scan.
     NoSuchCell {
-        /// The first such row.
+        /// The index of the first of these rows.
         row: u64,
     },
-    /// A flow row is no directed facet with a free cell across.
+    /// A flow row names no directed facet whose adjacent cell is free.
     NoSuchFacet {
-        /// The first such row.
+        /// The index of the first of these rows.
         row: u64,
     },
-    /// A sink row is no cell.
+    /// A sink row names no cell of the scan.
     NoSuchSink {
-        /// The first such row.
+        /// The index of the first of these rows.
         row: u64,
     },
-    /// A cell that has a corner of the box or a scanner is inside.
+    /// A cell that contains a corner of the box or a scanner, and so is fixed outside, is inside.
     FixedInside {
-        /// The first such cell.
+        /// The first of these cells.
         cell: [u32; 4],
     },
-    /// More flows over a facet than its capacity.
+    /// The flow over a facet exceeds its capacity.
     OverCapacity {
-        /// The first such facet.
+        /// The first of these facets.
         facet: [u32; 3],
-        /// The amount on it.
+        /// The flow over it.
         flow: u64,
         /// Its capacity.
         cap: u64,
     },
-    /// More leaves at a cell's sink than may.
+    /// The flow at a cell's sink exceeds its limit.
     OverSink {
-        /// The first such cell.
+        /// The first of these cells.
         cell: [u32; 4],
-        /// The amount at its sink.
+        /// The flow at its sink.
         flow: u64,
-        /// The most that may leave there: its sink, or 0 where the cell is fixed.
+        /// The limit: the capacity of its sink, or 0 for a cell fixed outside.
         cap: u64,
     },
-    /// What enters a free cell is not what leaves it.
+    /// The flow is not conserved at a free cell.
     Unbalanced {
-        /// The first such cell.
+        /// The first of these cells.
         cell: [u32; 4],
-        /// What enters it over facets.
+        /// The flow that enters it over facets.
         amount_in: u128,
-        /// What leaves it over facets and at its sink.
+        /// The flow that leaves it over facets and at its sink.
         amount_out: u128,
     },
     /// The value of the flow is not the cost of the labels.
     NotEqual {
-        /// The value.
+        /// The value of the flow.
         value: u128,
-        /// The cost.
+        /// The cost of the labels.
         cost: u128,
     },
-    /// A cell is inside that the least-inside labels of this cost have outside.
+    /// A cell is inside that is outside by the minimum cut with the smallest inside.
     NotLeast {
-        /// The first such cell.
+        /// The first of these cells.
         cell: [u32; 4],
     },
     /// The certificate states another cost than that of its labels.
     WrongCost {
-        /// What it states.
+        /// The cost that it states.
         stated: u64,
-        /// What the labels cost.
+        /// The cost of the labels.
         cost: u64,
     },
     /// The mesh is not the text of the surface of the labels.
     MeshDiffers {
-        /// The first place, counted from 0, at which the two differ; the length of the shorter where the other goes on.
+        /// The first position, counted from 0, at which the two differ, or the length of the shorter one if it is a prefix of the other.
         place: usize,
     },
 }
 
-/// What a check of a mesh and a certificate comes to.
+/// The result of a check of a mesh and a certificate.
 #[derive(Clone, Copy, Debug, PartialEq, Eq)]
 pub enum Answer {
-    /// The mesh is the best surface of the scan, and the certificate shows it.
+    /// The mesh is the best surface of the scan, and the certificate is valid.
     Yes {
-        /// How many cells are inside.
+        /// The number of inside cells.
         inside: u64,
-        /// How many faces the surface has.
+        /// The number of faces of the surface.
         faces: u64,
-        /// What the labels cost.
+        /// The cost of the labels.
         cost: u64,
     },
     /// The first reason why it is not so, in the order of the variants.

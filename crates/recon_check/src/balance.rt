@@ -1,4 +1,4 @@
-//! Cells at which a flow is not balanced. It stands on the totals of `flow_valid`.
+//! Cells at which a flow is not conserved. It depends on the totals of `flow_valid`.
 
 ghost use Rattle.std.specs.Prelude.{◌≡◌, ◌<◌, ◌≤◌, ◌⊎◌, Some, IfOk, IfSome, IfNone, length};
 ghost use Rattle.flow_net.specs.Firsts.{NoneBelow};
@@ -14,18 +14,18 @@ use std::alloc::Global;
 use tetra_store::Tetra;
 use vote_net::{cell_key, cell_row};
 
-/// A free cell that a flow enters with another amount than it leaves.
+/// A free cell at which a flow is not conserved.
 #[derive(Clone, Copy, Debug)]
 pub struct Unbalance {
     /// The cell.
     pub cell: [u32; 4],
-    /// What enters it over facets.
+    /// The flow that enters it over facets.
     pub amount_in: u128,
-    /// What leaves it over facets and at its sink.
+    /// The flow that leaves it over facets and at its sink.
     pub amount_out: u128,
 }
 
-/// What is not balanced at the cell with a number, if it is there and free.
+/// Returns the cell with this number and its totals, if it is live and free and the flow is not conserved there.
 fn unbalance_at(
     tetra: &Tetra,
     net: &CellNetwork<'_>,
@@ -53,7 +53,7 @@ fn unbalance_at(
     })
 }
 
-/// The one whose cell comes first, of one that may have been found and another.
+/// Returns the one whose cell is the first in ascending order, of one that may have been found and another.
 fn first_of(found: Option<Unbalance>, other: Unbalance) -> Unbalance
     ensures either { (result ≡ other) ⊎ (found ≡ Some result) }
     ensures before { row_key result.cell ≤ row_key other.cell }
@@ -65,7 +65,7 @@ fn first_of(found: Option<Unbalance>, other: Unbalance) -> Unbalance
     }
 }
 
-/// The first cell, as cells rise, that is not balanced by these totals, if there is one.
+/// Finds the first cell, in ascending order, that is not balanced by these totals.
 fn first_by(tetra: &Tetra, net: &CellNetwork<'_>, flow: &Flow, totals: &Totals) -> Option<Unbalance>
     requires cells { net.now.tetra.now ≡ tetra.now }
     requires amounts { length flow.now.on_sink ≡ length net.now.counts.fixed.now }
@@ -82,8 +82,7 @@ fn first_by(tetra: &Tetra, net: &CellNetwork<'_>, flow: &Flow, totals: &Totals) 
     found
 }
 
-/// The first cell, as cells rise, that a flow enters with another amount than it leaves, if there is one. The totals are let go of
-/// before it returns.
+/// Finds the first cell, in ascending order, at which a flow is not conserved. Frees the totals before it returns.
 pub fn first_unbalanced(
     alloc: Global,
     tetra: &Tetra,

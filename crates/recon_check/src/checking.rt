@@ -1,4 +1,4 @@
-//! The check of a mesh and a certificate. It stands on all other files.
+//! The check of a mesh and a certificate. It depends on all other files.
 
 ghost use Rattle.std.specs.Prelude.{◌≡◌, ◌<◌, ◌^◌, ◌↔◌, ℕ, List, IfOk, IfErr, length};
 ghost use Rattle.cert_text.specs.Certificates.{claim_of, stamp_view, IsWellFormed};
@@ -35,18 +35,18 @@ use tetra_store::Tetra;
 use votes::Votes;
 use watch::{Silent, Watch};
 
-/// The numbers of a surface that was shown best, and whose text the mesh is.
+/// The numbers of a surface that the certificate shows best and whose text is the mesh.
 #[derive(Drop)]
 struct Accepted {
-    /// How many cells are inside.
+    /// The number of inside cells.
     inside: u64,
-    /// How many faces the surface has.
+    /// The number of faces of the surface.
     faces: u64,
-    /// What the labels cost.
+    /// The cost of the labels.
     cost: u64,
 }
 
-/// The certificate whose text the bytes are.
+/// Parses the text of a certificate.
 fn certificate(alloc: Global, bytes: &[u8]) -> Result<Certificate, Stop>
     ensures formed { IfOk result (λ cert. IsWellFormed (claim_of cert)) }
     ensures text { IfOk result (λ cert. bytes.now ≡ cert_text (claim_of cert)) }
@@ -61,8 +61,7 @@ fn certificate(alloc: Global, bytes: &[u8]) -> Result<Certificate, Stop>
     }
 }
 
-/// The labels that a certificate shows best, by the cells' numbers, where it states what they cost. What is counted of the cells is
-/// dropped.
+/// Returns the labels that a certificate shows best, by the cells' numbers, if it also states their cost. Frees the visibility weights.
 fn best_labels(
     alloc: Global,
     scan: &Scan,
@@ -93,7 +92,7 @@ fn best_labels(
     Ok(labels)
 }
 
-/// The surface of the labels that a certificate shows best. The cells and what is counted of them, which are the scan's, are dropped.
+/// Returns the surface of the labels that a certificate shows best. Frees the scan's cells and their visibility weights.
 fn best_surface(
     alloc: Global,
     scan: &Scan,
@@ -115,8 +114,8 @@ fn best_surface(
     Ok(facets_by_number(alloc, &tetra, labels.inside.as_slice())?)
 }
 
-/// The numbers of the surface whose text the mesh is, where the certificate shows it best over the scan's cells. The certificate
-/// has the scan's numbers.
+/// Returns the numbers of the surface, if the certificate shows it best over the scan's cells and its text is the mesh. The numbers that
+/// the certificate states are the scan's.
 fn shown_over(
     alloc: Global,
     scan: &Scan,
@@ -147,7 +146,7 @@ fn shown_over(
     }
 }
 
-/// The numbers of the surface whose text the mesh is, where the certificate shows it best.
+/// Returns the numbers of the surface, if the certificate shows it best and its text is the mesh.
 fn shown_by_certificate<W: Watch>(
     alloc: Global,
     scan: &Scan,
@@ -169,7 +168,7 @@ fn shown_by_certificate<W: Watch>(
     shown_over(alloc, scan, settings, tetra, votes, mesh, cert)
 }
 
-/// The texts that are checked, of which nothing is known.
+/// The texts to be checked. Nothing is assumed about them.
 #[derive(Clone, Copy, Debug)]
 pub struct CheckedTexts<'a> {
     /// The text of a mesh.
@@ -178,7 +177,8 @@ pub struct CheckedTexts<'a> {
     pub cert: &'a [u8],
 }
 
-/// The numbers of the surface whose text the mesh is, where the certificate of the texts shows it best and has no stamp or this one.
+/// Returns the numbers of the surface, if the certificate shows it best, its text is the mesh, and the certificate has no fingerprint or
+/// this one.
 fn shown_by_texts<W: Watch>(
     alloc: Global,
     scan: &Scan,
@@ -197,15 +197,14 @@ fn shown_by_texts<W: Watch>(
     }
 }
 
-/// Whether a mesh and a certificate, by their texts, are the best surface of a scan at these settings and the certificate
-/// that shows it, with no stamp or this one, or else the first reason why they are not, in the order of the variants of [`Reason`].
+/// Checks whether two texts are the best surface of a scan at these settings and its certificate of optimality, with no fingerprint of the
+/// input or this one. If not, returns the first reason, in the order of the variants of [`Reason`].
 ///
-/// `Yes` comes exactly where there are a surface and a well-formed certificate with these texts that solve the scan: the
-/// mesh has the directed facets between outside and inside Delaunay cells, under the least-inside labels of smallest
-/// sight-line cost, and the certificate has the scan's numbers, that cost, the inside cells, and a valid flow of that value.
-/// A stamp is compared before anything else that the certificate states. Nothing about either text is assumed. So whatever
-/// `solve_scan` makes without a stamp or with this one, printed by `push_mesh` and `push_cert`, is answered by `Yes`. The only
-/// error is want of memory.
+/// The answer is `Yes` if and only if there are a surface and a well-formed certificate with these texts that solve the scan: the mesh has
+/// the directed facets between outside and inside Delaunay cells by the minimum cut with the smallest inside, and the certificate states
+/// the scan's numbers, the cost of that cut, the inside cells and a valid flow of that value. The fingerprint is compared before the rest
+/// of the certificate. Nothing is assumed about either text. A surface and a certificate of `solve_scan` with no fingerprint or this one,
+/// printed by `push_mesh` and `push_cert`, are answered by `Yes`. The only error is that the check runs out of memory.
 pub fn check_all(
     alloc: Global,
     scan: &Scan,
@@ -223,7 +222,7 @@ pub fn check_all(
     check_all_watched(alloc, scan, settings, stamp, &texts, &mut Silent)
 }
 
-/// The same, where a watch is told of the stages of the work.
+/// Checks the same as [`check_all`], and calls the progress callback at each stage.
 pub fn check_all_watched<W: Watch>(
     alloc: Global,
     scan: &Scan,

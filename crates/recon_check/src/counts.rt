@@ -1,4 +1,4 @@
-//! The numbers that a certificate states against those of a scan. It stands on `scan` and `cert_text`.
+//! The numbers that a certificate states against those of a scan. It depends on `scan` and `cert_text`.
 
 ghost use Rattle.std.specs.Prelude.{◌≡◌, ℕ, List, IfSome, IfNone, None, Some, if◌then◌else◌, ◌==◌};
 ghost use Rattle.cert_text.specs.Certificates.{claim_of};
@@ -13,7 +13,7 @@ use flow_net::Settings;
 use geo_sign::Point;
 use scan::Scan;
 
-/// A number that is stated otherwise than it is here, if it is.
+/// Compares a stated number with the scan's, and returns both if they differ.
 fn other(which: Which, stated: u32, here: u32) -> Option<Reason>
     ensures { result ≡ (if stated == here then None else Some (Reason.OtherCounts which stated here)) }
 {
@@ -28,8 +28,7 @@ fn other(which: Which, stated: u32, here: u32) -> Option<Reason>
     }
 }
 
-/// The first number that a certificate states otherwise than the scan has it, if there is one. `points` are the scan's
-/// distinct points.
+/// Finds the first number of a certificate that differs from the scan's. `points` are the scan's distinct points.
 pub fn other_count(
     scan: &Scan,
     points: &[Point],

@@ -1,4 +1,4 @@
-//! The first fault of what a certificate states about linked cells. It stands on the searches by numbers, and on `max_flow`.
+//! The first fault of what a certificate states about linked cells. It depends on the searches by numbers and on `max_flow`.
 
 ghost use Rattle.std.specs.Prelude.{◌≡◌, IfErr, IfSome, IfNone, OnOk};
 ghost use Rattle.cert_text.specs.Certificates.{claim_of};
@@ -21,7 +21,7 @@ use max_flow::least_inside;
 use std::alloc::Global;
 use tetra_store::Tetra;
 
-/// The first inside row whose cell is fixed, if there is one. Rows rise, so its cell is the first.
+/// Finds the first inside row whose cell is fixed outside. Rows are sorted, so its cell is the first.
 fn fixed_inside(net: &CellNetwork<'_>, cert: &Certificate, stated: &Stated) -> Option<Reason>
     requires { IsStatedBy net.now.tetra.now.slots net.now.counts.fixed.now (claim_of cert.now) stated.now }
     ensures some { IfSome result (TellsOver net.now (claim_of cert.now) stated.now IsThereOver) }
@@ -33,7 +33,7 @@ fn fixed_inside(net: &CellNetwork<'_>, cert: &Certificate, stated: &Stated) -> O
     })
 }
 
-/// The first flow row that states more than the capacity of its facet, if there is one.
+/// Finds the first flow row that states more than the capacity of its facet.
 fn over_capacity(net: &CellNetwork<'_>, cert: &Certificate, stated: &Stated) -> Option<Reason>
     requires { IsStatedBy net.now.tetra.now.slots net.now.counts.fixed.now (claim_of cert.now) stated.now }
     ensures some { IfSome result (TellsOver net.now (claim_of cert.now) stated.now IsAdmissibleOver) }
@@ -48,7 +48,7 @@ fn over_capacity(net: &CellNetwork<'_>, cert: &Certificate, stated: &Stated) -> 
     })
 }
 
-/// The first sink row that states more than may leave at its cell, if there is one.
+/// Finds the first sink row that states more than the limit of its cell.
 fn over_sink(net: &CellNetwork<'_>, cert: &Certificate, stated: &Stated) -> Option<Reason>
     requires { IsStatedBy net.now.tetra.now.slots net.now.counts.fixed.now (claim_of cert.now) stated.now }
     ensures some { IfSome result (TellsOver net.now (claim_of cert.now) stated.now IsWithinFacets) }
@@ -90,7 +90,7 @@ fn show_balanced(
     }
 }
 
-/// The value of the flow and the cost of the labels, if they differ.
+/// Compares the value of the flow with the cost of the labels, and returns both if they differ.
 fn not_equal(net: &CellNetwork<'_>, cert: &Certificate, stated: &Stated) -> Option<Reason>
     requires { IsStatedBy net.now.tetra.now.slots net.now.counts.fixed.now (claim_of cert.now) stated.now }
     ensures some { IfSome result (TellsOver net.now (claim_of cert.now) stated.now IsValidOver) }
@@ -126,7 +126,7 @@ fn show_least(
     }
 }
 
-/// The first row that states what must not be, if there is one.
+/// Finds the first row that states too much: of inside rows, then of flow rows, then of sink rows.
 fn row_fault(net: &CellNetwork<'_>, cert: &Certificate, stated: &Stated) -> Option<Reason>
     requires { IsStatedBy net.now.tetra.now.slots net.now.counts.fixed.now (claim_of cert.now) stated.now }
     ensures some { IfSome result (TellsOver net.now (claim_of cert.now) stated.now IsThereOver) }
@@ -141,8 +141,8 @@ fn row_fault(net: &CellNetwork<'_>, cert: &Certificate, stated: &Stated) -> Opti
     over_sink(net, cert, stated)
 }
 
-/// Checks that the labels which a certificate states are the minimum cut by the flow that it states, and stops at the first fault in the
-/// order of the variants of [`Reason`]. Each row of the certificate names a cell or a facet.
+/// Checks that the labels of a certificate are the minimum cut with the smallest inside, by the flow of the certificate, and stops at the
+/// first fault in the order of the variants of [`Reason`]. Each row of the certificate names a cell or a facet.
 pub fn show_best(
     alloc: Global,
     tetra: &Tetra,

@@ -1,17 +1,25 @@
-//! Whether a mesh and a certificate are the best surface of a scan and the certificate that shows it.
+//! Checks whether a mesh and a certificate are the best surface of a scan and its certificate of optimality.
 //!
-//! Nothing is known of either text. The scan's cells are made and counted anew, and the labels and the flow that the certificate
-//! states are compared with them: a valid flow whose value is the cost of admissible labels shows that no labels cost less, so a reader
-//! of the answer needs to trust nothing about who made the two texts. No network is listed: what a certificate states is tested by the
-//! numbers that cells and sides have in the store.
+//! Neither text is trusted. The check computes the scan's cells and visibility weights again and compares the labels and the flow of the
+//! certificate with them: a valid flow whose value is the cost of admissible labels shows that no labels cost less. A reader of the answer
+//! need not trust the program that made the two texts. The check tests rows by the numbers of cells and sides in the store, and builds no
+//! list of arcs.
 //!
-//! `answer` holds the answers, `counts` compares the numbers that a certificate states with the scan's, `lookup` finds rows by what they
-//! are about, `stated` the cells and sides that its rows are about, `limits` finds rows that state what must not be, `balance` the first
-//! cell at which the flow is not balanced, `faults` tells these and the rest over cells and facets, `texts` finds where two texts differ,
-//! `stamps` compares the stamp of a certificate with that of the run, `stop` is why a check stops, `checking` puts them together, and
-//! `laws` says what holds of all answers. The crate stands on `cert_text` (certificates), `solution` (points, sights, and what a solution
-//! is), `scan_cut` (cells and counts), `cell_net` (the network that they are), `flow_valid` and `max_flow` (what enters and leaves a
-//! cell, and the least-inside labels) and `surface` (the mesh of labels).
+//! | File | What it does |
+//! |---|---|
+//! | `answer` | the answers and the reasons |
+//! | `counts` | compares the numbers that a certificate states with the scan's |
+//! | `stamps` | compares the fingerprint of a certificate with that of the run |
+//! | `lookup`, `stated` | find the cells and sides that rows name |
+//! | `limits`, `balance` | find rows that state too much, and cells at which the flow is not conserved |
+//! | `faults` | returns these and the remaining faults as reasons over cells and facets |
+//! | `texts` | finds the first difference of two texts |
+//! | `checking` | runs these in order; `stop` is the error on the way |
+//! | `laws` | the theorem about all answers |
+//!
+//! The crate depends on `cert_text` (certificates), `solution` (points, sights and the definition of a solution), `scan_cut` (cells and
+//! weights), `cell_net` (their network), `flow_valid` and `max_flow` (totals at cells, and the minimum cut with the smallest inside) and
+//! `surface` (the mesh of labels).
 #![tactic(auto)]
 
 mod answer;
@@ -32,5 +40,5 @@ pub use checking::{CheckedTexts, check_all, check_all_watched};
 pub use laws::answers_are_unique;
 use std::alloc::AllocError;
 
-/// Want of memory: the one answer that any input may get.
+/// Out of memory: the one error that any input may cause.
 pub type NoMemory = AllocError;

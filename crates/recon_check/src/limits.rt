@@ -1,4 +1,4 @@
-//! Rows that state what must not be, by the numbers of the cells and sides that they are about. It stands on networks by numbers.
+//! Rows that state too much, by the numbers of the cells and sides that they name. It depends on networks by numbers.
 
 ghost use Rattle.std.specs.Prelude.{◌≡◌, ◌<◌, EachIndex, IfSome, IfNone, length, slice_index};
 ghost use Rattle.flow_net.specs.Firsts.{IsFirst, NoneBelow};
@@ -8,7 +8,7 @@ ghost use Rattle.recon_check.specs.ByRows.{IsFixedAt, IsOverAt, IsOverSinkAt, Is
 
 use flow_net::{Flow, FlowNetwork, Labels};
 
-/// The first of these nodes that is fixed, if there is one.
+/// Finds the index of the first of these nodes that is fixed.
 pub fn first_fixed<N: FlowNetwork>(net: &N, nodes: &[usize]) -> Option<usize>
     requires { EachIndex nodes.now (λ k. slice_index nodes.now k < (N.numbered net.now).node_count) }
     ensures first { IfSome result (IsFirst (length nodes.now) (IsFixedAt (N.numbered net.now) nodes.now)) }
@@ -22,7 +22,7 @@ pub fn first_fixed<N: FlowNetwork>(net: &N, nodes: &[usize]) -> Option<usize>
     None
 }
 
-/// The first of these arcs on which more flows than its capacity, if there is one.
+/// Finds the index of the first of these arcs whose flow exceeds its capacity.
 pub fn first_over<N: FlowNetwork>(net: &N, arcs: &[usize], flow: &Flow) -> Option<usize>
     requires arcs { EachIndex arcs.now (λ k. slice_index arcs.now k < (N.numbered net.now).arc_count) }
     requires amounts { length flow.now.on_arc ≡ (N.numbered net.now).arc_count }
@@ -39,7 +39,7 @@ pub fn first_over<N: FlowNetwork>(net: &N, arcs: &[usize], flow: &Flow) -> Optio
     None
 }
 
-/// The most that may leave at a node's sink: nothing where the node is fixed.
+/// Returns the limit of the flow at a node's sink: its capacity, or 0 if the node is fixed.
 pub fn limit_at<N: FlowNetwork>(net: &N, node: usize) -> u64
     requires { node < (N.numbered net.now).node_count }
     ensures { result ≡ sink_limit (network_by (N.numbered net.now)) node }
@@ -51,7 +51,7 @@ pub fn limit_at<N: FlowNetwork>(net: &N, node: usize) -> u64
     }
 }
 
-/// The first of these nodes at whose sink more leaves than may, if there is one.
+/// Finds the index of the first of these nodes whose flow at the sink exceeds its limit.
 pub fn first_over_sink<N: FlowNetwork>(net: &N, nodes: &[usize], flow: &Flow) -> Option<usize>
     requires nodes { EachIndex nodes.now (λ k. slice_index nodes.now k < (N.numbered net.now).node_count) }
     requires amounts { length flow.now.on_sink ≡ (N.numbered net.now).node_count }
@@ -68,7 +68,7 @@ pub fn first_over_sink<N: FlowNetwork>(net: &N, nodes: &[usize], flow: &Flow) ->
     None
 }
 
-/// The first of these nodes that is outside by labels, if there is one.
+/// Finds the index of the first of these nodes that is outside by these labels.
 pub fn first_outside(nodes: &[usize], labels: &Labels) -> Option<usize>
     requires { EachIndex nodes.now (λ k. slice_index nodes.now k < length labels.now.inside) }
     ensures first { IfSome result (IsFirst (length nodes.now) (IsOutsideAt labels.now.inside nodes.now)) }

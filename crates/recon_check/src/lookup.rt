@@ -1,7 +1,7 @@
-//! Rows of a certificate found by what they are about. It stands on `cert_text` alone.
+//! Rows of a certificate found by the cell or facet that they name. It depends on `cert_text` alone.
 //!
-//! The rows of a list rise, so those that begin with one number stand together. A table has for each number the place of the first row
-//! that begins with it or a greater one, and a row is searched between two places of the table alone.
+//! The rows of a list are sorted, so those with the same first number are adjacent. A table has for each number the index of the first row
+//! that begins with it or a greater one, and the search for a row bisects between two entries of the table.
 
 ghost use Rattle.std.specs.Prelude.{◌≡◌, ◌≢◌, ◌<◌, ◌≤◌, [], ℕ, IfOk, IfSome, IfNone, AllPairs, length, map, slice_index_or};
 ghost use Rattle.geo_sign.specs.Rising.{IsBefore};
@@ -11,7 +11,7 @@ use crate::NoMemory;
 use cert_text::Row;
 use std::alloc::Global;
 
-/// The first number of a key, and 0 where it has none.
+/// Returns the first number of a key, or 0 for an empty key.
 fn first_number(key: &[u32]) -> usize
     ensures { result ≡ least_number key.now }
 {
@@ -21,7 +21,7 @@ fn first_number(key: &[u32]) -> usize
     }
 }
 
-/// The first place, from this one on, of a row that begins with this number or a greater one.
+/// Returns the index of the first row, from this index on, that begins with this number or a greater one.
 fn skip<R: Row>(rows: &[R], from: usize, number: usize) -> usize
     requires { from ≤ length rows.now }
     ensures within { result ≤ length rows.now }
@@ -36,7 +36,7 @@ fn skip<R: Row>(rows: &[R], from: usize, number: usize) -> usize
     place
 }
 
-/// For each number below a count the place of the first row that begins with it or a greater one.
+/// Returns, for each number below a count, the index of the first row that begins with it or a greater one.
 pub fn starts_of<R: Row>(alloc: Global, rows: &[R], count: usize) -> Result<Vec<usize>, NoMemory>
     requires { AllPairs IsBefore (map R.key rows.now) }
     ensures { IfOk result (λ starts. AreStarts (map R.key rows.now) starts.items) }
@@ -50,7 +50,7 @@ pub fn starts_of<R: Row>(alloc: Global, rows: &[R], count: usize) -> Result<Vec<
     Ok(starts)
 }
 
-/// The place of the row with this key among those from one place to another.
+/// Bisects for the row with this key between two indices, and returns its index.
 fn search<R: Row>(rows: &[R], from: usize, to: usize, key: &[u32]) -> Option<usize>
     requires rising { AllPairs IsBefore (map R.key rows.now) }
     requires within { to ≤ length rows.now }
@@ -74,8 +74,7 @@ fn search<R: Row>(rows: &[R], from: usize, to: usize, key: &[u32]) -> Option<usi
     }
 }
 
-/// The place of the row with this key, if there is one. Only rows that begin with its first number are looked at, where that is in the
-/// table.
+/// Returns the index of the row with this key. If the first number of the key is in the table, only rows that begin with it are read.
 pub fn find<R: Row>(rows: &[R], starts: &[usize], key: &[u32]) -> Option<usize>
     requires rising { AllPairs IsBefore (map R.key rows.now) }
     requires starts { AreStarts (map R.key rows.now) starts.now }

@@ -1,4 +1,4 @@
-//! The stamp of a certificate against that of this run. It stands on `cert_text`.
+//! The fingerprint of the input that a certificate has against that of this run. It depends on `cert_text`.
 
 ghost use Rattle.std.specs.Prelude.{◌≡◌, ◌≢◌, IfSome, IfNone};
 ghost use Rattle.std.specs.Bool.{OnTrue, OnFalse};
@@ -9,7 +9,7 @@ use crate::Reason;
 use cert_text::{Certificate, Stamp};
 use geo_sign::Point;
 
-/// Whether two points are in one place.
+/// Compares two points.
 fn is_same_point(a: &Point, b: &Point) -> bool
     ensures yes { OnTrue result (a.now ≡ b.now) }
     ensures no { OnFalse result (a.now ≢ b.now) }
@@ -17,7 +17,7 @@ fn is_same_point(a: &Point, b: &Point) -> bool
     a.x() == b.x() && a.y() == b.y() && a.z() == b.z()
 }
 
-/// Whether two fixed scanners are in one place, or there is none in both.
+/// Compares two fixed scanners; two missing ones are the same.
 fn is_same_place(a: &Option<Point>, b: &Option<Point>) -> bool
     ensures yes { OnTrue result (a.now ≡ b.now) }
     ensures no { OnFalse result (a.now ≢ b.now) }
@@ -31,7 +31,7 @@ fn is_same_place(a: &Option<Point>, b: &Option<Point>) -> bool
     }
 }
 
-/// The first part of a stamp that is stated otherwise than it is here, if there is one.
+/// Finds the first part of a fingerprint that differs from that of this run: digest, scale, fixed scanner.
 fn other_part(stated: &Stamp, here: &Stamp) -> Option<Reason>
     ensures same { IfNone result (stamp_view stated.now ≡ stamp_view here.now) }
     ensures other { IfSome result (IsOtherPart (stamp_view here.now) (stamp_view stated.now)) }
@@ -57,8 +57,8 @@ fn other_part(stated: &Stamp, here: &Stamp) -> Option<Reason>
     None
 }
 
-/// The first part of a certificate's stamp that is not that of this run, if there is one. A certificate without a stamp
-/// does not say which scan it belongs to.
+/// Finds the first part of a certificate's fingerprint that differs from that of this run. A certificate without a fingerprint belongs to
+/// any scan, so it returns `None`.
 pub fn other_stamp(stamp: &Stamp, cert: &Certificate) -> Option<Reason>
     ensures same { IfNone result (IsStampedFor (stamp_view stamp.now) (claim_of cert.now)) }
     ensures other { IfSome result (IsOtherStamp (stamp_view stamp.now) (claim_of cert.now)) }

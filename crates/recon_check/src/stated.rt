@@ -1,8 +1,8 @@
-//! What a certificate states about linked cells, by the numbers of cells and sides. It stands on the search for rows, and on the cells of
-//! `tetra_store` with what `vote_net` says of their rows and facets.
+//! What a certificate states about linked cells, by the numbers of cells and sides. It depends on the search for rows, on the cells of
+//! `tetra_store` and on the rows and facets of `vote_net`.
 //!
-//! The cells are walked by their numbers, each is looked up among the rows, and what is found notes its number at the row. A row at which
-//! none is noted is about nothing that is there; the others tell at which numbers labels and amounts stand.
+//! A loop over all cell numbers looks each cell up among the rows and writes its number at the row that names it. A row without a number
+//! names no cell of the scan; the numbers of the others are the indices of labels and amounts.
 
 ghost use Rattle.std.specs.Prelude.{◌≡◌, ◌≢◌, ◌<◌, ◌≤◌, ◌+◌, ◌*◌, ◌/◌, ◌%◌, ◌^◌, ℕ, true, false, IfOk, IfErr, IfSome, IfNone, AllPairs, OnOk, length, map, slice_index};
 ghost use Rattle.cell_net.specs.Arcs.{across, is_free};
@@ -37,13 +37,13 @@ pub struct Stated {
     pub sides: Vec<usize>,
     /// The number of the cell of each sink row.
     pub at_sinks: Vec<usize>,
-    /// Which cells are inside.
+    /// The labels: one flag for each cell number.
     pub labels: Labels,
-    /// What flows over sides and into sinks.
+    /// The flow over sides and into sinks.
     pub flow: Flow,
 }
 
-/// Notes a number at the row with this key, if there is one.
+/// Writes a number at the row with this key, if there is one.
 fn note<R: Row>(rows: &[R], starts: &[usize], key: &[u32], number: usize, numbers: &mut [usize])
     requires rising { AllPairs IsBefore (map R.key rows.now) }
     requires starts { AreStarts (map R.key rows.now) starts.now }
@@ -55,7 +55,7 @@ fn note<R: Row>(rows: &[R], starts: &[usize], key: &[u32], number: usize, number
     }
 }
 
-/// For each row the number of the cell that it is about, and the limit where there is none.
+/// Returns, for each row, the number of the cell that it names, or the limit if it names none.
 fn cells_of_rows<R: Row>(
     alloc: Global,
     t: &Tetra,
@@ -76,7 +76,7 @@ fn cells_of_rows<R: Row>(
     Ok(cells)
 }
 
-/// The facet of the side with this number, if there is a free cell across.
+/// Returns the facet of the side with this number, if its adjacent cell is free.
 fn open_facet(t: &Tetra, fixed: &[bool], number: usize) -> Option<[u32; 3]>
     ensures open { IfSome result (λ facet. is_free fixed.now (across t.now.slots number) ≡ true) }
     ensures facet { IfSome result (λ facet. facet ≡ side_facet t.now.slots number) }
@@ -91,7 +91,7 @@ fn open_facet(t: &Tetra, fixed: &[bool], number: usize) -> Option<[u32; 3]>
     Some(facet_row(t.vertices(id), side))
 }
 
-/// For each row the number of the side that it is about, and the limit where there is none.
+/// Returns, for each row, the number of the side that it names, or the limit if it names none.
 fn sides_of_rows(
     alloc: Global,
     t: &Tetra,
@@ -114,7 +114,7 @@ fn sides_of_rows(
     Ok(sides)
 }
 
-/// The first place of a number that is not below the limit.
+/// Finds the index of the first number that is not below the limit.
 fn first_past(numbers: &[usize], limit: usize) -> Option<usize>
     ensures some { IfSome result (IsFirst (length numbers.now) (λ k. limit ≤ slice_index numbers.now k)) }
     ensures none { IfNone result ((k : ℕ) → k < length numbers.now → slice_index numbers.now k < limit) }
@@ -127,7 +127,7 @@ fn first_past(numbers: &[usize], limit: usize) -> Option<usize>
     None
 }
 
-/// So many flags, of which those at these numbers are set.
+/// Returns `count` flags, set at these numbers.
 fn flags_at(alloc: Global, numbers: &[usize], count: usize) -> Result<Vec<bool>, NoMemory>
     requires { (k : ℕ) → k < length numbers.now → slice_index numbers.now k < count }
     ensures count { IfOk result (λ flags. length flags.items ≡ count) }
@@ -141,7 +141,7 @@ fn flags_at(alloc: Global, numbers: &[usize], count: usize) -> Result<Vec<bool>,
     Ok(flags)
 }
 
-/// So many amounts: those of flow rows at their numbers, and 0 at others.
+/// Returns `count` amounts: those of flow rows at their numbers, and 0 elsewhere.
 fn flow_at(
     alloc: Global,
     rows: &[FlowRow],
@@ -162,7 +162,7 @@ fn flow_at(
     Ok(amounts)
 }
 
-/// So many amounts: those of sink rows at their numbers, and 0 at others.
+/// Returns `count` amounts: those of sink rows at their numbers, and 0 elsewhere.
 fn sinks_at(
     alloc: Global,
     rows: &[SinkRow],
@@ -183,7 +183,7 @@ fn sinks_at(
     Ok(amounts)
 }
 
-/// What a certificate states about the cells of a scene and their sides. Each row has to be about one of these.
+/// Returns what a certificate states about the cells of a scene and their sides. The error is the first row that names none of these.
 pub fn stated_by(
     alloc: Global,
     t: &Tetra,

@@ -1,4 +1,4 @@
-//! Why a check stops before its end. It stands on the reasons.
+//! Why a check stops before its end. It depends on the reasons.
 
 ghost use Rattle.std.specs.Prelude.{◌≡◌};
 ghost use Rattle.recon_check.specs.declared.stop.Stop.TheVariants as stops;
@@ -6,12 +6,12 @@ ghost use Rattle.recon_check.specs.declared.stop.Stop.TheVariants as stops;
 use crate::Reason;
 use std::alloc::{AllocError, AllocFailed};
 
-/// Why a check goes no further.
+/// The error of a step of the check.
 #[derive(Clone, Copy, Debug, Drop)]
 pub enum Stop {
-    /// A reason was found.
+    /// A reason for the answer no.
     Fault(Reason),
-    /// There was no memory.
+    /// Out of memory.
     NoMemory,
 }
 

@@ -1,10 +1,9 @@
-//! Where two texts differ. It stands on nothing else.
+//! Where two texts differ.
 
 ghost use Rattle.std.specs.Prelude.{◌≡◌, IfSome, IfNone};
 ghost use Rattle.recon_check.specs.Differences.{IsFirstDifference};
 
-/// The first place at which two texts differ, if they do. Where one is the front of the other, it is the length of the
-/// shorter one.
+/// Finds the first position at which two texts differ. If one is a prefix of the other, that is the length of the shorter one.
 pub fn first_difference(text: &[u8], other: &[u8]) -> Option<usize>
     ensures same { IfNone result (text.now ≡ other.now) }
     ensures differs { IfSome result (IsFirstDifference text.now other.now) }

@@ -25,7 +25,7 @@ box_across =
 abbrev pub box_keepers : List ℕ
 box_keepers = 0 ∷ 0 ∷ 0 ∷ 1 ∷ 0 ∷ 2 ∷ 3 ∷ 5 ∷ []
 
--- the corners of one of the six, written positively
+-- the corners of one of the six, positively oriented
 abbrev pub box_row : ℕ → List ℕ
 box_row i = slice_index_or box_rows i []
 

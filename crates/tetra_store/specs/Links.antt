@@ -61,7 +61,7 @@ pub record IsOnlyAcross (links : Links) (id k other : ℕ) : Type 0 where
   pub back : IsBack links id k other
   pub only : (z m : ℕ) → IsLive links z → m < 4 → IsTurned (facet_of (links.at id) k) (facet_of (links.at z) m) → z ≡ other
 
--- Each cell is written positively over distinct vertices that are in. Neighbors name each other across the same facet in the
+-- Each cell is positively oriented over distinct vertices that are in. Neighbors name each other across the same facet in the
 -- two directions. A facet has no neighbor exactly on a wall. No two cells have a directed facet in common.
 pub record IsLinked (v : Vertices) (links : Links) : Type 0 where
   pub has : (id k : ℕ) → IsLive links id → k < 4 → Has v (vertex_of (links.at id) k)

@@ -2,7 +2,7 @@
 --
 --   Store                            points, which are inserted, slots of the cells, kept cells, room, capacity
 --   data_points_of s                 the points of all vertices but the corners
---   vertices_at points inserted      vertices by number, with the heights of the tie rule
+--   vertices_at points inserted      vertices by number, with the heights of the symbolic perturbation
 --   vertices_of s                    those of a store
 --   AreVertices points inserted      they are the corners and data points
 --   AreKept s                        each inserted vertex's kept cell is live and has it
@@ -36,7 +36,7 @@ pub record Store : Type 0 where
 abbrev pub data_points_of : Store → List Point
 data_points_of s = drop CORNERS s.points
 
--- these vertices by number, with the heights of the tie rule
+-- these vertices by number, with the heights of the symbolic perturbation
 abbrev pub vertices_at : List Point → List Bool → Vertices
 vertices_at points inserted =
     record {

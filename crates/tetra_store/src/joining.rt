@@ -2,7 +2,7 @@
 //!
 //! Two of them are neighbors where their facets have an edge in its two directions. So the directed edges are listed, and hints say
 //! where the reverse of each stands. Each is checked before it is used. If one is wrong, the edges are sorted by their two vertices in
-//! rising order, and the reverse of each is then next to it. No memory is taken.
+//! ascending order, and the reverse of each is then next to it. No memory is taken.
 
 ghost use Rattle.std.specs.Prelude.{List, IfSome, ◌≡◌, ◌<◌, ◌≤◌, ◌+◌, ◌*◌, ◌^◌, ℕ, true, false, [], length, slice_index, vec_capacity, Contains};
 ghost use Rattle.std.specs.List.Sorted.{IsPermutation};

@@ -36,5 +36,5 @@ pub use link::Cell;
 use std::alloc::AllocError;
 pub use store::{MOST_CELLS, Neighbor, Tetra};
 
-/// Want of memory: the one answer that any input may get.
+/// Out of memory: the one answer that any input may get.
 pub type NoMemory = AllocError;

@@ -72,7 +72,7 @@ fn assign_listed(cells: &Slab<Linked>, order: &[u32], places: &mut Places) -> Re
     Ok(())
 }
 
-/// Gives all cells that have none a place, by rising number.
+/// Gives all cells that have none a place, by ascending number.
 fn assign_rest(cells: &Slab<Linked>, places: &mut Places) -> Result<(), NoMemory>
     requires assigned { AreAssigned (links_of cells.now.slots) places.old.of.items places.old.from.items }
     requires few { length places.old.of.items < 2 ^ 32 }

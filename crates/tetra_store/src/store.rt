@@ -173,7 +173,7 @@ impl Tetra {
 
     /// Makes room for so many cells more than there are, so that the store is not copied while it grows by these. It gives `replace`
     /// no room: `reserve` does, and takes no more memory for cells then. Points, cells and what is inserted stay in any case, and the
-    /// room that `replace` has does not grow less. Want of memory is answered too where numbers of cells would not fit 32 bits.
+    /// room that `replace` has does not grow less. Out of memory is answered too where numbers of cells would not fit 32 bits.
     pub fn reserve_cells(&mut self, cells: usize) -> Result<(), NoMemory>
         ensures spare { OnOk result (self.old.spare ≤ self.new.spare) }
         ensures capacity { self.old.capacity ≤ self.new.capacity }
@@ -192,7 +192,7 @@ impl Tetra {
         Ok(())
     }
 
-    /// Makes room for so many cells, so that `replace` may put them in with no memory taken. Want of memory is answered too where
+    /// Makes room for so many cells, so that `replace` may put them in with no memory taken. Out of memory is answered too where
     /// numbers of cells would not fit 32 bits. Points, cells and what is inserted stay in any case.
     pub fn reserve(&mut self, cells: usize) -> Result<(), NoMemory>
         ensures spare { OnOk result (cells ≤ self.new.spare) }

@@ -11,7 +11,7 @@ use Rattle.geo_sign.specs.Tetrahedron.{DirectedFacet, is_among}
 use Rattle.geo_sign.specs.Vertices.{Vertices}
 use Rattle.geo_sign.specs.Cells.{written}
 
--- a list of cells, each by its four rising numbers, and a list of directed facets, each by its three numbers with the
+-- a list of cells, each by its four ascending numbers, and a list of directed facets, each by its three numbers with the
 -- smallest first
 pub record Complex : Type 0 where
   pub cells : List (List ℕ)

@@ -39,7 +39,7 @@ network_over s complex =
 abbrev pub is_cut : Vertices → List (List ℕ) → (List ℕ → Bool) → List ℕ → Bool
 is_cut v cells inside f = not (inside (cell_of v cells (facet_at f))) && inside (cell_of v cells (turned (facet_at f)))
 
--- the facets between outside and inside, as outside cells have them, in rising order
+-- the facets between outside and inside, as outside cells have them, in ascending order
 abbrev pub cut_facets : Vertices → Complex → (List ℕ → Bool) → List (List ℕ)
 cut_facets v complex inside = filter (is_cut v complex.cells inside) complex.facets
 

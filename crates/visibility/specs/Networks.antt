@@ -4,7 +4,7 @@
 --   facet_index facets f     the index of a facet in the list
 --   pair_of s complex f      the number of the reverse arc
 --   arc_of s complex f       the arc of a facet
---   IsNetworkOf s voted      the network of the scene, its cells and facets in rising order
+--   IsNetworkOf s voted      the network of the scene, its cells and facets in ascending order
 --   IsNetworkAmong v voted   the network of some scene of these vertices
 use Rattle.std.specs.Prelude.{ℕ, ◌≡◌, Option, Some, None, List, map, if◌then◌else◌}
 use Rattle.std.specs.List.{position_or_len}
@@ -43,7 +43,7 @@ arc_of s complex f =
       pair = pair_of s complex (facet_at f);
     }
 
--- the network of the scene, with its cells and facets in rising order
+-- the network of the scene, with its cells and facets in ascending order
 pub record IsNetworkOf (s : Scene) (voted : Voted) : Type 0 where
   pub complex_is : IsComplexOf s (complex_of voted)
   pub fixed_is : voted.net.fixed ≡ map (is_fixed s.vertices s.scanners) voted.cells

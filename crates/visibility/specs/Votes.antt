@@ -65,7 +65,7 @@ pub record HasCapacity (s : Scene) (cells : List (List ℕ)) (f : List ℕ) : Ty
   pub across : HasFacet s.vertices cells (turned (facet_at f))
   pub free : is_fixed s.vertices s.scanners (cell_of s.vertices cells (turned (facet_at f))) ≡ false
 
--- the list of all facets that have a capacity: each once, in rising order
+-- the list of all facets that have a capacity: each once, in ascending order
 pub record IsFacetList (s : Scene) (cells facets : List (List ℕ)) : Type 0 where
   pub rising : AllPairs IsBefore facets
   pub only : (f : List ℕ) → Contains facets f → HasCapacity s cells f

@@ -1,4 +1,4 @@
-//! Laws over the definitions, as the contracts of calls that do nothing.
+//! Theorems on the definitions, as the contracts of calls that do nothing.
 
 ghost use Rattle.visibility.specs.Laws.{CapacitiesFit, SinksFit, LeastCostIsSmall, FacetsAreOrdered, OneComplex};
 ghost use Rattle.visibility.specs.Scenes.{Scene};

@@ -19,7 +19,7 @@ use tetra_store::{CellId, MOST_CELLS, Tetra};
 use tetra_walk::behind;
 use watch::{Stage, Watch, tell};
 
-/// Accumulated visibility weights: `crossed[4 * id + side]` per directed facet, and `before[id]` for the cell behind each
+/// Accumulated visibility weights: `crossed[4 * id + side]` per directed facet, and `behind[id]` for the cell behind each
 /// sight's point.
 #[derive(Drop)]
 pub(crate) struct Counts {

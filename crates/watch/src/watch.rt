@@ -22,10 +22,11 @@ pub enum Stage {
 
 /// A progress callback. Its effects cannot change the result of the call that reports to it.
 pub trait Watch {
-    /// A stage begins, with this number of points, sights or surfaces, or 0 if the number of nodes or rounds is unknown.
+    /// Receives the start of a stage, with its number of points, sights or surfaces, or 0 if the number of nodes or rounds is
+    /// unknown.
     fn stage(&mut self, stage: Stage, of: u64);
 
-    /// This number of items of the current stage is done.
+    /// Receives the number of items of the current stage that are done.
     fn done(&mut self, count: u64);
 }
 

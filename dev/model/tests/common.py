@@ -20,14 +20,14 @@ def text(*lines: str) -> bytes:
 
 
 def plain(rows: Sequence[tuple[int, int, int, int]], scanners: Sequence[Point]) -> bytes:
-    """A scan in the plain form; a row is a point and the index of its scanner."""
+    """Returns a scan in the plain form; a row is a point and the index of its scanner."""
     head = ['ply', 'format ascii 1.0', f'element vertex {len(rows)}', *XYZ, 'property int scanner', f'element scanner {len(scanners)}', *XYZ,
             'end_header']
     return text(*head, *(' '.join(map(str, row)) for row in [*rows, *scanners]))
 
 
 def outward(points: Sequence[Point]) -> bytes:
-    """Each point seen from a scanner of its own, ten times as far out."""
+    """Returns each point seen from a scanner of its own, ten times as far out."""
     return plain([(*p, i) for i, p in enumerate(points)], [(10 * x, 10 * y, 10 * z) for x, y, z in points])
 
 
@@ -45,19 +45,19 @@ VERSION_1 = text('recon certificate 1', 'points 4', 'scanners 4', 'sights 4', 'v
 
 
 def stamped(cert: bytes, scan: bytes, unit: int = 1, fixed: str = 'none') -> bytes:
-    """A certificate of version 1 in version 2."""
+    """Returns a certificate of version 1 in version 2."""
     stamp = text('recon certificate 2', 'scan ' + hashlib.sha256(scan).hexdigest(), f'unit {unit}', 'scanner ' + fixed)
     return stamp + cert.split(b'\n', 1)[1]
 
 
 def changed(data: bytes, line: int, *new: str) -> bytes:
-    """The text with a line, counted from 1, replaced."""
+    """Returns the text with a line, counted from 1, replaced."""
     lines = data.split(b'\n')
     return b'\n'.join(lines[:line - 1] + [n.encode() for n in new] + lines[line:])
 
 
 def rows_of(cert: bytes, name: str) -> list[str]:
-    """The rows of a list of a certificate."""
+    """Returns the rows of a list of a certificate."""
     lines = cert.decode().split('\n')
     at = next(k for k, line in enumerate(lines) if line.split(' ')[0] == name and line.count(' ') == 1)
     return lines[at + 1:at + 1 + int(lines[at].split(' ')[1])]

@@ -42,7 +42,7 @@ def of_lines(count: int) -> bytes:
 
 
 def with_rows(tails: list[str], line: str) -> bytes:
-    """The tetrahedron with other ends of its rows, and another line for its property `scanner`."""
+    """Returns the tetrahedron with other ends of its rows, and another line for its property `scanner`."""
     lines = TETRAHEDRON.decode().split('\n')
     lines[12:16] = [row.rsplit(' ', 1)[0] + ' ' + tail for row, tail in zip(lines[12:16], tails)]
     lines[6] = line

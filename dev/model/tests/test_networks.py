@@ -27,7 +27,7 @@ KINDS: dict[str, Callable[[random.Random], Point]] = {
 
 
 def drawn(draw: random.Random) -> Scan:
-    """A small scan of some kind, its scanners far out, among the points and at points."""
+    """Returns a small scan of some kind, its scanners far out, among the points and at points."""
     kind = draw.choice(list(KINDS))
     points = list(dict.fromkeys(KINDS[kind](draw) for _ in range(draw.randint(1, 7))))
     scanners = [draw.choice([draw.choice(points), (0, 0, 0), (draw.randint(-8, 8), draw.randint(-8, 8), draw.randint(-8, 8)), (LIMIT, -LIMIT, 7)])
@@ -37,7 +37,7 @@ def drawn(draw: random.Random) -> Scan:
 
 
 def best_by_trying(network: Network) -> set[int]:
-    """The intersection of all labels of least cost, by trying all labels."""
+    """Returns the intersection of all labels of least cost, by trying all labels."""
     free = [k for k, fixed in enumerate(network.fixed) if not fixed]
     every = [set(some) for n in range(len(free) + 1) for some in combinations(free, n)]
     least = min(network.cost(labels) for labels in every)

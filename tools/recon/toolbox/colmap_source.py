@@ -25,7 +25,7 @@ Picture = Tuple[int, List[float]]
 
 
 def place_of(turn: Sequence[float], shift: Sequence[float]) -> list[float]:
-    """Where a camera stands, of its turn (a quaternion, w first) and its shift, which bring the world into its frame."""
+    """Returns where a camera stands, of its turn (a quaternion, w first) and its shift, which bring the world into its frame."""
     if not all(map(isfinite, (*turn, *shift))):
         raise Refusal('the pose of a picture is not finite')
     rows = turn_of(*turn)
@@ -38,7 +38,7 @@ def place_of(turn: Sequence[float], shift: Sequence[float]) -> list[float]:
 
 
 def text_pictures(file: BinaryIO) -> Iterator[Picture]:
-    """The pictures of a text: two lines each; the second, its points, may be empty."""
+    """Yields the pictures of a text: two lines each; the second, its points, may be empty."""
     is_picture = True
     for number, line in enumerate(file, 1):
         if line.startswith(b'#'):
@@ -56,7 +56,7 @@ def text_pictures(file: BinaryIO) -> Iterator[Picture]:
 
 
 def binary_pictures(file: BinaryIO) -> Iterator[Picture]:
-    """The pictures of a binary file."""
+    """Yields the pictures of a binary file."""
     row, length = 0, os.fstat(file.fileno()).st_size
     try:
         for row in range(struct.unpack('<Q', file.read(8))[0]):
@@ -77,7 +77,7 @@ def binary_pictures(file: BinaryIO) -> Iterator[Picture]:
 
 
 def read_pictures(path: str) -> list[Picture]:
-    """The pictures of a file, in its order."""
+    """Returns the pictures of a file, in its order."""
     with open(path, 'rb') as file:
         found = list(islice(binary_pictures(file) if path.endswith('.bin') else text_pictures(file), SCANNER_LIMIT + 1))
     if not found or len(found) > SCANNER_LIMIT:
@@ -151,14 +151,14 @@ Track = Tuple[List[str], List[int]]
 
 
 def sparse_model(name: str) -> str | None:
-    """The points of a sparse model that a name is, or that stand in the folder that it is; else None."""
+    """Returns the points of a sparse model that a name is, or that stand in the folder that it is; else None."""
     if os.path.isdir(name):
         return next((path for path in (os.path.join(name, model) for model in MODEL) if os.path.exists(path)), None)
     return name if os.path.basename(name).endswith(MODEL) else None
 
 
 def binary_tracks(file: BinaryIO) -> Iterator[Track]:
-    """The points of points3D.bin: x, y, z, red, green and blue as words, and the numbers of their pictures."""
+    """Yields the points of points3D.bin: x, y, z, red, green and blue as words, and the numbers of their pictures."""
     row, length = 0, os.fstat(file.fileno()).st_size
     try:
         for row in range(struct.unpack('<Q', file.read(8))[0]):
@@ -173,7 +173,7 @@ def binary_tracks(file: BinaryIO) -> Iterator[Track]:
 
 
 def text_tracks(file: BinaryIO) -> Iterator[Track]:
-    """The points of points3D.txt: ID X Y Z R G B ERROR, and a picture and the number of its point for each of the track."""
+    """Yields the points of points3D.txt: ID X Y Z R G B ERROR, and a picture and the number of its point for each of the track."""
     for number, line in enumerate(file, 1):
         words = line.decode('latin-1').split()
         if not words or words[0].startswith('#'):
@@ -208,7 +208,7 @@ class Sparse(Source):
         return f'; {number_of(self.sights, "sight")}'
 
     def seen_by(self, track: list[int]) -> list[int]:
-        """The rows of the pictures of a track, each once."""
+        """Returns the rows of the pictures of a track, each once."""
         try:
             return sorted({self.number[identity] for identity in track})
         except KeyError as missing:

@@ -25,7 +25,7 @@ def orient(a: Vector, b: Vector, c: Vector, d: Vector) -> int:
 
 
 def cross(places: Places, one: Sequence[int], other: Sequence[int]) -> bool:
-    """Whether two triangles cross that are given by the numbers of their corners."""
+    """Returns whether two triangles cross that are given by the numbers of their corners."""
     common = [corner for corner in one if corner in other]
     rest_one = [corner for corner in one if corner not in common]
     rest_other = [corner for corner in other if corner not in common]
@@ -43,14 +43,14 @@ def cross(places: Places, one: Sequence[int], other: Sequence[int]) -> bool:
 
 
 def apart(places: Places, triangle: Sequence[int], corners: Sequence[int]) -> bool:
-    """Whether these corners lie strictly on one side of the plane of a triangle."""
+    """Returns whether these corners lie strictly on one side of the plane of a triangle."""
     a, b, c = (places[corner] for corner in triangle)
     signs = [orient(a, b, c, places[corner]) for corner in corners]
     return min(signs) > 0 or max(signs) < 0
 
 
 def lies_on(places: Places, edge: Sequence[int], one: int, other: int) -> bool:
-    """Whether two triangles with a common edge lie in one plane on one side of it."""
+    """Returns whether two triangles with a common edge lie in one plane on one side of it."""
     a, b = (places[corner] for corner in edge)
     c, d = places[one], places[other]
     if orient(a, b, c, d):
@@ -60,7 +60,7 @@ def lies_on(places: Places, edge: Sequence[int], one: int, other: int) -> bool:
 
 
 def meets(places: Places, segment: Sequence[int], triangle: Sequence[int]) -> bool:
-    """Whether a segment and a triangle, both with their ends and edges, have a place in common."""
+    """Returns whether a segment and a triangle, both with their ends and edges, have a place in common."""
     p, q = (places[corner] for corner in segment)
     a, b, c = (places[corner] for corner in triangle)
     side_p, side_q = orient(a, b, c, p), orient(a, b, c, q)
@@ -73,7 +73,7 @@ def meets(places: Places, segment: Sequence[int], triangle: Sequence[int]) -> bo
 
 
 def flat_axis(a: Vector, b: Vector, c: Vector) -> int:
-    """An axis along which the plane of a triangle is seen as more than a line."""
+    """Returns an axis along which the plane of a triangle is seen as more than a line."""
     for axis in range(3):
         if turn(axis, a, b, c):
             return axis
@@ -87,7 +87,7 @@ def turn(axis: int, a: Vector, b: Vector, c: Vector) -> int:
 
 
 def meets_flat(p: Vector, q: Vector, a: Vector, b: Vector, c: Vector) -> bool:
-    """The same in the plane of the triangle."""
+    """Returns the same in the plane of the triangle."""
     axis = flat_axis(a, b, c)
     way = 1 if turn(axis, a, b, c) > 0 else -1
     if all(turn(axis, one, other, p) * way >= 0 for one, other in ((a, b), (b, c), (c, a))):
@@ -96,12 +96,12 @@ def meets_flat(p: Vector, q: Vector, a: Vector, b: Vector, c: Vector) -> bool:
 
 
 def segments_meet(axis: int, p: Vector, q: Vector, a: Vector, b: Vector) -> bool:
-    """Whether two segments of a plane have a place in common."""
+    """Returns whether two segments of a plane have a place in common."""
     if separated(turn(axis, p, q, a), turn(axis, p, q, b)) or separated(turn(axis, a, b, p), turn(axis, a, b, q)):
         return False
     return all(max(min(p[k], q[k]), min(a[k], b[k])) <= min(max(p[k], q[k]), max(a[k], b[k])) for k in range(3))
 
 
 def separated(one: int, other: int) -> bool:
-    """Whether two ends are strictly on one side."""
+    """Returns whether two ends are strictly on one side."""
     return one > 0 and other > 0 or one < 0 and other < 0

@@ -48,11 +48,11 @@ class Column:
             raise Refusal(f'a column of the E57 has values of over {MOST_BITS} bits')
 
     def count(self, limit: int) -> int:
-        """How many values are there, or the limit where a value takes no bits."""
+        """Returns how many values are there, or the limit where a value takes no bits."""
         return (8 * len(self.bytes) - self.bit) // self.bits if self.bits else limit
 
     def take(self, count: int) -> Sequence[float]:
-        """The next values."""
+        """Returns the next values."""
         if self.code:
             size = count * self.bits // 8
             floats = struct.unpack(f'<{count}{self.code}', self.bytes[:size])
@@ -100,12 +100,12 @@ class Station:
         self.place = tuple(self.part(node, 'translation', axis, 0) for axis in 'xyz')
 
     def columns(self) -> list[Column]:
-        """The columns of its points, before their first bytes."""
+        """Returns the columns of its points, before their first bytes."""
         return [Column(node) for node in self.nodes]
 
     @staticmethod
     def part(node: ElementTree.Element, what: str, axis: str, otherwise: int) -> float:
-        """A number of the pose: 0 where its element is empty, and another where there is none."""
+        """Returns a number of the pose: 0 where its element is empty, and another where there is none."""
         found = node.find(f'pose/{what}/{axis}')
         return float(otherwise) if found is None else float((found.text or '').strip() or 0)
 
@@ -145,11 +145,11 @@ class E57Reader(FileReader):
         return [Station(node) for node in root.findall('data3D/vectorChild')]
 
     def position(self) -> list[str]:
-        """Where the first station stood."""
+        """Returns where the first station stood."""
         return list(map(repr, self.stations[0].place))
 
     def logical(self, physical: int) -> int:
-        """Where a byte stands without the checksums at the ends of pages."""
+        """Returns where a byte stands without the checksums at the ends of pages."""
         return physical // self.page * (self.page - 4) + physical % self.page
 
     def read(self, start: int, count: int) -> bytes:
@@ -171,7 +171,7 @@ class E57Reader(FileReader):
             yield from self.station_rows(station, str(number))
 
     def station_rows(self, station: Station, number: str) -> Iterator[list[str]]:
-        """The rows of a station, packet by packet."""
+        """Yields the rows of a station, packet by packet."""
         columns, done = station.columns(), 0
         place = [station.names.index(name) for name in PLACE]
         more = [station.names.index(name) for name in self.more]
@@ -191,7 +191,7 @@ class E57Reader(FileReader):
             raise Refusal(f'cut: station {number} has {done} of its {station.count} points')
 
     def packets(self, station: Station) -> Iterator[list[bytes]]:
-        """The bytes of each column in each packet of a station."""
+        """Yields the bytes of each column in each packet of a station."""
         at = self.logical(station.offset)
         kind, length, data = struct.unpack('<B7xQQ', self.read(at, 24))
         end, at = at + length, self.logical(data)

@@ -18,7 +18,7 @@ ROWS_AT_ONCE = 4096
 
 
 def open_e57(path: str) -> FileReader:
-    """A reader of an E57: ours, or where that does not read it the library's."""
+    """Returns a reader of an E57: ours, or where that does not read it the library's."""
     try:
         return E57Reader(path)
     except NotRead as refusal:
@@ -28,7 +28,7 @@ def open_e57(path: str) -> FileReader:
 
 
 def refusal_of(error: Exception) -> Refusal:
-    """The line of what the library says."""
+    """Returns the line of what the library says."""
     return Refusal(f'pye57 cannot read the E57: {" ".join(str(error).split())[:200]}')
 
 
@@ -52,7 +52,7 @@ class LibraryReader(FileReader):
                          Element('scanner', len(headers), [Property(axis, 'double') for axis in 'xyz'])]
 
     def position(self) -> list[str]:
-        """Where the first station stood."""
+        """Returns where the first station stood."""
         return self.places[0]
 
     def rows(self, element: Element) -> Iterator[list[str]]:
@@ -68,7 +68,7 @@ class LibraryReader(FileReader):
             yield from (['nan'] * 3 + ['0'] * len(self.more) + [str(number)] for _ in range(size, count))
 
     def columns(self, number: int) -> list[np.ndarray[Any, Any]]:
-        """The columns of a station, its coordinates where they are by its pose."""
+        """Returns the columns of a station, its coordinates where they are by its pose."""
         try:
             data = self.library.read_scan(number, intensity='intensity' in self.more, ignore_missing_fields=True,
                                           colors=any(name.startswith('color') for name in self.more))

@@ -9,7 +9,7 @@ READ = Context(prec=30, rounding=ROUND_HALF_EVEN, Emin=-99999, Emax=99999)
 
 
 def text(value: Decimal) -> str:
-    """A decimal without an exponent and without zeros that say nothing."""
+    """Returns a decimal without an exponent and without zeros that say nothing."""
     plain = format(READ.plus(value), 'f')
     if '.' in plain:
         plain = plain.rstrip('0').rstrip('.')
@@ -30,7 +30,7 @@ class Pose:
         self.whole = [[int(WIDE.scaleb(entry, self.places)) for entry in row] for row in matrix]
 
     def transform(self, point: Sequence[str]) -> list[str]:
-        """The point's coordinates as words. The sums are taken whole and rounded once, where they have over 30 digits."""
+        """Returns the point's coordinates as words. The sums are taken whole and rounded once, where they have over 30 digits."""
         parts = [word.partition('.') for word in point]
         places = max(len(behind) for _, _, behind in parts)
         try:
@@ -47,14 +47,14 @@ class Pose:
         return words
 
     def transform_any(self, point: Sequence[str]) -> list[str]:
-        """The same for decimals with exponents and for long sums."""
+        """Returns the same for decimals with exponents and for long sums."""
         x, y, z = map(Decimal, point)
         multiply, add = WIDE.multiply, WIDE.add
         return [text(add(add(multiply(x, a), multiply(y, b)), add(multiply(z, c), d))) for a, b, c, d in zip(*self.matrix)]
 
 
 def shifted(value: int, places: int) -> str | None:
-    """A whole number over a power of ten, as a word; None where it has over 30 digits."""
+    """Returns a whole number over a power of ten, as a word; None where it has over 30 digits."""
     digits = str(abs(value))
     if len(digits) > 30:
         return None

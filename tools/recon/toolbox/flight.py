@@ -48,7 +48,7 @@ class Flight:
                 self.places.append(values[1:])
 
     def number(self, word: str) -> str | None:
-        """The number of the position at a time, or None where the flight was not on then."""
+        """Returns the number of the position at a time, or None where the flight was not on then."""
         time = float(word) if IS_NUMBER(word) else float('nan')
         if not self.times[0] <= time <= self.times[-1]:
             return None
@@ -70,7 +70,7 @@ class Above:
         self.box = Box()
 
     def position(self) -> list[str]:
-        """The position, once all points were shown to the box."""
+        """Returns the position, once all points were shown to the box."""
         low, high = self.box.low, self.box.high
         wide = max(high[0] - low[0], high[1] - low[1])
         place = [(low[0] + high[0]) / 2, (low[1] + high[1]) / 2, high[2] + WIDTHS * wide] if self.box.count else [0.0] * 3

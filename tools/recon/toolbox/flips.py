@@ -22,7 +22,7 @@ LEAST_GAIN = 1e-9
 
 
 def gain(quad: Sequence[Vector], normals: Sequence[Vector]) -> np.ndarray:
-    """What is gained where the faces a b c and b a d become a d c and d b c: by how much the sum of angle times length over
+    """Returns what is gained where the faces a b c and b a d become a d c and d b c: by how much the sum of angle times length over
     the five edges falls. `normals` are those of both faces and of the four across bc, ca, ad and db. It is NEVER where a new
     face would turn away from both."""
     a, b, c, d = quad
@@ -79,7 +79,7 @@ class Flipper:
         return np.stack(unit(across(*(axes(self.spots, triangles[:, k]) for k in range(3)))), axis=1)
 
     def around(self, edges: np.ndarray) -> tuple[np.ndarray, np.ndarray, np.ndarray, np.ndarray, np.ndarray]:
-        """The half edges of the quads about some edges: edges, then their twins, and the six sides behind them."""
+        """Returns the half edges of the quads about some edges: edges, then their twins, and the six sides behind them."""
         across_edges = self.twins[edges]
         return across_edges, after(edges), before(edges), after(across_edges), before(across_edges)
 
@@ -108,7 +108,7 @@ class Flipper:
         return order[is_best]
 
     def are_new(self, edges: np.ndarray) -> np.ndarray:
-        """Whether the other diagonals are no edges yet, and none stands here twice."""
+        """Returns whether the other diagonals are no edges yet, and none stands here twice."""
         _, _, ca, _, db = self.around(edges)
         top, low = self.corners[ca], self.corners[db]
         count = len(self.places)
@@ -125,7 +125,7 @@ class Flipper:
         return np.concatenate([np.stack([a, d, c], axis=1), np.stack([d, b, c], axis=1)])
 
     def cross_nothing(self, edges: np.ndarray) -> np.ndarray:
-        """Whether the new faces of each edge cross no face but its own two, and none of a better edge among these."""
+        """Returns whether the new faces of each edge cross no face but its own two, and none of a better edge among these."""
         faces, owner = self.new_faces(edges), np.tile(np.arange(len(edges)), 2)
         low, high = boxes_of(self.places, faces)
         is_free = np.ones(len(edges), bool)
@@ -197,5 +197,5 @@ class Flipper:
 
 
 def halves_of(faces: np.ndarray) -> np.ndarray:
-    """The half edges of some faces."""
+    """Returns the half edges of some faces."""
     return (3 * faces[:, None] + np.arange(3)).ravel()

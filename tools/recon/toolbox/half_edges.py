@@ -33,13 +33,13 @@ def before(h: np.ndarray) -> np.ndarray:
 
 
 def edge_keys(corners: np.ndarray, count: int) -> np.ndarray:
-    """A number for each half edge, the same for both ways. `count` is the number of vertices."""
+    """Returns a number for each half edge, the same for both ways. `count` is the number of vertices."""
     ends = corners[after(np.arange(len(corners)))]
     return np.minimum(corners, ends) * count + np.maximum(corners, ends)
 
 
 def pair_edges(places: np.ndarray, corners: np.ndarray) -> np.ndarray:
-    """The twin of each half edge. Raises `Refusal` where the mesh is not closed."""
+    """Returns the twin of each half edge. Raises `Refusal` where the mesh is not closed."""
     keys = edge_keys(corners, len(places))
     order = np.argsort(keys, kind='stable')
     starts = np.flatnonzero(np.r_[True, np.diff(keys[order]) != 0])
@@ -100,7 +100,7 @@ def pairs_around(places: Places, corners: Any, around: list[int]) -> list[tuple[
 
 
 def turned(places: Places, corners: Any, around: list[int], first: int) -> list[int]:
-    """The half edges of one edge in the order of their faces, counterclockwise seen against the edge, from `first` on."""
+    """Returns the half edges of one edge in the order of their faces, counterclockwise seen against the edge, from `first` on."""
     end, start = places[corners[first]], places[corners[next_of(first)]]
     apex = {h: places[corners[last_of(h)]] for h in around}
 
@@ -119,7 +119,7 @@ def turned(places: Places, corners: Any, around: list[int], first: int) -> list[
 
 
 def same_side(a: Vector, b: Vector, c: Vector, d: Vector) -> bool:
-    """Whether two places of a plane through a and b are on one side of the line through these."""
+    """Returns whether two places of a plane through a and b are on one side of the line through these."""
     return dot(across(a, b, c), across(a, b, d)) > 0
 
 
@@ -135,7 +135,7 @@ def wedges(order: list[int], there: set[int]) -> list[tuple[int, int]]:
 
 
 def groups_of(count: int, one: np.ndarray, other: np.ndarray) -> np.ndarray:
-    """The number of its group for each of `count` things that are joined in pairs, from 0 in the order of their first members."""
+    """Returns the number of its group for each of `count` things that are joined in pairs, from 0 in the order of their first members."""
     joins = coo_matrix((np.ones(len(one), np.int8), (one, other)), (count, count))
     labels = connected_components(joins, directed=False)[1]
     _, first, labels = np.unique(labels, return_index=True, return_inverse=True)
@@ -145,7 +145,7 @@ def groups_of(count: int, one: np.ndarray, other: np.ndarray) -> np.ndarray:
 
 
 def pieces_of(twins: np.ndarray) -> np.ndarray:
-    """The number of its piece for each face, from 0 in the order of their first faces."""
+    """Returns the number of its piece for each face, from 0 in the order of their first faces."""
     return groups_of(len(twins) // 3, np.arange(len(twins)) // 3, twins // 3)
 
 

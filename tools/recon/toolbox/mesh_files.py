@@ -29,7 +29,7 @@ Column = Tuple[str, str, np.ndarray]
 
 
 def read_mesh(path: str) -> tuple[np.ndarray, np.ndarray]:
-    """The places of the vertices, (n, 3) whole numbers, and the corners of all faces one after another."""
+    """Returns the places of the vertices, (n, 3) whole numbers, and the corners of all faces one after another."""
     with open(path, 'rb') as file:
         data = file.read()
     head = HEAD.match(data)
@@ -53,7 +53,7 @@ def refuse(why: str) -> NoReturn:
 
 
 def numbers_of(data: bytes, count: int) -> np.ndarray:
-    """The whole numbers of a text."""
+    """Returns the whole numbers of a text."""
     if data.translate(None, b'-0123456789 \n') or data and not data.endswith(b'\n'):
         refuse('it is cut or has words that are no whole numbers')
     letters = np.frombuffer(b'\n' + data, np.uint8)
@@ -90,7 +90,7 @@ class Finished:
 
 @contextlib.contextmanager
 def whole_bytes(path: str) -> Iterator[BinaryIO]:
-    """A binary file that is written beside its place and moved there when it is whole."""
+    """Yields a binary file that is written beside its place and moved there when it is whole."""
     part = path + '.part'
     with open(part, 'wb') as file:
         try:
@@ -115,7 +115,7 @@ def column_parts(columns: list[Column]) -> list[tuple[str, str, np.ndarray]]:
 
 
 def ply_parts(mesh: Finished) -> Iterator[bytes]:
-    """A binary PLY, in pieces."""
+    """Yields a binary PLY, in pieces."""
     lines = ['ply', 'format binary_little_endian 1.0', 'comment made by finish', f'element vertex {len(mesh.places)}']
     lines += [f'property double {axis}' for axis in 'xyz'] + [f'property {kind} {name}' for name, kind, _ in mesh.columns]
     lines += [f'element face {len(mesh.faces)}', 'property list uchar int vertex_indices']
@@ -127,7 +127,7 @@ def ply_parts(mesh: Finished) -> Iterator[bytes]:
 
 
 def stl_parts(mesh: Finished) -> Iterator[bytes]:
-    """A binary STL, in pieces."""
+    """Yields a binary STL, in pieces."""
     yield b'made by finish'.ljust(80) + struct.pack('<I', len(mesh.faces))
     away = np.stack(normal(*(axes(mesh.places, mesh.faces[:, k]) for k in range(3))), axis=1)
     corners = mesh.places[mesh.faces].reshape(-1, 9)
@@ -135,7 +135,7 @@ def stl_parts(mesh: Finished) -> Iterator[bytes]:
 
 
 def glb_parts(mesh: Finished) -> Iterator[bytes]:
-    """A binary glTF, in pieces: the mesh with its colors, if it has any."""
+    """Yields a binary glTF, in pieces: the mesh with its colors, if it has any."""
     places, colors = mesh.places.astype('<f4'), mesh.colors()
     data = [mesh.faces.astype('<u4').tobytes(), places.tobytes()]
     accessors: list[dict[str, Any]] = [
@@ -162,7 +162,7 @@ def glb_parts(mesh: Finished) -> Iterator[bytes]:
 
 
 def obj_parts(mesh: Finished) -> Iterator[bytes]:
-    """A Wavefront OBJ, in pieces. Colors follow the coordinates, from 0 to 1, as MeshLab, Blender and CloudCompare read
+    """Yields a Wavefront OBJ, in pieces. Colors follow the coordinates, from 0 to 1, as MeshLab, Blender and CloudCompare read
     them."""
     yield b'# made by finish\n'
     colors = mesh.colors()
@@ -179,7 +179,7 @@ FORMS = {'.ply': ply_parts, '.stl': stl_parts, '.glb': glb_parts, '.obj': obj_pa
 
 
 def form_of(path: str) -> Callable[[Finished], Iterator[bytes]]:
-    """The form that the name's ending says."""
+    """Returns the form that the name's ending says."""
     ending = os.path.splitext(path)[1].lower()
     if ending not in FORMS:
         raise Refusal(f'{path} ends in none of {", ".join(FORMS)}, which say the form')

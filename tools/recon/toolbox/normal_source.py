@@ -84,7 +84,7 @@ class Points:
 
 
 def numbers_of(row: int, words: Sequence[str]) -> list[float] | None:
-    """The six numbers of a row, or None where one is not finite."""
+    """Returns the six numbers of a row, or None where one is not finite."""
     for word in words:
         if not IS_NUMBER(word):
             if IS_NOT_FINITE(word):
@@ -118,7 +118,7 @@ class Cloud:
             column.append(value / long)
 
     def scanners(self, word: str | None) -> tuple[float, np.ndarray, np.ndarray]:
-        """How far off scanners stand, where, and the number of the scanner of each point."""
+        """Returns how far off scanners stand, where, and the number of the scanner of each point."""
         # scipy takes a while to load, and is not needed otherwise
         from recon.clouds import spacing
         from recon.sights import along_normals
@@ -154,7 +154,7 @@ class Normals(Source):
         self.unit = self.unit_for(np.concatenate([np.stack(list(map(np.frombuffer, cloud.places)), axis=1), scanners]), receiver.mover)
 
     def unit_for(self, places: np.ndarray, mover: Mover) -> int:
-        """The power of ten with 100 to 1000 units to the way of a scanner, less where all would be out of range."""
+        """Returns the power of ten with 100 to 1000 units to the way of a scanner, less where all would be out of range."""
         origin = np.array([float(word) for word in mover.origin or (0, 0, 0)])
         most, unit = float(np.abs(places - origin).max()), 1000000
         while unit > 1 and (most * unit > RANGE or self.far * unit > 1000):

@@ -38,7 +38,7 @@ class Refusal(Exception):
 
 
 def count_in(word: str, most: int) -> int | None:
-    """The whole number that a word is, from 0 to the most; else None. Of any length, without work for digits that are too many."""
+    """Returns the whole number that a word is, from 0 to the most; else None. Of any length, without work for digits that are too many."""
     found = IS_COUNT(word)
     value = int(found[1]) if found else most + 1
     return value if value <= most else None
@@ -68,7 +68,7 @@ class Element:
         return ''.join(FORMATS[p.kind] for p in self.properties)
 
     def column(self, name: str) -> int | None:
-        """The place of the column of this name, in any case where no other is so spelled; None where there is none."""
+        """Returns the place of the column of this name, in any case where no other is so spelled; None where there is none."""
         names = [p.name for p in self.properties]
         if name in names:
             return names.index(name)
@@ -87,13 +87,13 @@ class Element:
         return found
 
     def scalars(self, rows: Iterator[list[str]]) -> Iterator[list[str]]:
-        """The rows with one word for each property, which of a list is the first, or none."""
+        """Yields the rows with one word for each property, which of a list is the first, or none."""
         if not self.has_lists():
             return rows
         return ([''.join(value[:1]) for value in self.values(words)] for words in rows)
 
     def point_columns(self) -> list[int]:
-        """The places of x, y and z."""
+        """Returns the places of x, y and z."""
         places = []
         for axis in 'xyz':
             place = self.column(axis)
@@ -104,7 +104,7 @@ class Element:
 
 
 def head_lines(file: BinaryIO) -> Iterator[tuple[int, list[str]]]:
-    """The header's lines as words, with their numbers, each ended by LF or CR LF, up to `end_header`."""
+    """Yields the header's lines as words, with their numbers, each ended by LF or CR LF, up to `end_header`."""
     for number in range(1, LINE_LIMIT + 1):
         line = file.readline(LINE_LIMIT + 2)
         if not line.endswith(b'\n'):
@@ -122,7 +122,7 @@ def head_lines(file: BinaryIO) -> Iterator[tuple[int, list[str]]]:
 
 
 def read_head(file: BinaryIO) -> tuple[str, list[Element]]:
-    """The kind of the body and the elements, in their order."""
+    """Returns the kind of the body and the elements, in their order."""
     kind = None
     elements: list[Element] = []
     for number, words in head_lines(file):
@@ -304,7 +304,7 @@ class Reader:
             raise Refusal('after the last row something follows')
 
     def element(self, name: str) -> Element | None:
-        """The element of this name, or None."""
+        """Returns the element of this name, or None."""
         found = [e for e in self.elements if e.name == name]
         if len(found) > 1:
             raise Refusal(f'two elements have the name {name}')
@@ -323,7 +323,7 @@ class Reader:
 
 
 def plain_names(properties: list[Property]) -> list[Property]:
-    """The same columns under names that every reader takes: printable ASCII, no two the same."""
+    """Returns the same columns under names that every reader takes: printable ASCII, no two the same."""
     taken, plain = set(), []
     for p in properties:
         name = base = re.sub(r'[^!-~]', '_', p.name)
@@ -337,7 +337,7 @@ def plain_names(properties: list[Property]) -> list[Property]:
 
 @contextlib.contextmanager
 def whole_file(path: str) -> Iterator[TextIO]:
-    """A text file that is written beside its place and moved there when it is whole, so a run that ends early leaves what
+    """Yields a text file that is written beside its place and moved there when it is whole, so a run that ends early leaves what
     was there."""
     part = path + '.part'
     with open(part, 'w', encoding='ascii', newline='\n', buffering=CHUNK) as file:
@@ -399,7 +399,7 @@ def decimals(x: str, y: str, z: str, place: Callable[[], str]) -> bool:
 
 
 def index_text(word: str, place: Callable[[], str]) -> str | None:
-    """The number of a scanner as a whole number, also where it was written `3.000000`; None where it is not finite."""
+    """Returns the number of a scanner as a whole number, also where it was written `3.000000`; None where it is not finite."""
     if word.isdecimal() and len(word) <= 18:
         return word
     if IS_NOT_FINITE(word):
@@ -410,7 +410,7 @@ def index_text(word: str, place: Callable[[], str]) -> str | None:
 
 
 def read_positions(path: str) -> list[tuple[list[str], str | None]]:
-    """A table of scanner positions: a line `X Y Z` each, perhaps with a file's name behind; `#` begins a comment."""
+    """Returns a table of scanner positions: a line `X Y Z` each, perhaps with a file's name behind; `#` begins a comment."""
     rows: list[tuple[list[str], str | None]] = []
     with open(path, encoding='utf-8', errors='surrogateescape') as file:
         for number, line in enumerate(file, 1):

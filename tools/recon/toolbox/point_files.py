@@ -20,7 +20,7 @@ from recon.toolbox.ply_text import (ARE_THREE, CHUNK, FORMATS, LINE_LIMIT, ROW_L
 from recon.toolbox.text_lines import Lines
 
 def open_points(path: str, open_end: bool = False) -> Any:
-    """A reader of the points of a file of any of these kinds; one that is none of them is read as PLY."""
+    """Returns a reader of the points of a file of any of these kinds; one that is none of them is read as PLY."""
     start = start_of(path)
     if start.startswith(b'LASF'):
         return LasReader(path)
@@ -40,7 +40,7 @@ def start_of(path: str) -> bytes:
 
 
 def is_pcd(start: bytes) -> bool:
-    """Whether a file begins as PCD does: remarks, and then its version or its fields."""
+    """Returns whether a file begins as PCD does: remarks, and then its version or its fields."""
     for line in start.split(b'\n'):
         if line.strip() and not line.startswith(b'#'):
             return line.split()[0] in (b'VERSION', b'FIELDS')
@@ -48,7 +48,7 @@ def is_pcd(start: bytes) -> bool:
 
 
 def has_rows(path: str) -> bool:
-    """Whether the file is of a kind that open_points reads row by row."""
+    """Returns whether the file is of a kind that open_points reads row by row."""
     start = start_of(path)
     return start.startswith((b'LASF', b'ASTM-E57')) or is_pcd(start) or start.split(b'\n')[0].rstrip() == b'ply'
 
@@ -79,11 +79,11 @@ class FileReader:
         self.file.close()
 
     def left(self) -> int:
-        """How many bytes of the file are still to be read."""
+        """Returns how many bytes of the file are still to be read."""
         return os.fstat(self.file.fileno()).st_size - self.file.tell()
 
     def structs(self, row: struct.Struct, count: int) -> Iterator[tuple[float, ...]]:
-        """The rows of a binary body."""
+        """Yields the rows of a binary body."""
         left, done = self.left(), 0
         if left < row.size * count:
             raise Refusal(f'cut: the file ends in point {left // row.size} of {count}')
@@ -154,7 +154,7 @@ class PcdReader(FileReader):
         return count
 
     def columns(self) -> tuple[list[tuple[str, str]], list[Property]]:
-        """The types of the values of a row, and the properties that they become."""
+        """Returns the types of the values of a row, and the properties that they become."""
         names, sizes, types = (self.head[key] for key in ('FIELDS', 'SIZE', 'TYPE'))
         counts = self.head.get('COUNT', ['1'] * len(names))
         if not len(names) == len(sizes) == len(types) == len(counts):
@@ -187,7 +187,7 @@ class PcdReader(FileReader):
             yield words
 
     def number_of_view(self, place: list[str]) -> str:
-        """The number of a place that a point was seen from, or `nan` where it is none."""
+        """Returns the number of a place that a point was seen from, or `nan` where it is none."""
         if not ARE_THREE(' '.join(place)):
             return 'nan'
         number = self.views.setdefault(tuple(place), len(self.places))
@@ -198,12 +198,12 @@ class PcdReader(FileReader):
         return str(number)
 
     def position(self) -> list[str]:
-        """Where the scanner stood, where it is one."""
+        """Returns where the scanner stood, where it is one."""
         return self.places[0]
 
     @staticmethod
     def colors(word: str, kind: str) -> list[str]:
-        """The three parts of a packed color, whose bits may stand as those of a number with a point."""
+        """Returns the three parts of a packed color, whose bits may stand as those of a number with a point."""
         try:
             bits = struct.unpack('<I', struct.pack('<f', float(word)))[0] if kind == 'float' else int(word) & 0xFFFFFFFF
         except (ValueError, OverflowError):
@@ -216,7 +216,7 @@ class PcdReader(FileReader):
             yield list(map(repr, values))
 
     def packed_rows(self, count: int) -> Iterator[list[str]]:
-        """The rows of a compressed body, which has all values of a field side by side."""
+        """Yields the rows of a compressed body, which has all values of a field side by side."""
         head = self.file.read(8)
         packed, size = struct.unpack('<II', head) if len(head) == 8 else (0, 0)
         codes = [FORMATS[kind] for _, kind in self.kinds]
@@ -288,7 +288,7 @@ LAS_TYPES = {'H': 'ushort', 'B': 'uchar', 'd': 'double', 'i': 'double'}
 
 
 def whole_and_places(number: float) -> tuple[int, int]:
-    """A number as a whole one over a power of ten, by its shortest decimal."""
+    """Returns a number as a whole one over a power of ten, by its shortest decimal."""
     if not isfinite(number):
         raise Refusal('a scale or an offset of the LAS is not finite')
     sign, digits, exponent = Decimal(repr(number)).as_tuple()
@@ -340,7 +340,7 @@ class LasReader(FileReader):
             yield [x, y, z, *(repr(values[at]) for at in kept)]
 
     def unpacked_rows(self, row: struct.Struct, count: int) -> Iterator[tuple[float, ...]]:
-        """The rows of a LAZ, which laspy unpacks to those of a LAS."""
+        """Yields the rows of a LAZ, which laspy unpacks to those of a LAS."""
         import laspy
         done = 0
         try:

@@ -27,7 +27,7 @@ class Station:
         self.origin = matrix[3]
 
     def position(self, number: int, choice: str | None) -> Sequence[Any]:
-        """Where it stood, as words."""
+        """Returns where it stood, as words."""
         if choice == 'header':
             return self.place
         place, origin = list(map(float, self.place)), list(map(float, self.origin))
@@ -57,7 +57,7 @@ def read_numbers(lines: Lines, width: int) -> list[str]:
 
 
 def read_station(lines: Lines) -> Station | None:
-    """The next station's header, or None at the end of the file."""
+    """Returns the next station's header, or None at the end of the file."""
     words = lines.next_words()
     if words is None:
         return None

@@ -16,7 +16,7 @@ MOST_WEIGHTS = 1000
 
 
 def index_column(vertex: Element, name: str | None) -> int | None:
-    """The place of the column that numbers the scanner, or None."""
+    """Returns the place of the column that numbers the scanner, or None."""
     if name is not None:
         place = vertex.column(name)
         if place is None:
@@ -29,7 +29,7 @@ def index_column(vertex: Element, name: str | None) -> int | None:
 
 
 def weight_column(vertex: Element) -> int | None:
-    """The place of the weight that `recon` reads, or None."""
+    """Returns the place of the weight that `recon` reads, or None."""
     for place, p in enumerate(vertex.properties):
         if p.name == 'weight' and p.count_kind is None and FORMATS[p.kind] not in 'fd':
             return place
@@ -37,7 +37,7 @@ def weight_column(vertex: Element) -> int | None:
 
 
 def checked_index(word: str, limit: int | None, place: Callable[[], str]) -> str | None:
-    """The number of a scanner that is there, or None where it is not finite."""
+    """Returns the number of a scanner that is there, or None where it is not finite."""
     number = index_text(word, place)
     if number is not None and not 0 <= int(number) < (2 ** 31 if limit is None else limit):
         raise Refusal(f'{place()}: there is no scanner {number}' + ('' if limit is None else f' among {limit}'))

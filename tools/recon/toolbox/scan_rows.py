@@ -31,7 +31,7 @@ def scaled(word: str, unit: int) -> int:
 
 
 def value_of(word: str, name: str, kind: str) -> float:
-    """A word as a number of the type of its column."""
+    """Returns a word as a number of the type of its column."""
     try:
         value = int(float(word)) if kind in WHOLE else float(word)
         struct.pack('<' + FORMATS[kind], value)
@@ -41,7 +41,7 @@ def value_of(word: str, name: str, kind: str) -> float:
 
 
 def columns_of(path: str, unit: int, array: np.ndarray) -> list[Column]:
-    """The columns of a scan beside x, y and z that are no lists, each as a name, a type and the values at these places: those of
+    """Returns the columns of a scan beside x, y and z that are no lists, each as a name, a type and the values at these places: those of
     the first row at each. Refused where a place is that of no row."""
     places: list[tuple[int, int, int]] = [(x, y, z) for x, y, z in array.tolist()]
     reader = Reader(path, True)
@@ -65,7 +65,7 @@ def columns_of(path: str, unit: int, array: np.ndarray) -> list[Column]:
 
 def rows_at(rows: Iterator[Any], point: list[int], kept: list[int], unit: int,
             found: dict[tuple[int, int, int], Any]) -> dict[tuple[int, int, int], Any]:
-    """The kept words of the first row at each of these places."""
+    """Returns the kept words of the first row at each of these places."""
     x, y, z = point
     for words in rows:
         place = scaled(words[x], unit), scaled(words[y], unit), scaled(words[z], unit)

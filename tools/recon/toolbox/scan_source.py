@@ -17,7 +17,7 @@ from recon.toolbox.tool import yes
 
 
 def source_of(names: Sequence[str], options: Any) -> Source:
-    """The source of these names."""
+    """Returns the source of these names."""
     if options.table is None and not names:
         raise Refusal('no file is named that is to be read')
     has_normals = yes(options.normals, 'normals')
@@ -38,7 +38,7 @@ def source_of(names: Sequence[str], options: Any) -> Source:
 
 
 def airborne(names: Sequence[str], options: Any) -> Source:
-    """The source of points that were seen from above."""
+    """Returns the source of points that were seen from above."""
     if options.flight is not None and options.above is not None:
         raise Refusal('above= and flight= say the same thing: give one of them')
     if len(names) == 1 and has_rows(names[0]):
@@ -49,7 +49,7 @@ def airborne(names: Sequence[str], options: Any) -> Source:
 
 
 def of_rows(path: str, options: Any, kind: Callable[[Any, str, Any], Source] | None = None) -> Source:
-    """The source of a file of rows, of this kind or of the one that its points tell."""
+    """Returns the source of a file of rows, of this kind or of the one that its points tell."""
     reader = open_points(path, yes(options.open_end, 'open_end'))
     try:
         vertex = reader.element('vertex')
@@ -62,7 +62,7 @@ def of_rows(path: str, options: Any, kind: Callable[[Any, str, Any], Source] | N
 
 
 def one_file(path: str, options: Any) -> Source:
-    """The source of a file that says all by itself."""
+    """Returns the source of a file that says all by itself."""
     if has_rows(path):
         return of_rows(path, options)
     if not os.path.getsize(path):
@@ -74,7 +74,7 @@ def one_file(path: str, options: Any) -> Source:
 
 
 def is_ptx(path: str) -> bool:
-    """Whether a text begins with two lines of a number each. A file of another kind that is known is refused by its name."""
+    """Returns whether a text begins with two lines of a number each. A file of another kind that is known is refused by its name."""
     Lines(path).close()
     with open(path, 'rb') as file:
         return all(is_count(file.readline(100).decode('latin-1').split()) for _ in range(2))

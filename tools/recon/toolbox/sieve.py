@@ -30,7 +30,7 @@ class Cubes:
         self.places = array('Q', bytes(8 << self.bits))
 
     def place_of(self, number: int) -> int:
-        """Where the number stands, or the free place where it belongs."""
+        """Returns where the number stands, or the free place where it belongs."""
         places, last = self.places, (1 << self.bits) - 1
         place = (number * SPREAD & MASK) >> (64 - self.bits)
         while places[place] and places[place] != number:
@@ -75,19 +75,19 @@ class Box:
         return (2 * (a * b + b * c + c * a) / max(self.count, 1)) ** 0.5
 
     def corner(self, number: int, off: float) -> list[str]:
-        """A corner of the box that stands so far off."""
+        """Returns a corner of the box that stands so far off."""
         return [repr(self.high[k] + off if number >> k & 1 else self.low[k] - off) for k in range(3)]
 
 
 def length_of(word: str, key: str, what: str) -> float:
-    """The value of an option that is a length."""
+    """Returns the value of an option that is a length."""
     if not IS_NUMBER(word) or not 0 < float(word) or not isfinite(float(word)):
         raise Refusal(f'{key}= is {what}, a number over 0')
     return float(word)
 
 
 def one_a_cube(side: float) -> Callable[[float, float, float], bool]:
-    """Whether a point is the first one in its cube."""
+    """Returns whether a point is the first one in its cube."""
     cubes = Cubes()
     first: list[int] = []
 
@@ -104,7 +104,7 @@ def one_a_cube(side: float) -> Callable[[float, float, float], bool]:
 
 
 def in_box(start: str | None, end: str | None, outside: bool) -> Callable[[float, float, float], bool]:
-    """Whether a point lies in a box, or outside of it."""
+    """Returns whether a point lies in a box, or outside of it."""
     if start is None or end is None:
         raise Refusal('from= and to= are the two corners of the box, and stand together')
     low_x, low_y, low_z = map(float, three(start, 'from'))
@@ -142,7 +142,7 @@ class Mover:
         return [text(WIDE.scaleb(Decimal(word), -self.places)) for word in moved] if self.places else moved
 
     def takes(self, x: float, y: float, z: float) -> bool:
-        """Whether a point is kept. What is left out is counted."""
+        """Returns whether a point is kept. What is left out is counted."""
         for test, why in self.tests:
             if not test(x, y, z):
                 self.counts[why] += 1

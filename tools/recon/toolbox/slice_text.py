@@ -16,7 +16,7 @@ ARE_FOUR = re.compile(r'([0-9]{1,10}) (-?[0-9]{1,19}) (-?[0-9]{1,19}) ([1-9][0-9
 
 
 def wanted(lines: Lines, form: Any, what: str) -> re.Match:
-    """The parts of the next line, which is of this form."""
+    """Returns the parts of the next line, which is of this form."""
     line = lines.next_line()
     if line is None:
         raise Refusal(f'cut: {what} is missing behind line {lines.number}')

@@ -23,7 +23,7 @@ THIRD = 1 / 3
 
 
 def agreed(own: Vector, around: Sequence[Vector], area: np.ndarray, areas: Sequence[np.ndarray]) -> Vector:
-    """The mean direction of a face and the three across its edges."""
+    """Returns the mean direction of a face and the three across its edges."""
     x, y, z = own[0] * area, own[1] * area, own[2] * area
     for other, size in zip(around, areas):
         weight = np.maximum(dot(own, other) + OPEN_COSINE, 0.0) * size / (1 + OPEN_COSINE)
@@ -32,14 +32,14 @@ def agreed(own: Vector, around: Sequence[Vector], area: np.ndarray, areas: Seque
 
 
 def pull(direction: Vector, a: Vector, b: Vector, c: Vector, place: Vector) -> Vector:
-    """What moves a place along a direction into the plane through the middle of a triangle."""
+    """Returns what moves a place along a direction into the plane through the middle of a triangle."""
     middle = (a[0] + b[0] + c[0]) * THIRD, (a[1] + b[1] + c[1]) * THIRD, (a[2] + b[2] + c[2]) * THIRD
     far = dot(less(middle, place), direction)
     return direction[0] * far, direction[1] * far, direction[2] * far
 
 
 def held(home: Vector, place: Vector, within: float) -> Vector:
-    """The place, or the one within reach of home on the way to it."""
+    """Returns the place, or the one within reach of home on the way to it."""
     way = less(place, home)
     part = within / np.maximum(np.sqrt(dot(way, way)), within)
     return tuple(np.where(part < 1, start + step * part, end) for start, step, end in zip(home, way, place))
@@ -70,7 +70,7 @@ class Smoother:
         self.untangle(before)
 
     def moved(self, spots: np.ndarray, normals: Vector, counts: np.ndarray) -> np.ndarray:
-        """The places after each vertex went the mean of its faces' ways."""
+        """Returns the places after each vertex went the mean of its faces' ways."""
         a, b, c = corners = [axes(spots, self.triangles[:, k]) for k in range(3)]
         sums = np.zeros((3, 3, len(spots)))
         for k in range(3):
@@ -99,7 +99,7 @@ class Smoother:
             found = self.crossing_faces(faces[is_back[self.triangles].any(axis=1)])
 
     def crossing_faces(self, faces: np.ndarray) -> np.ndarray:
-        """The faces that cross one of these, and these."""
+        """Returns the faces that cross one of these, and these."""
         low, high = boxes_of(self.places, self.triangles)
         one, other = Grid(low, high, np.arange(len(low))).meet(low[faces], high[faces])
         one = faces[one]

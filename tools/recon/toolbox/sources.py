@@ -17,7 +17,7 @@ READING = ('table', 'index', 'positions', 'position', 'images', 'normals', 'far'
 
 
 def scan_columns() -> list[Property]:
-    """The columns of points that have a place and a scanner alone."""
+    """Returns the columns of points that have a place and a scanner alone."""
     return [Property(axis, 'double') for axis in 'xyz'] + [Property('scanner', 'int')]
 
 
@@ -42,11 +42,11 @@ class Source:
         raise NotImplementedError
 
     def read(self) -> str:
-        """What was read, in words."""
+        """Returns what was read, in words."""
         return f'read {number_of(self.count, "point")} of {self.what}'
 
     def remark(self) -> str:
-        """What else is to be said at the end."""
+        """Returns what else is to be said at the end."""
         return ''
 
 

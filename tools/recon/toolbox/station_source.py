@@ -23,7 +23,7 @@ Station = Tuple[str, Optional[Sequence[str]]]
 
 
 def row_points(path: str, open_end: bool) -> Iterator[Point]:
-    """The points of a file of rows, each with a word for its place."""
+    """Yields the points of a file of rows, each with a word for its place."""
     reader = open_points(path, open_end)
     try:
         vertex = reader.element('vertex')
@@ -46,7 +46,7 @@ def is_count(words: Sequence[str]) -> bool:
 
 
 def pts_points(lines: Lines) -> Iterator[Point]:
-    """The points of a PTS file: blocks of a count and as many rows."""
+    """Yields the points of a PTS file: blocks of a count and as many rows."""
     words = lines.next_words()
     while words is not None:
         if not is_count(words):
@@ -69,7 +69,7 @@ def is_value(word: str) -> bool:
 
 
 def list_points(lines: Lines, counts: dict[str, int]) -> Iterator[Point]:
-    """The points of a list of numbers. The first row decides what parts the numbers and how many there are."""
+    """Yields the points of a list of numbers. The first row decides what parts the numbers and how many there are."""
     sign, width, first = None, None, 0
     line = lines.next_line()
     while line is not None:
@@ -93,7 +93,7 @@ def list_points(lines: Lines, counts: dict[str, int]) -> Iterator[Point]:
 
 
 def points_of(path: str, open_end: bool, counts: dict[str, int]) -> Iterator[Point]:
-    """The points of a file of any of the three kinds."""
+    """Yields the points of a file of any of the three kinds."""
     with open(path, 'rb') as file:
         start = file.readline(100)
     if not start:
@@ -109,7 +109,7 @@ def points_of(path: str, open_end: bool, counts: dict[str, int]) -> Iterator[Poi
 
 
 def station_of(name: str) -> Station:
-    """A file and its position: that of the arguments, or of the file itself; None if each point has its own."""
+    """Returns a file and its position: that of the arguments, or of the file itself; None if each point has its own."""
     path, equals, position = name.rpartition('=')
     if equals and path and not os.path.exists(name):
         if ',' not in position and not os.path.exists(path):
@@ -141,7 +141,7 @@ def refuse_unknown(found: Sequence[Station], names: Sequence[str]) -> None:
 
 
 def stations(names: Sequence[str], table: str | None) -> list[Station]:
-    """The files and their positions."""
+    """Returns the files and their positions."""
     found: list[Station]
     if table is not None:
         if names:
@@ -180,7 +180,7 @@ class Stations(Source):
                 raise Refusal(f'{path}: {refusal}') from None
 
     def number_of_view(self, place: Sequence[str]) -> str:
-        """The number of a place that points of any file were seen from."""
+        """Returns the number of a place that points of any file were seen from."""
         number = self.numbers.setdefault(tuple(place), str(len(self.positions)))
         if int(number) == len(self.positions):
             self.positions.append(place)

@@ -24,7 +24,7 @@ class Lines:
                 raise Refusal(f'this is no text of numbers but {kind}')
 
     def next_line(self) -> str | None:
-        """The next line without its end, or None at the end of the file."""
+        """Returns the next line without its end, or None at the end of the file."""
         line = self.file.readline(LONGEST)
         if not line:
             return None

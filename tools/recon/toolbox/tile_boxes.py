@@ -46,7 +46,7 @@ class Sample:
         self.count += 1
 
     def share(self) -> float:
-        """How many rows of the stream one of the sample stands for."""
+        """Returns how many rows of the stream one of the sample stands for."""
         return self.count / len(self.rows)
 
 
@@ -63,7 +63,7 @@ class Grid:
         return tuple(int(value // self.side) for value in point)
 
     def nearest(self, point: Place) -> float:
-        """The distance of the nearest other point, or the side where none is in the cubes around."""
+        """Returns the distance of the nearest other point, or the side where none is in the cubes around."""
         i, j, k = self.cube(point)
         near = (self.cubes.get((i + a, j + b, k + c), ()) for a in (-1, 0, 1) for b in (-1, 0, 1) for c in (-1, 0, 1))
         return min((math.dist(point, other) for cube in near for other in cube if other is not point), default=self.side)
@@ -89,13 +89,13 @@ class Core:
         return a <= x < d and b <= y < e and c <= z < f
 
     def reaches(self, point: Place, overlap: float) -> bool:
-        """Whether a point is of the box or near enough to it."""
+        """Returns whether a point is of the box or near enough to it."""
         (a, b, c), (d, e, f), (x, y, z) = self.low, self.high, point
         return (a - overlap <= x <= d + overlap and b - overlap <= y <= e + overlap
                 and c - overlap <= z <= f + overlap)
 
     def halves(self, axis: int, at: float) -> tuple[Core, Core]:
-        """The two boxes below and above a plane."""
+        """Returns the two boxes below and above a plane."""
         below, above = Core(self.low, self.high), Core(self.low, self.high)
         below.high[axis] = above.low[axis] = at
         return below, above
@@ -112,7 +112,7 @@ class Cut:
         self.low, self.high = at - overlap, at + overlap
 
     def near(self, point: Place) -> tuple[Core, ...]:
-        """The cores in which the point lies or to which it is near enough."""
+        """Returns the cores in which the point lies or to which it is near enough."""
         value = point[self.axis]
         if value > self.high:
             return self.above.near(point)
@@ -122,7 +122,7 @@ class Cut:
 
 
 def between(a: float, b: float) -> float:
-    """A decimal of few digits above a and not above b."""
+    """Returns a decimal of few digits above a and not above b."""
     for digits in range(1, 17):
         value = float(f'{a / 2 + b / 2:.{digits}g}')
         if a < value <= b:
@@ -131,7 +131,7 @@ def between(a: float, b: float) -> float:
 
 
 def halving(values: list[float]) -> float | None:
-    """A place that parts the values as evenly as may be, or None where they are all the same."""
+    """Returns a place that parts the values as evenly as may be, or None where they are all the same."""
     values.sort()
     middle = values[len(values) // 2]
     below = [v for v in values if v < middle]
@@ -142,7 +142,7 @@ def halving(values: list[float]) -> float | None:
 
 
 def best_cut(core: Core, points: list[Place], overlap: float) -> tuple[int, float] | None:
-    """The axis and the place of the plane along which the fewest points stand in the overlap, or None where there is none."""
+    """Returns the axis and the place of the plane along which the fewest points stand in the overlap, or None where there is none."""
     inside, found = [p for p in points if core.holds(p)], []
     for axis in range(3):
         at = halving([p[axis] for p in inside])

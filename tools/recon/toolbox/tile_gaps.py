@@ -43,7 +43,7 @@ class Gaps:
             path.append(vertex)
 
     def ways(self) -> Iterator[list[int]]:
-        """The missing edges as closed ways that meet no vertex twice."""
+        """Yields the missing edges as closed ways that meet no vertex twice."""
         for start in sorted(self.ends):
             path = [start]
             while len(path) > 1 or self.ends[start]:
@@ -58,7 +58,7 @@ class Gaps:
         return [(way[0], one, other) for one, other in zip(way[1:], way[2:])]
 
     def faces(self) -> Iterator[tuple[int, int, int]]:
-        """The triangles that fill all gaps."""
+        """Yields the triangles that fill all gaps."""
         for way in self.ways():
             self.longest = max(self.longest, len(way))
             yield from self.fan(way)

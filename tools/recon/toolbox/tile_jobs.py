@@ -46,7 +46,7 @@ TURNED = bytes(int(f'{byte:08b}'[::-1], 2) for byte in range(256))
 
 
 def cksum(path: str) -> str:
-    """The line of `cksum` for a file, as POSIX has it: the checksum, the length and the name.
+    """Returns the line of `cksum` for a file, as POSIX has it: the checksum, the length and the name.
 
     Its polynomial is that of crc32, with the bits of each byte the other way round, begun at 0, and with the length behind."""
     state, length = 0xFFFFFFFF, 0
@@ -59,7 +59,7 @@ def cksum(path: str) -> str:
 
 
 def is_done(folder: str, name: str) -> bool:
-    """Whether the job of a tile ended well, and its scan and mesh are as they were then."""
+    """Returns whether the job of a tile ended well, and its scan and mesh are as they were then."""
     path = os.path.join(folder, name)
     with open(path + '.done', 'rb') as file:
         lines = file.read(CHUNK).decode('latin-1').splitlines()

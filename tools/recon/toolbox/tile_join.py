@@ -42,7 +42,7 @@ end_header
 
 
 def scaled(ends: list[float | None], unit: int, other: int) -> list[Fraction | int]:
-    """The coordinates of a core's corner, exact, in scaled units; far out where the core has no end."""
+    """Returns the coordinates of a core's corner, exact, in scaled units; far out where the core has no end."""
     return [other if end is None else Fraction(repr(end)) * unit for end in ends]
 
 
@@ -66,20 +66,20 @@ class Tile:
         return all(a <= d and c <= b for (a, b), (c, d) in zip(self.reach, other.reach))
 
     def has(self, point: tuple[int, int, int]) -> bool:
-        """Whether a scanned point may be one of the tile's."""
+        """Returns whether a scanned point may be one of the tile's."""
         return all(a <= v <= b for (a, b), v in zip(self.reach, point))
 
     def last_with(self, point: tuple[int, int, int]) -> int:
-        """The last tile that may have a scanned point of this one."""
+        """Returns the last tile that may have a scanned point of this one."""
         return max((other.number for other in self.others if other.has(point)), default=self.number)
 
     def distance(self, point: tuple[int, int, int]) -> int:
-        """How far the core is from the third part of a place, in squares of thirds."""
+        """Returns how far the core is from the third part of a place, in squares of thirds."""
         return sum(max(a - v, 0, v - b) ** 2 for a, v, b in zip(self.low, point, self.high))
 
 
 def read_handed(folder: str, unit: int) -> set[int]:
-    """The places, in scaled units, of the points that were passed to tiles from outside."""
+    """Returns the places, in scaled units, of the points that were passed to tiles from outside."""
     found = set()
     with open(os.path.join(folder, 'handed.txt'), encoding='ascii') as file:
         for line in file:
@@ -88,7 +88,7 @@ def read_handed(folder: str, unit: int) -> set[int]:
 
 
 def read_tiles(folder: str) -> tuple[list[Tile], set[int]]:
-    """What `tiles.json` says, as tiles in the order of their numbers, and the places that any tile may have."""
+    """Returns what `tiles.json` says, as tiles in the order of their numbers, and the places that any tile may have."""
     path = os.path.join(folder, 'tiles.json')
     with open(path, encoding='ascii') as file:
         try:
@@ -120,7 +120,7 @@ class Mesh:
 
 
 def whole_numbers(file: BinaryIO) -> array:
-    """The numbers of the rest of a text."""
+    """Returns the numbers of the rest of a text."""
     numbers, tail = array('i'), b''
     for chunk in iter(lambda: file.read(CHUNK), b''):
         data = tail + chunk
@@ -135,7 +135,7 @@ def whole_numbers(file: BinaryIO) -> array:
 
 
 def read_mesh(path: str) -> Mesh:
-    """The surface that `recon build` wrote."""
+    """Returns the surface that `recon build` wrote."""
     with open(path, 'rb') as file:
         kind, elements = read_head(file)
         try:
@@ -168,7 +168,7 @@ def depths(mesh: Mesh, tile: Tile, handed: set[int]) -> bytearray:
 
 
 def keep_faces(mesh: Mesh, tile: Tile, depth: bytearray) -> array:
-    """The faces whose middle lies in the core, by their numbers. A point of another face counts as not deep from here on."""
+    """Returns the faces whose middle lies in the core, by their numbers. A point of another face counts as not deep from here on."""
     (xl, yl, zl), (xh, yh, zh) = tile.low, tile.high
     xs, ys, zs = mesh.x, mesh.y, mesh.z
     kept = array('I')
@@ -190,7 +190,7 @@ def used_points(mesh: Mesh, kept: array) -> bytearray:
 
 
 def packed(x: int, y: int, z: int) -> int:
-    """A place as one number."""
+    """Returns a place as one number."""
     return ((x + HALF) << 44) + ((y + HALF) << 22) + z + HALF
 
 
@@ -218,7 +218,7 @@ class Seams:
         entry[3] = tile.number
 
     def name(self, key: tuple[int, int], first: int, last: int) -> tuple[int, int]:
-        """The two tiles whose seam an edge lies at: those that have faces at it, or the one that has and the one with the
+        """Returns the two tiles whose seam an edge lies at: those that have faces at it, or the one that has and the one with the
         nearest core."""
         if first == last:
             (x, y, z), (u, v, w) = map(unpacked, key)
@@ -260,14 +260,14 @@ class Joined:
         self.vertex_count = self.face_count = self.filled = 0
 
     def number(self, place: int, last: int) -> tuple[int, bool]:
-        """The number of a vertex that several tiles may have, and whether it is new."""
+        """Returns the number of a vertex that several tiles may have, and whether it is new."""
         numbers = self.numbers.setdefault(last, {})
         before = len(numbers)
         number = numbers.setdefault(place, self.vertex_count)
         return number, len(numbers) > before
 
     def number_of_place(self, place: int) -> int:
-        """The number of a vertex that is there."""
+        """Returns the number of a vertex that is there."""
         return next(numbers[place] for numbers in self.numbers.values() if place in numbers)
 
     def add_vertices(self, mesh: Mesh, tile: Tile, depth: bytearray, used: bytearray) -> tuple[array, dict[int, tuple[int, int]]]:
@@ -327,7 +327,7 @@ class Joined:
 
 @contextlib.contextmanager
 def passing_file(path: str) -> Iterator[TextIO]:
-    """A text file that is taken away at the end."""
+    """Yields a text file that is taken away at the end."""
     with open(path, 'w+', encoding='ascii', newline='\n', buffering=CHUNK) as file:
         try:
             yield file

@@ -166,7 +166,7 @@ class Splitter:
         return divide(core, [point for point, _ in sample.rows], sample.share(), self.wanted.overlap, limit)
 
     def from_outside(self, core: Core) -> dict[Row, None]:
-        """The rows from outside a tile's box that it gets: those farthest out, and those of the sample whose sights enter the
+        """Returns the rows from outside a tile's box that it gets: those farthest out, and those of the sample whose sights enter the
         box round its points."""
         near: list[Row] = []
         outside: list[Row] = []
@@ -178,12 +178,12 @@ class Splitter:
         return dict.fromkeys(chain(ends, islice(entering, self.wanted.through)))
 
     def enters(self, box: list[tuple[float, float]], row: Row) -> bool:
-        """Whether a sight of a row meets a box."""
+        """Returns whether a sight of a row meets a box."""
         point, words = row
         return any(is_met(box, point, self.places[int(word)]) for word in words[3].split())
 
     def finished(self, tile: Tile) -> Tile:
-        """The tile, whose file ends with what it gets from outside and its scanners."""
+        """Returns the tile, whose file ends with what it gets from outside and its scanners."""
         for row in self.from_outside(tile.core):
             self.handed[row] = True
             tile.row(row[1])
@@ -205,7 +205,7 @@ class Splitter:
         return [self.finished(tile) for tile in tiles.values()]
 
     def parted(self, tile: Tile) -> list[Tile]:
-        """The tiles that a tile is cut into which has too many points, or the tile itself."""
+        """Returns the tiles that a tile is cut into which has too many points, or the tile itself."""
         if tile.writer.count <= self.wanted.points:
             return [tile]
         sample = Sample()
@@ -221,7 +221,7 @@ class Splitter:
 
 
 def is_met(box: list[tuple[float, float]], a: Sequence[float], b: Sequence[float]) -> bool:
-    """Whether the line from a to b meets a box."""
+    """Returns whether the line from a to b meets a box."""
     first, last = 0.0, 1.0
     for (low, high), start, end in zip(box, a, b):
         along = end - start
@@ -279,7 +279,7 @@ def write_folder(scan: list[str], folder: str, wanted: Wanted, options: Any) -> 
 
 @contextlib.contextmanager
 def whole_folder(path: str) -> Iterator[str]:
-    """A folder that is filled beside its place and moved there when it is whole; one that is there is refused."""
+    """Yields a folder that is filled beside its place and moved there when it is whole; one that is there is refused."""
     path = path.rstrip('/')
     if os.path.lexists(path):
         raise Refusal(f'{path} is there already: tiles of two splits do not mix')

@@ -19,7 +19,7 @@ PACKAGE = os.path.dirname(os.path.dirname(os.path.abspath(__file__)))
 
 
 def field(key: str) -> str:
-    """The name under which an option is kept; `from` is a word of the language."""
+    """Returns the name under which an option is kept; `from` is a word of the language."""
     return 'from_' if key == 'from' else key
 
 
@@ -86,7 +86,7 @@ def read_words(words: list[str], name_count: int | None, keys: tuple[str, ...]) 
 
 
 def program_name() -> str:
-    """The name of the program that runs: `recon-scan` for the module `recon.scan`, however it was started."""
+    """Returns the name of the program that runs: `recon-scan` for the module `recon.scan`, however it was started."""
     folder, base = os.path.split(os.path.abspath(sys.argv[0]))
     stem, ending = os.path.splitext(base)
     return 'recon-' + stem.replace('_', '-') if folder == PACKAGE and ending == '.py' else base
@@ -125,7 +125,7 @@ def told(status: int, line: str) -> int:
 
 
 def three(text: str, what: str) -> list[str]:
-    """The three numbers of `X,Y,Z`, as words. One of over 300 digits before its point, or of as many zeros after it, raises
+    """Returns the three numbers of `X,Y,Z`, as words. One of over 300 digits before its point, or of as many zeros after it, raises
     ArithmeticError."""
     words = text.split(',')
     if len(words) != 3 or not all(map(IS_NUMBER, words)):
@@ -136,7 +136,7 @@ def three(text: str, what: str) -> list[str]:
 
 
 def whole(text: str, key: str, least: int, most: int) -> int:
-    """The value of an option, a whole number."""
+    """Returns the value of an option, a whole number."""
     value = count_in(text, most)
     if value is None or value < least:
         raise Refusal(f'{key}= is a whole number from {least} to {most:,}')
@@ -144,14 +144,14 @@ def whole(text: str, key: str, least: int, most: int) -> int:
 
 
 def yes(value: str | None, key: str) -> bool:
-    """Whether a switch is on."""
+    """Returns whether a switch is on."""
     if value not in (None, 'yes', 'no'):
         raise Refusal(f'{key} is yes or no')
     return value == 'yes'
 
 
 def left_out(counts: dict[str, int]) -> str:
-    """What was left out, in words."""
+    """Returns what was left out, in words."""
     parts = [f'{count} {what}' for what, count in counts.items() if count]
     return ', '.join(parts) or 'nothing'
 

@@ -16,7 +16,7 @@ SMALL = 1 << 19
 
 
 def ranges(starts: np.ndarray, counts: np.ndarray) -> tuple[np.ndarray, np.ndarray]:
-    """All numbers of ranges, one range after another, and the number of the range of each."""
+    """Returns all numbers of ranges, one range after another, and the number of the range of each."""
     owner = np.repeat(np.arange(len(counts)), counts)
     first = np.cumsum(counts) - counts
     return np.arange(len(owner)) - first[owner] + starts[owner], owner
@@ -39,7 +39,7 @@ class Grid:
             self.levels.append((shift, keys[order], owner[order]))
 
     def meet(self, low: np.ndarray, high: np.ndarray) -> tuple[np.ndarray, np.ndarray]:
-        """All pairs of a box that is asked for and a box of the grid that have a place in common, as two columns."""
+        """Returns all pairs of a box that is asked for and a box of the grid that have a place in common, as two columns."""
         found = [part for level in self.levels for part in self.meet_level(low, high, *level)]
         return (np.concatenate([part[0] for part in found] or [np.zeros(0, int)]),
                 self.names[np.concatenate([part[1] for part in found] or [np.zeros(0, int)])])
@@ -57,7 +57,7 @@ class Grid:
 
     def meet_cells(self, low: np.ndarray, high: np.ndarray, asked: np.ndarray, shift: int, keys: np.ndarray,
                    owner: np.ndarray) -> tuple[np.ndarray, np.ndarray]:
-        """The same for boxes that meet few cubes. A pair is taken in the cube of the least corner of what both have."""
+        """Returns the same for boxes that meet few cubes. A pair is taken in the cube of the least corner of what both have."""
         cells, row = cells_of(low, high, asked, shift)
         key = mixed(cells)
         left = np.searchsorted(keys, key)
@@ -72,7 +72,7 @@ class Grid:
 
 
 def cells_of(low: np.ndarray, high: np.ndarray, rows: np.ndarray, shift: int) -> tuple[np.ndarray, np.ndarray]:
-    """The cubes that some boxes meet, and the number of the box of each."""
+    """Returns the cubes that some boxes meet, and the number of the box of each."""
     first, last = low[rows] >> shift, high[rows] >> shift
     wide = last - first + 1
     at, owner = ranges(np.zeros(len(rows), int), wide.prod(axis=1))
@@ -82,20 +82,20 @@ def cells_of(low: np.ndarray, high: np.ndarray, rows: np.ndarray, shift: int) ->
 
 
 def mixed(cells: np.ndarray) -> np.ndarray:
-    """A number for each cube; two cubes may have the same."""
+    """Returns a number for each cube; two cubes may have the same."""
     keys = cells.astype(np.uint64)
     return ((keys[:, 0] * np.uint64(0x9E3779B97F4A7C15)) ^ (keys[:, 1] * np.uint64(0xC2B2AE3D27D4EB4F))
             ^ (keys[:, 2] * np.uint64(0x165667B19E3779F9)))
 
 
 def boxes_of(places: np.ndarray, triangles: np.ndarray) -> tuple[np.ndarray, np.ndarray]:
-    """The least and the greatest corner of the box of each triangle."""
+    """Returns the least and the greatest corner of the box of each triangle."""
     a, b, c = places[triangles[:, 0]], places[triangles[:, 1]], places[triangles[:, 2]]
     return np.minimum(np.minimum(a, b), c), np.maximum(np.maximum(a, b), c)
 
 
 def sides(places: np.ndarray, triangles: np.ndarray, others: np.ndarray) -> np.ndarray:
-    """The signs of the sides of the planes of `triangles` on which the corners of `others` lie, in three columns; 0 for
+    """Returns the signs of the sides of the planes of `triangles` on which the corners of `others` lie, in three columns; 0 for
     common corners. Coordinates are near each other."""
     base = places[triangles[:, 0]]
     one, two = (tuple((places[triangles[:, k]] - base).T) for k in (1, 2))
@@ -110,7 +110,7 @@ def sides(places: np.ndarray, triangles: np.ndarray, others: np.ndarray) -> np.n
 
 
 def sure_sides(places: np.ndarray, triangles: np.ndarray, others: np.ndarray) -> np.ndarray:
-    """The same for coordinates that are far from each other, by rounded sums: 0 where their errors may reach the sign."""
+    """Returns the same for coordinates that are far from each other, by rounded sums: 0 where their errors may reach the sign."""
     spots = places.astype(float)
     base = spots[triangles[:, 0]]
     one, two = (tuple((spots[triangles[:, k]] - base).T) for k in (1, 2))
@@ -121,13 +121,13 @@ def sure_sides(places: np.ndarray, triangles: np.ndarray, others: np.ndarray) ->
 
 
 def apart(signs: np.ndarray, others: np.ndarray, triangles: np.ndarray) -> np.ndarray:
-    """Where all corners that are not common lie strictly on one side, so that the triangles do not cross."""
+    """Returns where all corners that are not common lie strictly on one side, so that the triangles do not cross."""
     own = ~(others[:, :, None] == triangles[:, None, :]).any(axis=2)
     return ((signs > 0) | ~own).all(axis=1) & own.any(axis=1) | ((signs < 0) | ~own).all(axis=1) & own.any(axis=1)
 
 
 def crossing(places: np.ndarray, triangles: np.ndarray, others: np.ndarray) -> np.ndarray:
-    """Which pairs of triangles cross, each as the numbers of its three corners."""
+    """Returns which pairs of triangles cross, each as the numbers of its three corners."""
     found = np.zeros(len(triangles), bool)
     for start in range(0, len(triangles), CHUNK):
         part = slice(start, start + CHUNK)
@@ -156,7 +156,7 @@ def crossing_part(places: np.ndarray, triangles: np.ndarray, others: np.ndarray)
 
 
 def edges_meet(places: np.ndarray, triangles: np.ndarray, others: np.ndarray, signs: np.ndarray) -> tuple[np.ndarray, np.ndarray]:
-    """Whether an edge of `others` without a common corner meets its triangle, where `signs` are the sides of its ends; and
+    """Returns whether an edge of `others` without a common corner meets its triangle, where `signs` are the sides of its ends; and
     whether that is left open, since an edge lies in the plane or two corners are common."""
     common = (others[:, :, None] == triangles[:, None, :]).any(axis=2)
     met, is_open = np.zeros(len(triangles), bool), common.sum(axis=1) >= 2

@@ -40,13 +40,13 @@ def dot(a: Vector, b: Vector) -> Any:
 
 
 def across(a: Vector, b: Vector, c: Vector) -> Vector:
-    """The vector across a triangle, as long as twice its area."""
+    """Returns the vector across a triangle, as long as twice its area."""
     (x, y, z), (p, q, r) = less(b, a), less(c, a)
     return y * r - z * q, z * p - x * r, x * q - y * p
 
 
 def unit(v: Vector) -> Vector:
-    """The vector at length 1; 0 stays 0."""
+    """Returns the vector at length 1; 0 stays 0."""
     long = np.maximum(np.sqrt(dot(v, v)), TINY)
     return v[0] / long, v[1] / long, v[2] / long
 
@@ -56,7 +56,7 @@ def normal(a: Vector, b: Vector, c: Vector) -> Vector:
 
 
 def angle(n: Vector, m: Vector) -> Any:
-    """The angle between two unit vectors, within 2e-8 (Abramowitz and Stegun, 4.4.46)."""
+    """Returns the angle between two unit vectors, within 2e-8 (Abramowitz and Stegun, 4.4.46)."""
     cosine = dot(n, m)
     positive = np.where(cosine < 0, -cosine, cosine)
     positive = -np.maximum(-positive, -1.0)
@@ -68,7 +68,7 @@ def angle(n: Vector, m: Vector) -> Any:
 
 
 def turn_of(w: float, x: float, y: float, z: float) -> tuple[Vector, Vector, Vector] | None:
-    """The rows of the matrix of a turn, given as a quaternion of any length; None of the quaternion 0."""
+    """Returns the rows of the matrix of a turn, given as a quaternion of any length; None of the quaternion 0."""
     long = (w * w + x * x + y * y + z * z) ** 0.5
     if not long:
         return None

@@ -195,7 +195,7 @@ fn fail_each(alloc: Global, case: Case, calls: Calls) -> Result<(), Fail>
     fail_once(alloc, case, calls, calls.count)
 }
 
-/// Of many calls of one kind, lets the first ones, some in the middle and the last ones fail.
+/// Lets the first, some in the middle and the last of many calls of one kind fail.
 fn fail_some(alloc: Global, case: Case, calls: Calls) -> Result<(), Fail>
     requires { 0 < case.piece }
 {

@@ -144,8 +144,7 @@ fn has(host: &MemHost, name: &str, text: Option<&str>) -> bool {
     }
 }
 
-/// Returns the status of a run on these arguments, with `export` writing PLY, OFF and OBJ, and so does a `sweep` of three
-/// surfaces.
+/// Returns the status of a run on these arguments; `export` and a `sweep` of three surfaces write PLY, OFF and OBJ.
 pub fn in_three_forms<H: Host>(
     alloc: Global,
     words: &[String],
