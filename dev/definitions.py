@@ -8,7 +8,7 @@ usage: dev/definitions.py           (compares, as the gate does)
 The source is docs/verification/definitions.in.md: text, and tables of names by theme. Each name of a table has to be defined in a crate that the
 heading over it names, or that its own cell names. The files are printed into each row. If a second cell is empty, it becomes the descriptions
 of the names in the heads of these files, or the line over a definition that a head does not name, and names without arguments get the
-arguments that they have in the heads. {shared} becomes the names that more than one crate defines, and {others} the meaning of the
+arguments that they have in the heads. {contents} becomes the headings, {shared} the names that more than one crate defines, {others} the meaning of the
 names that no table has, by crate. A name in backticks above {shared} has to be such a name, a crate or a file; each such name has to occur
 there, and their number may not exceed the number that the text there states. Each definition needs a description in a head or in a line over it.
 """
@@ -142,7 +142,7 @@ class Page:
     """The page as it is printed from its source, and what is wrong with the source."""
 
     def __init__(self, words: Words, source: str) -> None:
-        self.words, self.faults, self.lines = words, [], []
+        self.words, self.source, self.faults, self.lines = words, source, [], []
         self.tabled: set[tuple[str, str, str]] = set()
         above = source.split('{shared}')[0]
         shared, marked = words.shared(), MARKED.findall(above)
@@ -195,6 +195,9 @@ class Page:
             for name, crates in self.words.shared().items():
                 by_crates.setdefault(', '.join(f'`{it}`' for it in crates), []).append(f'`{name}`')
             return [f'- {crates}: {", ".join(names)}' for crates, names in by_crates.items()]
+        if line == '{contents}':
+            heads = [it[3:] for it in self.source.splitlines() if it.startswith('## ')]
+            return [f"- [{re.sub(r' [(].*', '', head)}](#{re.sub(r'[^a-z0-9_ -]', '', head.lower()).replace(' ', '-')})" for head in heads]
         if line == '{others}':
             return [it for crate in self.words.crates for it in self.others(crate)]
         return [line]
