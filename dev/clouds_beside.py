@@ -26,7 +26,7 @@ if __name__ == '__main__':
     begun(__doc__)
 
 from clouds import clouds
-from objects import Surface
+from objects import Surface, to_triangles
 from others import Cost, python_with, ran
 from tools_path import PACKAGE  # noqa: F401
 
@@ -106,13 +106,23 @@ def open_edges(faces: np.ndarray) -> int:
     return int((counts == 1).sum())
 
 
+def lost_part(vertices: np.ndarray, faces: np.ndarray, points: np.ndarray, far: float) -> float:
+    """The part of the points that are farther than `far` from a surface."""
+    surface = Surface(vertices, faces)
+    reach = int(np.ceil(far * surface.scale)) + 2
+    whole = np.round((points - surface.low) * surface.scale).astype(np.int64)
+    row, face = surface.grid.meet(whole - reach, whole + reach)
+    nearest = np.full(len(points), np.inf)
+    np.minimum.at(nearest, row, to_triangles(points[row], *(corner[face] for corner in surface.corners)))
+    return float((nearest > far).mean())
+
+
 def cell(vertices: np.ndarray, faces: np.ndarray, points: np.ndarray, apart: float) -> str:
     """Faces, open edges and what is lost of some points."""
     if not len(faces):
         return 'no face'
     some = points[np.sort(np.random.default_rng(1).permutation(len(points))[:SAMPLE])]
-    lost = float((Surface(vertices, faces).distances(some)[0] > 2 * apart).mean())
-    return f'{len(faces):,}, {open_edges(faces):,}, {lost:.3f}'
+    return f'{len(faces):,}, {open_edges(faces):,}, {lost_part(vertices, faces, some, 2 * apart):.3f}'
 
 
 def beside(kind: str, cloud: Oriented, apart: float, folder: Path) -> str:

@@ -110,9 +110,9 @@ class Surface:
 def to_triangles(p: np.ndarray, a: np.ndarray, b: np.ndarray, c: np.ndarray) -> np.ndarray:
     """Returns the distance of each place to its triangle."""
     across = np.cross(b - a, c - a)
-    area = np.maximum((across ** 2).sum(axis=1), 1e-300)
+    area = (across ** 2).sum(axis=1)
     height = ((p - a) * across).sum(axis=1)
-    is_over = np.ones(len(p), bool)
+    is_over = area > 0          # a triangle without area is its edges alone
     least = np.full(len(p), np.inf)
     for start, end in ((a, b), (b, c), (c, a)):
         edge = end - start
@@ -120,7 +120,7 @@ def to_triangles(p: np.ndarray, a: np.ndarray, b: np.ndarray, c: np.ndarray) -> 
         part = ((p - start) * edge).sum(axis=1) / np.maximum((edge ** 2).sum(axis=1), 1e-300)
         foot = start + np.clip(part, 0, 1)[:, None] * edge
         least = np.minimum(least, ((p - foot) ** 2).sum(axis=1))
-    return np.where(is_over, np.abs(height) / np.sqrt(area), np.sqrt(least))
+    return np.where(is_over, np.abs(height) / np.sqrt(np.maximum(area, 1e-300)), np.sqrt(least))
 
 
 class Camera:

@@ -154,7 +154,8 @@ class Part:
         after = self.folder.look()
         self.tally.runs += 1
         wrong = wrong_in(job, done, before, after)
-        if wrong is None and done.status == 0 and job.tool == 'scan' and 'out' in after and self.draw.random() < 0.2:
+        is_scan = job.tool == 'scan' and 'out' in after and after['out'] != before.get('out')
+        if wrong is None and done.status == 0 and is_scan and self.draw.random() < 0.2:
             wrong = self.unread(after['out'])
         if wrong:
             program = [sys.executable, *([os.path.join(TOOLS, 'recon'), job.tool] if self.tools.is_package else [os.path.join(TOOLS, job.tool + '.py')])]

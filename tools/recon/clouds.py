@@ -43,9 +43,12 @@ def spacing(points: np.ndarray, tree: cKDTree | None = None) -> Spacing:
     some = points[np.sort(np.random.default_rng(1).permutation(len(points))[:SAMPLE])]
     apart, near = (tree_of(points) if tree is None else tree).query(some, min(AROUND + 1, len(points)), workers=-1)
     width = apart[:, 1:NEAR + 1].mean(axis=1)
-    if near.shape[1] < 12 or not np.median(width):
-        return Spacing(float(np.median(width)), 0.0)
-    return Spacing(float(np.median(width)), float(np.median(deviations(points[near], width))))
+    # points that are too far out for a distance are left out
+    near_ones, whole = width[np.isfinite(width)], np.isfinite(apart).all(axis=1)
+    distance = float(np.median(near_ones)) if len(near_ones) else 0.0
+    if near.shape[1] < 12 or not distance or not whole.any():
+        return Spacing(distance, 0.0)
+    return Spacing(distance, float(np.median(deviations(points[near[whole]], width[whole]))))
 
 
 def deviations(blocks: np.ndarray, width: np.ndarray) -> np.ndarray:
@@ -100,7 +103,7 @@ def neighbors(points: np.ndarray, count: int, tree: cKDTree | None = None) -> tu
     found = tree.query(points[order], count, workers=-1)
     apart, near = np.empty((len(points), count)), np.empty((len(points), count), np.int64)
     apart[order], near[order] = (part.reshape(len(points), count) for part in found)
-    return apart, near
+    return apart, np.minimum(near, len(points) - 1)
 
 
 def lone_points(points: np.ndarray, factor: float = 4.0, tree: cKDTree | None = None) -> np.ndarray:
@@ -113,7 +116,7 @@ def lone_points(points: np.ndarray, factor: float = 4.0, tree: cKDTree | None = 
     for column in near.T[2:]:
         np.minimum(least, wide[column], out=least)
     rows = np.flatnonzero(wide > factor * least)
-    around = tree.query(points[rows], min(2 * NEAR + 1, len(points)))[1][:, 1:]
+    around = np.minimum(tree.query(points[rows], min(2 * NEAR + 1, len(points)))[1][:, 1:], len(points) - 1)
     lone = np.zeros(len(points), bool)
     lone[rows] = wide[rows] > factor * np.median(wide[around], axis=1)
     return lone

@@ -7,7 +7,7 @@ import struct
 import subprocess
 from typing import Any
 
-from helpers import MESH, InFolder, call, command, equal, read, spoken, write
+from helpers import MESH, InFolder, call, command, equal, head, read, spoken, write
 from test_other_files import COLUMNS, PCD, las, e57, packet, paged, physical, station_xml
 
 MEMORY = 1 << 30
@@ -178,3 +178,23 @@ class Hostile(InFolder):
         for key, *words in runs:
             is_error(f'{key}= is a whole number', *words, f'{key}={long}')
         equal(read('mesh.ply'), MESH)
+
+    def test_a_point_too_far_out_for_a_distance(self) -> None:
+        rows = [f'{x} {y} 0 0 0 1' for x in range(4) for y in range(4)]
+        write('in', '\n'.join(['ply', 'format ascii 1.0', 'element vertex 16', *(f'property float {name}' for name in ('x', 'y', 'z', 'nx', 'ny', 'nz')),
+                               'end_header', '1e308 0 0 0 0 1', *rows[1:], '']))
+        status, said, error = call('scan', 'in', 'out.ply', 'normals=yes')
+        equal((status, 'wrote 16 points' in said, error), (0, True, ''))
+
+    def test_a_weight_that_is_no_number(self) -> None:
+        for columns, row in (('int x, int y, int z, uchar weight, list uchar int scanner', '1 2 3 - 1 0'),
+                             ('int x, int y, int z, uchar weight, int scanner', '1 2 3 - 0')):
+            write('in', head(1, columns, 1) + f'{row}\n0 0 9\n')
+            equal(call('scan', 'in', 'out.ply'), (1, '', 'recon-scan: refused: vertex row 0: the weight - is no number\n'))
+
+    def test_names_of_columns_beyond_ascii(self) -> None:
+        write('mesh', MESH)
+        rows = [line + ' 7' for line in MESH.split('end_header\n')[1].splitlines()[:4]]
+        write('scan', (head(4, 'int x, int y, int z, uchar caf\xe9') + '\n'.join(rows) + '\n').encode('latin-1'))
+        status, said, error = call('finish', 'mesh', 'out.ply', 'scan=scan', 'flips=no')
+        equal((status, 'brought back caf_ of the scan' in said, error), (0, True, ''))

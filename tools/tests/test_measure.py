@@ -39,6 +39,8 @@ class Measure(InFolder):
             far, = objects.to_triangles(*(np.array([row]) for row in rows))
             tried = nearest_by_trying(rows[0], rows[1:])
             equal(tried - 0.06 < far < tried + 1e-9, True)
+        rows = np.array([[[5, 0, 0], [0, 0, 0], [1, 0, 0], [2, 0, 0]], [[0, 4, 3], [0, 0, 0], [0, 0, 0], [0, 0, 0]]], float)
+        equal(objects.to_triangles(*rows.transpose(1, 0, 2)).tolist(), [3, 5])
         places, faces = ball(5, 1000)
         surface = objects.Surface(np.array(places, float), np.array(faces))
         asked = np.array([[draw.uniform(-1500, 1500) for _ in range(3)] for _ in range(30)])

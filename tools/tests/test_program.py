@@ -393,7 +393,7 @@ class Program(InFolder):
         equal(files, [data('mesh2'), data('cert2')])
         # (the hint of so small a flow is not shown to be a largest one, so rounds follow it)
         flow = ['flow 0 · 0 s', 'flow rounds 0 · 0 s']
-        votes = 'recon: 0.000 votes against the surface for each line of sight\r\n'
+        votes = 'recon: 0.000 contradictions for each line of sight\r\n'
         equal(shown.split(CLEAR), ['', 'cells 0 of 4 · 0 s', 'sights 0 of 4 · 0 s', *flow, votes])
         equal(at_terminal('cells', 'scan', 'out')[2].split(CLEAR), ['', 'cells 0 of 4 · 0 s', ''])
         for words in (('check', 'scan', 'mesh', 'cert'), ('upgrade', 'scan', 'mesh', 'cert', 'new')):
@@ -420,7 +420,7 @@ class Program(InFolder):
         write('scan', example('tetrahedron.ply'))
         # The surface is against no sight, and each face costs smooth.
         for words in ((), ('smooth=0',), ('vote=16', 'smooth=2'), ('smooth=1', 'unit=1', 'vote=8')):
-            equal(hints(*words), ['recon: 0.000 votes against the surface for each line of sight'])
+            equal(hints(*words), ['recon: 0.000 contradictions for each line of sight'])
         # Points of a ball that are said to be seen from behind: a surface is there, and sights are against it.
         points = sphere(300)
         write('scan', scan_of_ball(points * 1000, nearest(-points)))
@@ -428,7 +428,7 @@ class Program(InFolder):
         numbers = {name: int(number) for name, number in re.findall('([a-z]+) ([0-9]+)', said)}
         against = (numbers['cost'] - numbers['faces']) * 1000 // 8 // numbers['sights']
         look = ': over 0.1, so look at the positions of the scanners, or at the normals'
-        equal((status, against > 100, hints()), (0, True, [f'recon: {against // 1000}.{against % 1000:03} votes against the surface for each line '
+        equal((status, against > 100, hints()), (0, True, [f'recon: {against // 1000}.{against % 1000:03} contradictions for each line '
                                                            f'of sight{look}']))
         # Of points that become one at a unit it is said, too.
         write('scan', scan_of_ball(points * 4, nearest(points)))

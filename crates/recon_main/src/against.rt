@@ -1,5 +1,5 @@
-//! What a person at a terminal is told of a surface that was built: how many votes are against it, and whether points have become one.
-//! No clause speaks of these texts.
+//! Hints on a terminal about a mesh that was built: how often lines of sight contradict it, and whether points have become one. No
+//! contract depends on these texts.
 
 use std::env::FillError;
 use std::rt::Env;
@@ -7,7 +7,7 @@ use std::rt::Env;
 /// The longest argument that is an option with a number has fewer bytes.
 const OPTION_LIMIT: usize = 24;
 
-/// So many thousandths of a vote against a line of sight are a reason to look at the positions.
+/// More thousandths of a contradiction for each line of sight than this are a reason to look at the scanner positions.
 const LOOK: u64 = 100;
 
 /// The weights of a run of `build`, by its arguments.
@@ -17,7 +17,7 @@ pub struct Weights {
     vote: u64,
 }
 
-/// The numbers of the line of `build` that are needed here.
+/// Numbers of the line of `build`.
 #[derive(Clone, Copy)]
 struct Built {
     points: u64,
@@ -27,7 +27,7 @@ struct Built {
 }
 
 impl Weights {
-    /// The weights that the arguments state, or those that `build` takes without.
+    /// Returns the weights that the arguments state, or else the defaults of `build`.
     pub fn stated<R: Env>(rt: &R) -> Weights {
         let mut found = Weights { smooth: 1, vote: 8 };
         for index in 5..9 {
@@ -41,7 +41,7 @@ impl Weights {
         found
     }
 
-    /// Takes in an argument, if it is one of the weights.
+    /// Stores the value of an argument, if it is one of the weights.
     fn take(&mut self, word: &[u8]) {
         if let Some(digits) = word.strip_prefix(b"smooth=") {
             self.smooth = first_number(digits);
@@ -50,14 +50,15 @@ impl Weights {
         }
     }
 
-    /// How many thousandths of a vote are against the surface for each line of sight. None where there is no line of sight.
+    /// Returns the thousandths of a contradiction for each line of sight: what the cost is over the area weight of all faces, divided by the
+    /// visibility weight. `None` if there is no line of sight.
     fn against(self, built: Built) -> Option<u64> {
         let area = self.smooth.saturating_mul(built.faces);
         let votes = built.cost.saturating_sub(area).saturating_mul(1000);
         votes.checked_div(self.vote)?.checked_div(built.sights)
     }
 
-    /// Tells of a line of `build`: the votes against the surface, and what to look at.
+    /// Prints hints on the line of `build`.
     pub fn tell<R: Eprint>(self, rt: &R, line: &[u8]) {
         let Some(built) = built_of(line) else {
             return;
@@ -70,7 +71,7 @@ impl Weights {
                 ""
             };
             let _ = eprintln!(rt;
-                "recon: {ones}.{thousandths:03} votes against the surface for each line of sight{look}"
+                "recon: {ones}.{thousandths:03} contradictions for each line of sight{look}"
             );
         }
         if built.points < built.sights / 2 {
@@ -82,7 +83,7 @@ impl Weights {
     }
 }
 
-/// The numbers of a line, if it is one of `build`.
+/// Returns the numbers of a line, if it is one of `build`.
 fn built_of(line: &[u8]) -> Option<Built> {
     Some(Built {
         points: first_number(line.strip_prefix(b"points ")?),
@@ -92,7 +93,7 @@ fn built_of(line: &[u8]) -> Option<Built> {
     })
 }
 
-/// The number after the first occurrence of a word, if it occurs.
+/// Returns the number after the first occurrence of a word, if it occurs.
 fn number_after(line: &[u8], word: &[u8]) -> Option<u64> {
     for start in 0..line.len() {
         if let Some(rest) = line.get(start..)?.strip_prefix(word) {
@@ -102,7 +103,7 @@ fn number_after(line: &[u8], word: &[u8]) -> Option<u64> {
     None
 }
 
-/// The number that a text begins with, 0 where there is none; at most the largest of its type.
+/// Returns the number that a text begins with, 0 if there is none, at most the largest of its type.
 fn first_number(text: &[u8]) -> u64 {
     let mut number: u64 = 0;
     for letter in text {

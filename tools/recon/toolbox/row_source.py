@@ -7,10 +7,12 @@ from __future__ import annotations
 from typing import Any, Callable, Sequence
 
 from recon.toolbox.flight import TIMES, Above, Flight
-from recon.toolbox.ply_text import (ARE_THREE, FORMATS, SCANNER_LIMIT, Element, Property, Refusal, decimals, index_text,
+from recon.toolbox.ply_text import (ARE_THREE, FORMATS, IS_NUMBER, SCANNER_LIMIT, Element, Property, Refusal, decimals, index_text,
                               read_positions)
 from recon.toolbox.sieve import Passage
 from recon.toolbox.sources import Source, refuse_others
+
+MOST_WEIGHTS = 1000
 
 
 def index_column(vertex: Element, name: str | None) -> int | None:
@@ -48,6 +50,7 @@ class OfReader(Source):
     def __init__(self, reader: Any, path: str, columns: list[Property]) -> None:
         super().__init__(columns, path)
         self.reader = reader
+        self.weights: set[str] = set()
         self.vertex, self.scanners = reader.element('vertex'), reader.element('scanner')
         self.count = self.vertex.count
         self.places = self.vertex.point_columns()
@@ -71,6 +74,14 @@ class OfReader(Source):
 
     def pass_vertices(self, receiver: Passage) -> None:
         raise NotImplementedError
+
+    def refuse_weight(self, word: str, place: Callable[[], str]) -> None:
+        """Refuses a weight that is no number. Those that occurred before are known."""
+        if word not in self.weights:
+            if not IS_NUMBER(word):
+                raise Refusal(f'{place()}: the weight {word[:40]} is no number')
+            if len(self.weights) < MOST_WEIGHTS:
+                self.weights.add(word)
 
     def read_scanners(self) -> None:
         """Takes the rows of the file's own element `scanner`."""
@@ -133,6 +144,8 @@ class Rows(OfReader):
                 if words[index] is None:
                     self.counts['without scanner'] += 1
                     continue
+            if self.weight is not None:
+                self.refuse_weight(words[self.weight], place)
             receiver.row(words + ['0'] if is_one else words)
 
 
@@ -170,6 +183,8 @@ class Listed(OfReader):
             numbers = [number for number in named if number is not None]
             if len(numbers) < len(named):
                 raise Refusal(f'{place()}: a number of a scanner is not finite')
+            if self.weighed is not None:
+                self.refuse_weight(values[self.weighed][0], place)
             receiver.row([values[k][0] for k in self.kept] + [' '.join([str(len(numbers)), *numbers])])
 
 
@@ -211,6 +226,8 @@ class Airborne(OfReader):
                 number = found
             else:
                 self.above.box.show(float(words[x]), float(words[y]), float(words[z]))
+            if self.weight is not None:
+                self.refuse_weight(words[self.weight], place)
             receiver.row([*words, number])
         self.positions = list(self.flight.positions) if self.flight else [self.above.position()]
         self.counts['before or after the flight'] = unknown

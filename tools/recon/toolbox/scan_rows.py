@@ -9,7 +9,7 @@ from typing import Any, Iterator
 import numpy as np
 
 from recon.toolbox.mesh_files import WHOLE, Column
-from recon.toolbox.ply_text import FORMATS, IS_NUMBER, Reader, Refusal
+from recon.toolbox.ply_text import FORMATS, IS_NUMBER, Reader, Refusal, plain_names
 
 LONG = 60
 OUTSIDE = 1 << 62
@@ -58,7 +58,7 @@ def columns_of(path: str, unit: int, array: np.ndarray) -> list[Column]:
     if missing:
         raise Refusal(f'{missing} of {len(places)} vertices are no points of {path} at unit={unit}: is it the scan of this '
                       'mesh?')
-    columns = [(vertex.properties[k].name, vertex.properties[k].kind) for k in kept]
+    columns = [(p.name, p.kind) for p in plain_names([vertex.properties[k] for k in kept])]
     return [(name, kind, np.array([value_of(rows[place][at], name, kind) for place in places], float if kind not in WHOLE else np.int64))
             for at, (name, kind) in enumerate(columns)]
 
