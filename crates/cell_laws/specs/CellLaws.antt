@@ -1,10 +1,10 @@
--- Laws of the cells over the vertices that are in.
+-- Theorems on the cells over the vertices that are in.
 --
---   ThreeTermsLaw     the powers at two tetrahedra across a facet
+--   ThreeTermsLaw     the powers at two tetrahedra that share a facet
 --   GenericLaw        the power is zero at a tetrahedron's own vertices alone
 --   EnvelopeLaw       over a place, the cell that has it is the highest
---   HasOneAcross      exactly one vertex makes a cell across a facet
---   AcrossLaw         each facet of a cell is on a wall, or has exactly one cell across it
+--   HasOneAcross      exactly one vertex makes an adjacent cell at a facet
+--   AcrossLaw         each facet of a cell is on a wall, or has exactly one adjacent cell
 --   HaveOneFacet      two cells have a directed facet in common at one side at most, and are then one
 --   FacetLaw          at most one cell has a given directed facet, at one side
 --   PlaceLaw          each place of the box lies in a cell
@@ -44,7 +44,7 @@ EnvelopeLaw =
     (v : Vertices) (t r : Tetrahedron) (q : RationalPoint) → IsCell v t.a t.b t.c t.d → IsCell v r.a r.b r.c r.d →
     IsLyingIn v r q → (orientation_of v r.a r.b r.c r.d *ℤ lift_of v t q) ≤ℤ (orientation_of v t.a t.b t.c t.d *ℤ lift_of v r q)
 
--- exactly one vertex makes a cell across the facet
+-- exactly one vertex makes an adjacent cell at the facet
 pub record HasOneAcross (v : Vertices) (a b c : ℕ) : Type 0 where
   pub vertex : ℕ
   pub cell : IsCell v a c b vertex
@@ -81,6 +81,6 @@ six =
     tetrahedron 0 1 2 4 ∷ tetrahedron 1 2 4 3 ∷ tetrahedron 1 3 4 5 ∷ tetrahedron 2 3 6 4 ∷ tetrahedron 3 4 5 6
     ∷ tetrahedron 3 5 7 6 ∷ []
 
--- for every number of vertices, of which the corners alone are in
+-- for every number of vertices, with the corners alone in
 abbrev pub CornerLaw : Type 0
 CornerLaw = (v : Vertices) → IsBoxed v → ((u : ℕ) → Has v u → u < CORNERS) → IsFull v six (λ t. t)

@@ -3,7 +3,7 @@
 --   edges_of u w f                     how many of the three directed edges of f go from u to w
 --   edge_count u w facets              how many of those of a list of facets
 --   HasNoCorner live cell inside       no cell inside has a corner of the box
---   IsCutList live next inside sides   the sides of outside cells with an inside cell across, each once
+--   IsCutList live next inside sides   the sides of outside cells whose adjacent cell is inside, each once
 --   facets_at cell sides               the facets of these sides, as the outside cells have them
 --   ClosedLaw                          each directed edge stands in these facets as often as its reverse
 use Rattle.std.specs.Prelude.{ℕ, ◌+◌, ◌<◌, ◌≤◌, ◌≡◌, ◌≢◌, ◌==◌, ◌&&◌, Bool, true, false, Option, Some, List, map, AllPairs}

@@ -1,6 +1,6 @@
 -- The planes of lifted tetrahedra over a place, beyond that the cell which has it is the highest.
 --
---   ThreeLiftsLaw       the planes over a place at two tetrahedra across a facet
+--   ThreeLiftsLaw       the planes over a place at two tetrahedra that share a facet
 --   HasOtherBefore      a vertex that the other cell does not have, before whose facet the place is
 --   StrictEnvelopeLaw   where there is one, the cell that has the place is the higher one
 use Rattle.std.specs.Prelude.{◌≡◌, ℕ, ℤ, pos, ◌-ℤ◌, ◌*ℤ◌, ◌<ℤ◌}

@@ -5,7 +5,7 @@ use Rattle.std.specs.Prelude.{ℕ, pos, ◌<ℤ◌, ◌≤ℤ◌}
 use Rattle.geo_sign.specs.Vertices.{Vertices, power_of}
 use Rattle.geo_sign.specs.Cells.{IsCell}
 
--- the cell over the facet is in conflict with p, and no cell across it is
+-- the cell over the facet is in conflict with p, and no adjacent cell at it is
 pub record IsOnFan (v : Vertices) (p a b c : ℕ) : Type 0 where
   pub apex : ℕ
   pub cell : IsCell v a b c apex

@@ -1,10 +1,10 @@
--- Laws of one vertex more.
+-- Theorems on one vertex more. The boundary is that of the conflict region.
 --
---   FanLaw        the cells with the new vertex are those over the fan, which is closed and lies before the vertex
+--   FanLaw        the cells with the new vertex are those over the boundary, which is closed and lies before the vertex
 --   StayLaw       the cells without it are those that it is not in conflict with
 --   VertexLaw     no vertex is lost
 --   FloodLaw      marked cells in conflict that no step between cells in conflict leaves are all cells in conflict
---   EdgeLaw       each directed edge of the fan stands once, and its reverse too
+--   EdgeLaw       each directed edge of the boundary occurs once, and its reverse too
 use Rattle.std.specs.Prelude.{ℕ, ◌<◌, ◌≡◌, ◌≢◌, ◌⊎◌, ◌↔◌, Bool, true, pos, ◌<ℤ◌, ◌≤ℤ◌, List}
 use Rattle.geo_sign.specs.Tetrahedron.{Tetrahedron, DirectedFacet}
 use Rattle.geo_sign.specs.Vertices.{Vertices, Has, orientation_of, power_of}
@@ -20,9 +20,9 @@ pub record IsFanOf (v : Vertices) (p : ℕ) : Type 0 where
   -- p is before each facet
   pub before : (a b c : ℕ) → IsOnFan v p a b c → pos 0 <ℤ orientation_of v a b c p
   pub cells : (a b c : ℕ) → IsOnFan v p a b c ↔ IsCell (with_vertex v p) a b c p
-  -- a facet written anew
+  -- a facet reordered by an even permutation
   pub turned : (a b c : ℕ) → IsOnFan v p a b c → IsOnFan v p b c a
-  -- each directed edge's reverse is in the fan, and each directed edge once
+  -- each directed edge's reverse is in the boundary, and each directed edge once
   pub next : (a b c : ℕ) → IsOnFan v p a b c → (x : ℕ) × IsOnFan v p b a x
   pub once : (a b c d : ℕ) → IsOnFan v p a b c → IsOnFan v p a b d → c ≡ d
   -- there is a facet where a cell is in conflict
@@ -37,7 +37,7 @@ StayLaw =
     (v : Vertices) (p a b c d : ℕ) → p < v.count → a ≢ p → b ≢ p → c ≢ p → d ≢ p →
     IsCell (with_vertex v p) a b c d ↔ (IsCell v a b c d × (pos 0 ≤ℤ power_of v a b c d p))
 
--- where a cell is in conflict with p, each vertex is in a facet of the fan, or in a cell with which p is not in conflict
+-- if a cell is in conflict with p, each vertex is in a facet of the boundary, or in a cell with which p is not in conflict
 abbrev pub VertexLaw : Type 0
 VertexLaw =
     (v : Vertices) → IsBoxed v → (p : ℕ) → IsNew v p → (a b c d : ℕ) → IsCell v a b c d → power_of v a b c d p <ℤ pos 0 →

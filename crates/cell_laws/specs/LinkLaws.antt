@@ -1,10 +1,10 @@
--- Laws of linked cells, in the words of any store: a list of live names, the cell of each, and the neighbor at each side.
+-- Theorems on linked cells of any store: a list of live names, the cell of each, and the neighbor at each side.
 --
 --   BoxLaw        the six cells over the corners, and how they are linked
 --   LinkedLaw     linked cells that are cells are all cells, each once
 --   FoundLaw      the cell in which a new vertex lies is in conflict with it
 --   CavityLaw     a flood over the links marks exactly the cells in conflict
---   RimLaw        the fan is the facets of cells in conflict at the rim
+--   RimLaw        the boundary of the conflict region is what links show at the sides of cells in conflict
 use Rattle.std.specs.Prelude.{[], ℕ, zero, suc, ◌<◌, ◌≡◌, Bool, true, false, Option, Some, None, List, ◌∷◌}
 use Rattle.geo_sign.specs.declared.point.TheConstants.{CORNERS}
 use Rattle.geo_sign.specs.Rational.{rational}
@@ -39,7 +39,7 @@ CavityLaw =
     ((x : ℕ) → IsIn live x → marked x ≡ true → IsInConflict v p (cell x)) → (x : ℕ) → IsIn live x → marked x ≡ true →
     AreConflicts v p live cell marked
 
--- the fan of the definitions, which speaks of all cells, is what links show at the rim of the cells in conflict
+-- the boundary of the conflict region, defined by all cells, is what links show at the sides of the cells in conflict
 pub record IsRimLaw (v : Vertices) (p : ℕ) (live : List ℕ) (cell : ℕ → Tetrahedron) (next : ℕ → ℕ → Option ℕ) : Type 0 where
   pub fan :
       (x k : ℕ) → IsIn live x → k < 4 → IsInConflict v p (cell x) → IsRimSide v p cell next x k →
@@ -79,7 +79,7 @@ four_links a b c d (suc zero) = b
 four_links a b c d (suc (suc zero)) = c
 four_links a b c d (suc (suc (suc k))) = d
 
--- which of the six is across each side; none is across a wall
+-- which of the six is adjacent at each side; none is at a wall
 abbrev pub six_next : ℕ → ℕ → Option ℕ
 six_next zero = four_links (Some 1) None None None
 six_next (suc zero) = four_links (Some 3) (Some 2) None (Some 0)

@@ -1,10 +1,10 @@
--- Linked cells: x stands for the cell cell x, and next x k is the cell across its facet k.
+-- Linked cells: x stands for the cell cell x, and next x k is the adjacent cell at its facet k.
 --
 --   Side                                  a name and a side of its cell
---   AreLinked v live cell next            neighbors have the facet turned, None stands on walls only, no facet stands twice
+--   AreLinked v live cell next            neighbors have the opposite facet, None occurs at walls only, no facet occurs twice
 --   IsFlooded v p live cell next marked   a neighbor in conflict of a marked cell in conflict is marked
---   IsRimSide v p cell next x k           across facet k no neighbor is in conflict
---   IsFanAt v p live cell next a b c      the facet a b c is that of a cell in conflict at a rim
+--   IsRimSide v p cell next x k           at facet k no neighbor is in conflict
+--   IsFanAt v p live cell next a b c      the facet a b c is that of a cell in conflict, on the boundary of the conflict region
 use Rattle.std.specs.Prelude.{ℕ, ◌<◌, ◌≡◌, ◌⊎◌, Bool, true, Option, Some, None, List}
 use Rattle.geo_sign.specs.Tetrahedron.{Tetrahedron, DirectedFacet, facet, facet_of, IsTurned, IsRotated}
 use Rattle.geo_sign.specs.Vertices.{Vertices, IsWall}
@@ -39,7 +39,7 @@ IsFlooded {X} v p live cell next marked =
 abbrev pub IsRimSide : {X : Type 0} (v : Vertices) (p : ℕ) (cell : X → Tetrahedron) (next : X → ℕ → Option X) → X → ℕ → Type 0
 IsRimSide {X} v p cell next x k = (next x k ≡ None) ⊎ ((y : X) × (next x k ≡ Some y) × IsClearOf v p (cell y))
 
--- a cell in conflict, and a side of it at the rim whose facet is a b c up to rotation
+-- a cell in conflict, and a side of it on the boundary of the conflict region whose facet is a b c up to rotation
 pub record IsFanAt {X : Type 0} (v : Vertices) (p : ℕ) (live : List X) (cell : X → Tetrahedron) (next : X → ℕ → Option X)
     (a b c : ℕ) : Type 0 where
   pub at : X

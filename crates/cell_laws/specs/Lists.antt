@@ -27,7 +27,7 @@ pub record IsListing {X : Type 0} (v : Vertices) (live : List X) (cell : X → T
   pub full : IsFull v live cell
   pub once : (x y : X) → IsIn live x → IsIn live y → IsRewritten (cell x) (cell y) → x ≡ y
 
--- from each that is marked, each in conflict across a facet is marked
+-- from each that is marked, each adjacent one in conflict is marked
 abbrev pub IsClosedInConflict : {X : Type 0} (v : Vertices) (p : ℕ) (live : List X) (cell : X → Tetrahedron) → (X → Bool) → Type 0
 IsClosedInConflict {X} v p live cell marked =
     (x y : X) (a b c d e : ℕ) → IsIn live x → IsIn live y → marked x ≡ true → IsInConflict v p (cell x) →

@@ -1,4 +1,4 @@
--- Laws of the list of all cells, by rows of ascending numbers.
+-- Theorems on the list of all cells, by rows of ascending numbers.
 --
 --   ListLaw          the rows of the list stand for all cells, each row for one
 --   HasOneEach       of the rows exactly one is the cell of a scanner, and for each data point exactly one is towards it and

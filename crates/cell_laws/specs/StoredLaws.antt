@@ -1,10 +1,10 @@
--- Laws for stores: the vertices of a store, and cells as rows of numbers.
+-- Theorems on stores: the vertices of a store, and cells as rows of numbers.
 --
 --   AllLaw                           the corners and distinct data points, all in, are vertices of the box
 --   StoredLaw                        they are vertices of the box; a flag set is a vertex more; with all flags set they are all
 --                                    vertices
---   AreRowsOfCells                   each name has one row of ascending numbers, that of a cell, and each row of a cell is that of
---                                    one name
+--   AreRowsOfCells                   each name has one row, the sorted vertex tuple of a cell, and each sorted vertex tuple of
+--                                    a cell is that of one name
 --   RowLaw                           names that stand for all cells are so
 use Rattle.std.specs.Prelude.{ℕ, ◌<◌, ◌≡◌, ◌≢◌, ◌↔◌, ◌+◌, Bool, true, false, Option, List, length, get_or, set, All, AllPairs}
 use Rattle.geo_sign.specs.Boxes.{inserted_vertices, IsBoxed, with_vertex}

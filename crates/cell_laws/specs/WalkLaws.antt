@@ -1,5 +1,5 @@
--- Laws of walks through the cells, of places near a vertex, and of sights. A sight goes from a vertex p to the displaced place
--- of a scanner at s.
+-- Theorems on walks through the cells, on places near a vertex, and on sights. A sight goes from a vertex p to the place of a
+-- symbolically perturbed scanner at s.
 --
 --   StepLaw       a walk over linked cells to a place of the box goes on, and ends
 --   NearLaw       the places of walks are in the box, and how the sign of a side of theirs is found
@@ -28,7 +28,7 @@ use Rattle.cell_laws.specs.Paths.{IsOnSight, is_that, entered_facet, IsSightPath
 use Rattle.geo_sign.specs.Writings.{IsRewritten}
 
 -- ---- a walk to q
--- across a facet that has q behind it there is a cell, and fewer are higher at q than that one
+-- at a facet that has q behind it there is an adjacent cell, and fewer are higher at q than that one
 pub record IsWalk (v : Vertices) (live : List ℕ) (cell : ℕ → Tetrahedron) (next : ℕ → ℕ → Option ℕ)
     (q : RationalPoint) : Type 0 where
   pub goes_on :

@@ -1,10 +1,10 @@
-//! Theorems on one Delaunay tetrahedralization under symbolic perturbation: what insertion, walks and lines of sight need from geometry,
-//! for any store of cells.
+//! Theorems on one Delaunay tetrahedralization under symbolic perturbation: what insertion, walks and lines of sight need from
+//! geometry, for any store of cells.
 //!
-//! The crate does no work at run time. Each function is a theorem: its contract is the statement and its body is empty, and proofs of
-//! other crates cite it. All theorems suppose one record of hypotheses, `IsBoxed`: the corners of the box are in place and in, the other
-//! vertices are distinct data points, any of which may be in, and all have the heights of the perturbation. Cells are four vertices by the
-//! empty-sphere definition, and never what some program has made.
+//! The crate does no work at run time. Each function is a theorem: its contract is the statement and its body is empty, and
+//! proofs of other crates cite it. All theorems suppose one record of hypotheses, `IsBoxed`: the corners of the box are in
+//! place and in, the other vertices are distinct data points, in or not, and all have the heights of the perturbation. Cells
+//! are four vertices by the empty-sphere definition, and never what some program has made.
 //!
 //! | File | Theorems |
 //! |---|---|

@@ -8,7 +8,7 @@ pub fn all_law()
     ensures { AllLaw }
 {}
 
-/// States that the corners and points, of which those with a flag are in, are vertices of the box. One more flag is one more vertex, and
+/// States that the corners and points, in if they have a flag, are vertices of the box. One more flag is one more vertex, and
 /// with all flags set the cells are those of all vertices.
 pub fn stored_law()
     ensures { StoredLaw }

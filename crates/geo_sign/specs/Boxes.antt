@@ -1,4 +1,4 @@
--- Vertices of the box, of which some are in, and one vertex more.
+-- Vertices of the box, in or not, and one vertex more.
 --
 --   inserted_vertices points flags   the box's corners and these points; those with a flag are in
 --   IsTied v                         all have the heights of the symbolic perturbation
@@ -47,7 +47,7 @@ pub record IsNew (v : Vertices) (p : ℕ) : Type 0 where
   pub below : p < v.count
   pub out : v.is_in p ≡ false
 
--- p is in conflict with a positively written cell where its power is negative
+-- p is in conflict with a positively oriented cell if its power is negative
 abbrev pub IsInConflict : Vertices → (p : ℕ) → Tetrahedron → Type 0
 IsInConflict v p t = power_of v t.a t.b t.c t.d p <ℤ pos 0
 

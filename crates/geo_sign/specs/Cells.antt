@@ -2,7 +2,7 @@
 --
 --   IsCell vertices a b c d        four vertices positively oriented with which none that is in is in conflict
 --   FormCell vertices a b c d      the four are a cell, in this order or with the last two exchanged
---   IsCellList vertices rows       the list of all cells, numbers rising in each, the cells rising
+--   IsCellList vertices rows       the list of all cells, numbers ascending in each, the cells ascending
 --   written vertices row           a cell's four ascending numbers in an order in which it is positive
 use Rattle.std.specs.Prelude.{ℕ, ◌<◌, ◌⊎◌, pos, ◌<ℤ◌, ◌≤ℤ◌, int_lt, List, [], ◌∷◌, slice_index, AllPairs, Contains}
 use Rattle.std.specs.Prelude.{if◌then◌else◌}
@@ -24,12 +24,12 @@ pub record IsCell (v : Vertices) (a b c d : ℕ) : Type 0 where
 abbrev pub FormCell : Vertices → (a b c d : ℕ) → Type 0
 FormCell v a b c d = IsCell v a b c d ⊎ IsCell v a b d c
 
--- a cell's four numbers, rising
+-- a cell's four numbers, ascending
 abbrev pub IsRisingCell : Vertices → List ℕ → Type 0
 IsRisingCell v (a ∷ b ∷ c ∷ d ∷ []) = (a < b) × (b < c) × (c < d) × FormCell v a b c d
 IsRisingCell v _ = ⊥
 
--- the list of all cells: each once, its numbers rising, in ascending order
+-- the list of all cells: each once, its numbers ascending, in ascending order
 pub record IsCellList (v : Vertices) (rows : List (List ℕ)) : Type 0 where
   pub rising : AllPairs IsBefore rows
   pub cells : (row : List ℕ) → Contains rows row → IsRisingCell v row

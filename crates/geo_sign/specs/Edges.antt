@@ -22,6 +22,6 @@ edge_end f zero = f.c
 edge_end f (suc zero) = f.a
 edge_end f (suc (suc i)) = f.b
 
--- across its facet i it has what is over the reverse of the edge i, if i < 3
+-- at its facet i it has what is over the reverse of the edge i, if i < 3
 abbrev pub over : DirectedFacet → ℕ → Tetrahedron
 over f p = tetrahedron f.a f.b f.c p

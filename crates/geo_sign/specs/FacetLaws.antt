@@ -3,7 +3,7 @@
 --   SidesAreRotated       a rotated facet has the same side of each place
 --   SidesAreTurned        a turned one has the opposite side
 --   CrossingsAreRotated   a sight crosses a rotated facet where it crosses the facet
---   FacetsAreRotated      the facets of a tetrahedron written anew are its facets, rotated
+--   FacetsAreRotated      the facets of a tetrahedron reordered by an even permutation are its facets, rotated
 use Rattle.std.specs.Prelude.{ℕ, ◌<◌, ◌≡◌, neg_ℤ}
 use Rattle.geo_sign.specs.Rational.{RationalPoint}
 use Rattle.geo_sign.specs.Tetrahedron.{Tetrahedron, DirectedFacet, facet_of, IsRotated, IsTurned}

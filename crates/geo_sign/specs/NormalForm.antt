@@ -3,12 +3,12 @@
 --   Form                    a polynomial multiplied out
 --     leaf c                  the number c
 --     branch i s n            variable i times s, and n
---   form_value numbers f    what it is worth
---   monomial numbers m      what a product of variables is worth, m being their numbers
+--   form_value numbers f    its value
+--   monomial numbers m      the value of a product of variables, m being their numbers
 --   insert_variable i m     variable i put into its place in a product
 --   single k m              k times the product m, alone
 --   add_term k m f          f with k times the product m added
---   expand e k              e multiplied out: each of its products, times what k is given, is handed on to k
+--   expand e k              e multiplied out: each of its products, times what k is given, is passed to k
 --   is_null f               no product is left in f
 --   is_same_form e f             e - f multiplied out has no product left
 use Rattle.std.specs.Prelude.{ℕ, zero, suc, ℤ, pos, negsuc, neg_ℤ, ◌+ℤ◌, ◌*ℤ◌, List, [], ◌∷◌, Bool, true, false, ◌&&◌, ◌==◌}
@@ -20,7 +20,7 @@ pub data Form : Type 0 where
   leaf : ℤ → Form
   branch : ℕ → Form → Form → Form
 
--- what it is worth
+-- its value
 abbrev pub form_value : List ℤ → Form → ℤ
 form_value x (leaf c) = c
 form_value x (branch i s n) = number_at x i *ℤ form_value x s +ℤ form_value x n
@@ -57,12 +57,12 @@ is_zero (pos zero) = true
 is_zero (pos (suc n)) = false
 is_zero (negsuc n) = false
 
--- each product of a form, handed on to k
+-- each product of a form, passed to k
 abbrev pub expand_form : Form → (ℤ → List ℕ → Form → Form) → ℤ → List ℕ → Form → Form
 expand_form (leaf d) k = λ c m t. elim (is_zero d) [ true ↦ t | false ↦ k (c *ℤ d) m t ]
 expand_form (branch i s n) k = λ c m t. expand_form s k c (insert_variable i m) (expand_form n k c m t)
 
--- each product of a polynomial, handed on to k
+-- each product of a polynomial, passed to k
 abbrev pub expand : Polynomial → (ℤ → List ℕ → Form → Form) → ℤ → List ℕ → Form → Form
 expand (variable i) k = λ c m t. k c (insert_variable i m) t
 expand (constant d) k = λ c m t. k (c *ℤ d) m t

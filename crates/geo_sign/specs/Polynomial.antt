@@ -9,7 +9,7 @@
 --     negation e            -e
 --     normal e              e itself, to be multiplied out before it is used, which shortens a long computation
 --   number_at numbers i   the number that variable i stands for: the one at place i of the list, and 0 past its end
---   polynomial_value numbers e   what e is worth there
+--   polynomial_value numbers e   the value of e there
 use Rattle.std.specs.Prelude.{ℕ, zero, suc, ℤ, pos, neg_ℤ, ◌+ℤ◌, ◌-ℤ◌, ◌*ℤ◌, List, [], ◌∷◌}
 
 -- a polynomial as it is written
@@ -28,7 +28,7 @@ number_at [] i = pos 0
 number_at (x ∷ xs) zero = x
 number_at (x ∷ xs) (suc i) = number_at xs i
 
--- what a polynomial is worth where its variables stand for these numbers
+-- the value of a polynomial where its variables stand for these numbers
 abbrev pub polynomial_value : List ℤ → Polynomial → ℤ
 polynomial_value x (variable i) = number_at x i
 polynomial_value x (constant c) = c

@@ -1,13 +1,13 @@
--- That a rising list is given by what it contains.
+-- That an ascending list is given by what it contains.
 --
---   RisingLaw      two rising lists with the same members are one list
+--   RisingLaw      two ascending lists with the same members are one list
 --   CellListLaw    so are two lists of all cells
 use Rattle.std.specs.Prelude.{ℕ, ◌≡◌, ◌↔◌, List, AllPairs, Contains}
 use Rattle.geo_sign.specs.Vertices.{Vertices}
 use Rattle.geo_sign.specs.Cells.{IsCellList}
 use Rattle.geo_sign.specs.Rising.{IsBefore}
 
--- two rising lists with the same members are equal
+-- two ascending lists with the same members are equal
 abbrev pub RisingLaw : Type 0
 RisingLaw =
     (xs ys : List (List ℕ)) → AllPairs IsBefore xs → AllPairs IsBefore ys → ((row : List ℕ) → Contains xs row ↔ Contains ys row)

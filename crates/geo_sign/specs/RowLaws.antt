@@ -1,4 +1,4 @@
--- The row of a tetrahedron: its four numbers, rising. Each positively written tetrahedron has one, and is what `written` makes
+-- The row of a tetrahedron: its sorted vertex tuple. Each positively oriented tetrahedron has one, and is what `written` makes
 -- of it.
 --
 --   IsRowOf t row        the row's numbers rise, and are those of t, in an even order or with the last two exchanged
@@ -6,18 +6,19 @@
 --   IsPositive v t       t is positively oriented
 --   IsFirstLeast f       the facet's smallest number comes first
 --   RowsExist            a positive tetrahedron has one row
---   RowsAreWritten       what `written` makes of the row is t written anew
---   RowsAreKept          written anew it has the same row
---   RowsTell             two positive tetrahedra with one row are one, written anew
---   CellsAreRows         a cell's row is a rising cell, and a rising cell is the row of the cell that `written` makes of it
---   WrittenFacets        the facets of what `written` makes of a rising row have their smallest number first
+--   RowsAreWritten       what `written` makes of the row is t reordered by an even permutation
+--   RowsAreKept          reordered by an even permutation it has the same row
+--   RowsTell             two positive tetrahedra with one row are one, reordered by an even permutation
+--   CellsAreRows         the sorted vertex tuple of a cell is an ascending cell, and an ascending cell is that of the cell that
+--                        `written` makes of it
+--   WrittenFacets        the facets of what `written` makes of an ascending row have their smallest number first
 use Rattle.std.specs.Prelude.{ℕ, ◌<◌, ◌≡◌, ◌⊎◌, pos, ◌<ℤ◌, List, [], ◌∷◌}
 use Rattle.geo_sign.specs.Tetrahedron.{Tetrahedron, tetrahedron, DirectedFacet, facet_of}
 use Rattle.geo_sign.specs.Vertices.{Vertices, orientation_of}
 use Rattle.geo_sign.specs.Cells.{IsCell, IsRisingCell, written}
 use Rattle.geo_sign.specs.Writings.{IsRewritten}
 
--- t is written anew in the order of the row, or with the row's last two numbers exchanged
+-- t is reordered by an even permutation to the row, or to the row with its last two numbers exchanged
 abbrev pub IsRowOf : Tetrahedron → List ℕ → Type 0
 IsRowOf t (a ∷ b ∷ c ∷ d ∷ []) =
     (a < b) × (b < c) × (c < d) × (IsRewritten t (tetrahedron a b c d) ⊎ IsRewritten t (tetrahedron a b d c))
@@ -55,7 +56,7 @@ RowsTell =
     (v : Vertices) (t r : Tetrahedron) (row : List ℕ) → IsPositive v t → IsPositive v r → IsRowOf t row → IsRowOf r row
     → IsRewritten t r
 
--- cells in any writing and rising cells, from each to the other
+-- cells in any writing and ascending cells, from each to the other
 pub record CellsAreRows : Type 0 where
   pub row : (v : Vertices) (t : Tetrahedron) (row : List ℕ) → IsCell v t.a t.b t.c t.d → IsRowOf t row → IsRisingCell v row
   pub cell : (v : Vertices) (row : List ℕ) → IsRisingCell v row

@@ -22,7 +22,7 @@ pub record DirectedFacet : Type 0 where
   pub b : ℕ
   pub c : ℕ
 
--- four vertex numbers in the order in which they are written; whether that is a positive one is told by an orientation
+-- four vertex numbers in the order in which they are written; an orientation shows whether that is a positive one
 abbrev pub tetrahedron : (a b c d : ℕ) → Tetrahedron
 tetrahedron a b c d = record { a = a; b = b; c = c; d = d }
 

@@ -2,7 +2,7 @@
 --
 --   spin t, swap t       two steps that together reach all twelve
 --   after_steps steps t   steps one after another
---   IsRewritten t r      r is t written anew
+--   IsRewritten t r      r is t reordered by an even permutation
 --   IsVertexOf t u       u is one of the vertices of t
 use Rattle.std.specs.Prelude.{ℕ, ◌≡◌, ◌⊎◌, Bool, true, false, List, [], ◌∷◌}
 use Rattle.geo_sign.specs.Tetrahedron.{Tetrahedron, tetrahedron}

@@ -8,15 +8,15 @@ ghost use Rattle.geo_sign.specs.DeterminantLaws.{CramerLaw, OrientationIsSum, Po
 ghost use Rattle.geo_sign.specs.SizeLaws.{NormalsAreSmall, PowersAreSmall};
 ghost use Rattle.geo_sign.specs.declared.point.TheConstants.{BOX_LIMIT, CORNERS, DATA_LIMIT};
 
-/// What a rising list contains determines it. So the cells of given vertices have one list.
+/// States that an ascending list is determined by its members. So the cells of given vertices have one list.
 pub fn rising_list_law()
     ensures rising { RisingLaw }
     ensures cells { CellListLaw }
 {}
 
-/// A directed facet may be written from any of its vertices on: sides and crossings stay. In the other direction each side is the
-/// opposite number. The facets of a tetrahedron written anew are its facets, rotated.
-/// It is for whoever meets one facet from two cells.
+/// States that a directed facet may start at any of its vertices: sides and crossings stay. In the other direction each side is
+/// the opposite number. The facets of a tetrahedron reordered by an even permutation are its facets, rotated. For callers that
+/// meet one facet from two cells.
 pub fn rotated_facet_law()
     ensures sides { SidesAreRotated }
     ensures turned { SidesAreTurned }
@@ -24,9 +24,9 @@ pub fn rotated_facet_law()
     ensures facets { FacetsAreRotated }
 {}
 
-/// Each positively written tetrahedron has one row, its four numbers as they rise. The row determines it up to its writing, cells
-/// in any writing are rising cells by their rows, and the facets of what is written of a row have their smallest number first.
-/// It is for whoever names a cell by its four numbers as they rise.
+/// States that each positively oriented tetrahedron has one row, its sorted vertex tuple. The row determines it up to an even
+/// permutation, cells in any vertex order are ascending cells by their rows, and the facets of what is written of a row have
+/// their smallest number first. For callers that name a cell by its sorted vertex tuple.
 pub fn row_law()
     ensures exist { RowsExist }
     ensures written { RowsAreWritten }
@@ -36,10 +36,10 @@ pub fn row_law()
     ensures least_first { WrittenFacets }
 {}
 
-/// Four vectors have one linear relation, whose weights are determinants of three of them. So the orientation of four points is the
-/// sum of the four orientations in which a fifth point stands in the place of one, that fifth point is their weighted sum, and the
-/// plain power is the opposite of the sum of these four, each times the squared distance from the fifth point to that vertex.
-/// It is for whoever computes a power or an orientation in other words than the definition's.
+/// States that four vectors have one linear relation, whose weights are determinants of three of them. So the orientation of
+/// four points is the sum of the four orientations in which a fifth point stands in the place of one, that fifth point is their
+/// weighted sum, and the plain power is the opposite of the sum of these four, each times the squared distance from the fifth
+/// point to that vertex. For callers that compute a power or an orientation by other formulas than the definition's.
 pub fn determinant_law()
     ensures cramer { CramerLaw }
     ensures orientation { OrientationIsSum }
@@ -47,9 +47,9 @@ pub fn determinant_law()
     ensures power { PowerIsSum }
 {}
 
-/// Where the walls of the box are, and the outermost data points, and how many corners it has. A component of a facet's normal in the
-/// box is at most 2^49, and the plain power of five points of the box at most 72 * 2^120, so both fit the integers that they are
-/// computed in.
+/// Where the walls of the box are, and the outermost data points, and how many corners it has. A component of a facet's normal
+/// in the box is at most 2^49, and the plain power of five points of the box at most 72 * 2^120, so both fit the integers that
+/// they are computed in.
 pub fn size_law()
     ensures walls { BOX_LIMIT ≡ 8388608 }
     ensures data { DATA_LIMIT ≡ 2097151 }

@@ -13,9 +13,9 @@
 //! | `in_sphere` | the power of a point at four others | 5 | 127 |
 //! | `side_of_scanner` | four signs of degree 3 and 2, the first that is not zero | 3 | 75 |
 //!
-//! `specs/` has what every crate above means by vertices, tetrahedra, cells and sights, and identities of polynomials, by which the
-//! proofs multiply out. `laws` says what these meanings do not depend on: how a tetrahedron or a facet is written, and vertices that
-//! are not in.
+//! `specs/` has what every crate above means by vertices, tetrahedra, cells and sights, and identities of polynomials, by which
+//! the proofs multiply out. `laws` says what these meanings do not depend on: how a tetrahedron or a facet is written, and
+//! vertices that are not in.
 //!
 //! # Example
 //!

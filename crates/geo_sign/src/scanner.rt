@@ -1,8 +1,8 @@
 //! The side of a facet on which a scanner lies, where a scanner at s stands for s + (1 / K, 1 / K^2, 1 / K^3) with K = 2^64.
 //!
-//! Times K^3 it is K^3 o + K^2 n.x + K n.y + n.z, where o is the orientation of a, b, c, s and n = (b - a) x (c - a). The parts of n
-//! are at most 2^49, so the first of o, n.x, n.y, n.z that is not zero gives the sign, and no number over 75 bits is computed. It is
-//! zero only where a, b, c are on one line.
+//! Times K^3 it is K^3 o + K^2 n.x + K n.y + n.z, where o is the orientation of a, b, c, s and n = (b - a) x (c - a). The parts
+//! of n are at most 2^49, so the first of o, n.x, n.y, n.z that is not zero gives the sign, and no number over 75 bits is
+//! computed. It is zero only where a, b, c are on one line.
 
 ghost use Rattle.std.specs.Prelude.{◌≡◌, ◌<◌, ◌^◌, unsigned_abs, pos};
 ghost use Rattle.geo_sign.specs.Orientation.{IsOnLine};
@@ -11,8 +11,8 @@ ghost use Rattle.geo_sign.specs.Signs.{sign_of};
 
 use crate::{Point, Sign};
 
-/// The side of the facet a b c on which a scanner at s lies: positive where a, b, c turn counterclockwise as seen from its displaced
-/// place. Zero only where a, b, c are on one line.
+/// The side of the facet a b c on which a scanner at s lies: positive where a, b, c turn counterclockwise as seen from its
+/// displaced place. Zero only where a, b, c are on one line.
 pub fn side_of_scanner(a: Point, b: Point, c: Point, s: Point) -> Sign
     ensures value { result ≡ sign_of (side a b c (displaced s)) }
     ensures bound { unsigned_abs (side a b c (displaced s)) < 2 ^ 270 }

@@ -38,8 +38,8 @@ fn lifted(u: Vector, volume: i128) -> i128
     i128::from(u.square()) * volume
 }
 
-/// The sign of the power of p at a, b, c, d. For four points positively oriented it is negative where p is inside the sphere through
-/// them, zero where it is on it.
+/// The sign of the power of p at a, b, c, d. For four points positively oriented it is negative where p is inside the sphere
+/// through them, zero where it is on it.
 pub fn in_sphere(a: Point, b: Point, c: Point, d: Point, p: Point) -> Sign
     ensures value { result ≡ sign_of (plain_power a b c d p) }
 

@@ -1,8 +1,8 @@
 -- The six cells of the box.
 --
---   box_rows, box_across          their vertices, and which of them is across each side, where 6 stands for none
+--   box_rows, box_across          their vertices, and which of them is adjacent at each side, where 6 stands for none
 --   box_cell i                    cell i, with no neighbors yet
---   across_in ids i k             the number of the cell across side k of cell i
+--   across_in ids i k             the number of the adjacent cell at side k of cell i
 --   AreBoxCells links ids         the cells are these six, linked
 --   box_keeper u                  one of the six that has corner u
 use Rattle.std.specs.Prelude.{ℕ, ◌≡◌, ◌≢◌, ◌<◌, ◌≤◌, ◌+◌, ◌*◌, ◌==◌, ◌⊎◌, if◌then◌else◌, List, [], ◌∷◌, Option, Some, None}

@@ -1,12 +1,12 @@
--- Taking cells out, and putting cells over their rim in.
+-- Taking cells out, and putting in cells over the boundary of the conflict region (the cells taken out).
 --
---   fan_facet fan i, fan_outer fan i    facet number i of a fan, and the cell across it
---   IsFan links old fan                 the fan is the rim of the cells old
---   HasPairedEdges fan                  each directed edge of the fan is there once, and so is its reverse
---   IsInFan fan u                       u is a vertex of a fan facet
+--   fan_facet fan i, fan_outer fan i    facet number i of a boundary, and the adjacent cell outside
+--   IsFan links old fan                 `fan` is the boundary of the cells old
+--   HasPairedEdges fan                  each directed edge of the boundary is there once, and so is its reverse
+--   IsInFan fan u                       u is a vertex of a boundary facet
 --   IsHeld links old u                  u is a vertex of a live cell that is not in old
 --   CanReplace s old fan p              what `replace` asks
---   IsOver links fan p id               a live cell over a fan facet, with p
+--   IsOver links fan p id               a live cell over a boundary facet, with p
 --   IsReplaced s t old fan p            what `replace` does
 use Rattle.std.specs.Prelude.{ℕ, ◌≡◌, ◌<◌, ◌≤◌, ◌+◌, ◌⊎◌, ◌<ℤ◌, pos, true, false, List, [], Option, Some, None, length}
 use Rattle.std.specs.Prelude.{slice_index, slice_index_or, slice_set, Contains}
@@ -44,14 +44,14 @@ pub record IsRim (links : Links) (old : List ℕ) (f : geo.DirectedFacet) (outer
   pub neighbor : links.next cell side ≡ outer
   pub outside : IsOutside old outer
 
--- The fan holds exactly the directed facets of old whose neighbor is not in old, each once, and with each that neighbor.
+-- The list holds exactly the directed facets of old whose neighbor is not in old, each once, and with each that neighbor.
 pub record IsFan (links : Links) (old : List ℕ) (fan : List Facet) : Type 0 where
   pub rim : (i : ℕ) → i < length fan → IsRim links old (fan_facet fan i) (fan_outer fan i)
   pub all : (id k : ℕ) → Contains old id → k < 4 → IsOutside old (links.next id k)
       → (i : ℕ) × (i < length fan) × IsRotated (facet_of (links.at id) k) (fan_facet fan i)
   pub once : (i j : ℕ) → i < length fan → j < length fan → IsRotated (fan_facet fan i) (fan_facet fan j) → i ≡ j
 
--- a directed edge of the fan, from u to w
+-- a directed edge of the boundary, from u to w
 pub record HasEdge (fan : List Facet) (u w : ℕ) : Type 0 where
   pub facet : ℕ
   pub opposite : ℕ
@@ -60,14 +60,14 @@ pub record HasEdge (fan : List Facet) (u w : ℕ) : Type 0 where
   pub start_is : edge_start (fan_facet fan facet) opposite ≡ u
   pub end_is : edge_end (fan_facet fan facet) opposite ≡ w
 
--- Each directed edge of the fan is in one facet alone, and so is its reverse.
+-- Each directed edge of the boundary is in one facet alone, and so is its reverse.
 pub record HasPairedEdges (fan : List Facet) : Type 0 where
   pub turned : (i e : ℕ) → i < length fan → e < 3 → HasEdge fan (edge_end (fan_facet fan i) e) (edge_start (fan_facet fan i) e)
   pub once : (i e j d : ℕ) → i < length fan → e < 3 → j < length fan → d < 3
       → edge_start (fan_facet fan i) e ≡ edge_start (fan_facet fan j) d
       → edge_end (fan_facet fan i) e ≡ edge_end (fan_facet fan j) d → i ≡ j
 
--- u is a vertex of a fan facet
+-- u is a vertex of a boundary facet
 pub record IsInFan (fan : List Facet) (u : ℕ) : Type 0 where
   pub facet : ℕ
   pub opposite : ℕ
@@ -82,7 +82,7 @@ pub record IsHeld (links : Links) (old : List ℕ) (u : ℕ) : Type 0 where
   pub outside : ¬ Contains old cell
   pub has : IsVertexOf (links.at cell) u
 
--- what is asked where the cells old are taken out and cells with p are put over the fan
+-- what is asked where the cells old are taken out and cells with p are put over their boundary
 pub record CanReplace (s : Store) (old : List ℕ) (fan : List Facet) (p : ℕ) : Type 0 where
   pub some_cell : 0 < length old
   pub live : (id : ℕ) → Contains old id → IsLive (links_of s.slots) id
@@ -97,14 +97,14 @@ pub record CanReplace (s : Store) (old : List ℕ) (fan : List Facet) (p : ℕ) 
   pub held : (u : ℕ) → Has (vertices_of s) u → IsInFan fan u ⊎ IsHeld (links_of s.slots) old u
   pub room : length fan ≤ s.spare
 
--- a live cell over a fan facet, with p
+-- a live cell over a boundary facet, with p
 pub record IsOver (links : Links) (fan : List Facet) (p id : ℕ) : Type 0 where
   pub facet : ℕ
   pub facet_in : facet < length fan
   pub is : links.at id ≡ over (fan_facet fan facet) p
 
--- The cells old are out, and there is one over each fan facet, with p. All other cells keep their numbers and vertices, all
--- vertices their points, and all but p whether they are inserted.
+-- The cells old are out, and there is one over each boundary facet, with p. All other cells keep their numbers and vertices,
+-- all vertices their points, and all but p whether they are inserted.
 pub record IsReplaced (s t : Store) (old : List ℕ) (fan : List Facet) (p : ℕ) : Type 0 where
   pub points : t.points ≡ s.points
   pub inserted : t.inserted ≡ slice_set s.inserted p true

@@ -1,13 +1,13 @@
 -- Linked cells by their numbers.
 --
---   Links                     which numbers have a cell, its vertices, and its neighbor across each side
+--   Links                     which numbers have a cell, its vertices, and its neighbor at each side
 --   slot_at slots id          the cell with a number
 --   tetrahedron_from v        the tetrahedron of four numbers
 --   links_of slots            the links of a list of slots
 --   IsLive links id           the number has a cell
---   IsBack links id k z       the live cell z names the cell id back, across the facet of its side k turned round
+--   IsBack links id k z       the live cell z names the cell id back, at the opposite facet of side k of id
 --   IsOnlyAcross links id k z
---                             no other live cell has that turned facet
+--                             no other live cell has that opposite facet
 --   IsLinked vertices links   what is kept of them
 use Rattle.std.specs.Prelude.{ℕ, ◌≡◌, ◌<◌, ◌<ℤ◌, pos, Bool, true, List, Option, Some, None, is_some, slice_index}
 use Rattle.std.specs.Prelude.{slice_index_or}

@@ -9,7 +9,7 @@
 --   AreMoved old slots places from n
 --                                  the first n listed cells are in, moved, and no others
 --   IsRenumbered a b               the links b are the links a, each cell under a number of its own
---   AreKeptMoved places old new n  the first n kept cells, each at its place
+--   AreKeptMoved places old new n  the first n incident cells, each at its place
 use Rattle.std.specs.Prelude.{ℕ, ◌≡◌, ◌<◌, ◌≤◌, ◌^◌, List, [], ◌∷◌, Option, Some, None, length, slice_index, slice_index_or}
 use Rattle.tetra_store.specs.declared.link.Cell.{Cell}
 use Rattle.tetra_store.specs.Links.{Links, slot_at, IsLive}
@@ -69,7 +69,7 @@ pub record IsRenumbered (a b : Links) : Type 0 where
   -- and no number below that of a cell is free
   pub compact : (y z : ℕ) → y < z → IsLive b z → IsLive b y
 
--- ---- kept cells
+-- ---- incident cells
 -- the first n, each where it is placed
 pub record AreKeptMoved (places : List (Option ℕ)) (old new : List ℕ) (n : ℕ) : Type 0 where
   pub count : length new ≡ n

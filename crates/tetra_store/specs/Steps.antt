@@ -1,16 +1,16 @@
 -- The steps of `replace`.
 --
 --   IsSideWritten a b id k other       one side of one cell names another cell, and nothing else has changed
---   new_cell fan p i                   the cell over fan facet i, which names only the cell across that
+--   new_cell fan p i                   the cell over boundary facet i, which names only the adjacent cell outside
 --   ArePut old new cell ids            the cells cell 0, cell 1 .. are in, at ids
---   AreNamed a b fan ids               the cells across the fan name those over it
---   AreFanEdges fan ids edges          the edges are those of the fan
---   AreJoined a b edges                the cells over the fan name each other
+--   AreNamed a b fan ids               the outer cells adjacent to the boundary name those over it
+--   AreFanEdges fan ids edges          the edges are those of the boundary
+--   AreJoined a b edges                the cells over the boundary name each other
 --   CanGrow a fan                      what is asked where all of these are done
 --   IsGrown a b fan p ids              all of these
---   AreKeptNew old new fan ids p n     the kept cells of the fan's vertices and of p are those over the fan
---   IsKeeperHeld links old kept id k   vertex k of the cell id, where that is its kept cell, has another that is not in old
---   AreMended links old kept kept' n   the kept cells that were among old are others
+--   AreKeptNew old new fan ids p n     the incident cells of the boundary's vertices and of p are those over the boundary
+--   IsKeeperHeld links old kept id k   vertex k of the cell id, if that is its incident cell, has another that is not in old
+--   AreMended links old kept kept' n   the incident cells that were among old are others
 --   AreOut old slots slots' n          the cells old are out
 use Rattle.std.specs.Prelude.{ℕ, ◌≡◌, ◌≢◌, ◌<◌, ◌≤◌, ◌+◌, ◌*◌, ◌^◌, ◌⊎◌, List, [], ◌∷◌, Option, Some, None, length, slice_index}
 use Rattle.std.specs.Prelude.{slice_index_or, Contains}
@@ -47,20 +47,20 @@ pub record ArePut (old new : List (Option Cell)) (cell : ℕ → Cell) (ids : Li
   pub distinct : (i j : ℕ) → i < length ids → j < length ids → slice_index ids i ≡ slice_index ids j → i ≡ j
   pub kept : (x : ℕ) → (slot_at new x ≡ slot_at old x) ⊎ Contains ids x
 
--- each cell across the fan has a number that fits
+-- each outer cell adjacent to the boundary has a number that fits
 abbrev pub AreSmall : List Facet → Type 0
 AreSmall fan = (i y : ℕ) → i < length fan → fan_outer fan i ≡ Some y → y + 1 < 2 ^ 32
 
--- ---- cells across the fan
+-- ---- outer cells adjacent to the boundary
 
--- the side of an outer cell that now names the cell over fan facet i
+-- the side of an outer cell that now names the cell over boundary facet i
 pub record IsNamed (a b : Links) (fan : List Facet) (ids : List ℕ) (i y : ℕ) : Type 0 where
   pub side : ℕ
   pub side_in : side < 4
   pub turned : IsTurned (fan_facet fan i) (facet_of (a.at y) side)
   pub named : b.next y side ≡ Some (slice_index ids i)
 
--- a side that names the cell over a fan facet
+-- a side that names the cell over a boundary facet
 pub record IsRenamed (a b : Links) (fan : List Facet) (ids : List ℕ) (x k : ℕ) : Type 0 where
   pub facet : ℕ
   pub facet_in : facet < length fan
@@ -87,14 +87,15 @@ pub record IsNaming (a b : Links) (f : geo.DirectedFacet) (y id : ℕ) : Type 0 
   pub turned : IsTurned f (facet_of (a.at y) side)
   pub written : IsSideWritten a b y side id
 
--- each cell across the fan is live and has its facet
+-- each outer cell adjacent to the boundary is live and has its facet
 pub record AreFacing (a : Links) (fan : List Facet) : Type 0 where
   pub live : (i y : ℕ) → i < length fan → fan_outer fan i ≡ Some y → IsLive a y
   pub facing : (i y : ℕ) → i < length fan → fan_outer fan i ≡ Some y → IsFacing (a.at y) (fan_facet fan i)
 
 -- ---- edges
 
--- an edge of the cell over a fan facet: that side of the new cell, opposite to vertex 0, 1 or 2, which another new cell will share
+-- an edge of the cell over a boundary facet: that side of the new cell, opposite to vertex 0, 1 or 2, which another new cell
+-- will share
 pub record IsFanEdge (fan : List Facet) (ids : List ℕ) (x : Edge) : Type 0 where
   pub facet : ℕ
   pub opposite : ℕ
@@ -105,7 +106,7 @@ pub record IsFanEdge (fan : List Facet) (ids : List ℕ) (x : Edge) : Type 0 whe
   pub cell_is : x.cell ≡ slice_index ids facet
   pub side_is : x.side ≡ opposite
 
--- the edge of fan facet i that is opposite to its vertex e, with the side of the new cell over it
+-- the edge of boundary facet i that is opposite to its vertex e, with the side of the new cell over it
 abbrev pub edge_of : List Facet → List ℕ → (i e : ℕ) → Edge
 edge_of fan ids i e =
     record { start = edge_start (fan_facet fan i) e; end = edge_end (fan_facet fan i) e; cell = slice_index ids i; side = e }
@@ -144,7 +145,7 @@ pub record CanJoinEdges (a : Links) (edges : List Edge) : Type 0 where
 
 -- ---- all new cells
 
--- what is asked of a fan over which cells are put
+-- what is asked of a boundary over which cells are put
 pub record CanGrow (a : Links) (fan : List Facet) : Type 0 where
   pub small : AreSmall fan
   pub facing : AreFacing a fan
@@ -155,7 +156,8 @@ pub record CanGrow (a : Links) (fan : List Facet) : Type 0 where
       → e ≡ d
   pub ends : (i e : ℕ) → i < length fan → edge_start (fan_facet fan i) e ≢ edge_end (fan_facet fan i) e
 
--- side e of the new cell over fan facet i names the new cell over that fan facet which has the edge in the other direction
+-- side e of the new cell over boundary facet i names the new cell over that boundary facet which has the edge in the other
+-- direction
 pub record IsMated (b : Links) (fan : List Facet) (ids : List ℕ) (i e : ℕ) : Type 0 where
   pub mate : ℕ
   pub side : ℕ
@@ -177,15 +179,15 @@ pub record IsGrown (a b : Links) (fan : List Facet) (p : ℕ) (ids : List ℕ) :
   pub kept : (x k : ℕ) → IsLive a x → (b.next x k ≡ a.next x k) ⊎ IsRenamed a b fan ids x k
   pub inner : (i e : ℕ) → i < length fan → e < 3 → IsMated b fan ids i e
 
--- ---- kept cells
+-- ---- incident cells
 
--- the kept cells of a cell's vertices are that cell, and of the others what they were: the first n vertices are done
+-- the incident cells of a cell's vertices are that cell, and of the others what they were: the first n vertices are done
 pub record IsKeptAt (old new : List ℕ) (t : geo.Tetrahedron) (id n : ℕ) : Type 0 where
   pub count : length new ≡ length old
   pub each : (u : ℕ) → (slice_index new u ≡ slice_index old u) ⊎ ((slice_index new u ≡ id) × IsVertexOf t u)
   pub done : (k : ℕ) → k < n → k < 4 → slice_index new (vertex_of t k) ≡ id
 
--- a cell over the fan, which has u
+-- a cell over the boundary, which has u
 pub record IsKeptNew (kept : List ℕ) (fan : List Facet) (ids : List ℕ) (p u : ℕ) : Type 0 where
   pub facet : ℕ
   pub facet_in : facet < length fan
@@ -197,7 +199,7 @@ pub record AreKeptNew (old new : List ℕ) (fan : List Facet) (ids : List ℕ) (
   pub each : (u : ℕ) → (slice_index new u ≡ slice_index old u) ⊎ IsKeptNew new fan ids p u
   pub done : (i k : ℕ) → i < n → k < 4 → IsKeptNew new fan ids p (vertex_of (over (fan_facet fan i) p) k)
 
--- vertex k of the cell id is a vertex of a live cell that is not in old, if its kept cell is id
+-- vertex k of the cell id is a vertex of a live cell that is not in old, if its incident cell is id
 abbrev pub IsKeeperHeld : (links : Links) (old kept : List ℕ) (id k : ℕ) → Type 0
 IsKeeperHeld links old kept id k =
     slice_index kept (vertex_of (links.at id) k) ≡ id → IsHeld links old (vertex_of (links.at id) k)
@@ -208,7 +210,7 @@ pub record IsOutsideWith (links : Links) (old : List ℕ) (u id : ℕ) : Type 0 
   pub outside : ¬ Contains old id
   pub has : IsVertexOf (links.at id) u
 
--- the first n vertices of the cell id have another kept cell
+-- the first n vertices of the cell id have another incident cell
 pub record IsMendedAt (links : Links) (old kept new : List ℕ) (id n : ℕ) : Type 0 where
   pub count : length new ≡ length kept
   pub each : (u : ℕ) → (slice_index new u ≡ slice_index kept u) ⊎ IsOutsideWith links old u (slice_index new u)

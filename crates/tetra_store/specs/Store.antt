@@ -1,11 +1,11 @@
 -- What a store is seen as, and what it keeps.
 --
---   Store                            points, which are inserted, slots of the cells, kept cells, room, capacity
+--   Store                            points, which are inserted, slots of the cells, incident cells, room, capacity
 --   data_points_of s                 the points of all vertices but the corners
 --   vertices_at points inserted      vertices by number, with the heights of the symbolic perturbation
 --   vertices_of s                    those of a store
 --   AreVertices points inserted      they are the corners and data points
---   AreKept s                        each inserted vertex's kept cell is live and has it
+--   AreKept s                        each inserted vertex's incident cell is live and has it
 --   IsStore s                        what is true of each store
 --   spare_room capacity count ..     how many cells fit
 --   store_from points ..             what a store is seen as, from its parts
@@ -54,7 +54,7 @@ pub record AreVertices (points : List Point) (inserted : List Bool) : Type 0 whe
   pub few : length points ≤ CORNERS + VERTEX_LIMIT
   pub boxed : IsBoxed (vertices_at points inserted)
 
--- the kept cell of each inserted vertex is live and has it
+-- the incident cell of each inserted vertex is live and has it
 abbrev pub AreKept : Store → Type 0
 AreKept s =
     (u : ℕ) → Has (vertices_of s) u

@@ -1,4 +1,4 @@
--- The cells of a store as a list of names, which is what the laws of cells speak of.
+-- The cells of a store as a list of names, which is what the theorems on cells speak of.
 --
 --   with_number b n rest    the list, and n before it if b
 --   live_below slots n      the numbers below n that have a cell

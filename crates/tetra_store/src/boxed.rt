@@ -34,7 +34,7 @@ const ROWS: [[u32; 4]; 6] = [
     [3, 5, 7, 6],
 ];
 
-/// Which of them is across each side: none where it says 6.
+/// Which of them is adjacent at each side; 6 stands for none.
 const ACROSS: [[usize; 4]; 6] = [
     [1, 6, 6, 6],
     [3, 2, 6, 0],
@@ -109,7 +109,7 @@ fn with_corners(alloc: Global, points: &[Point]) -> Result<Vec<Point>, NoMemory>
     Ok(all)
 }
 
-/// Flags of so many vertices, of which the corners are inserted.
+/// Returns the flags of `count` vertices with the corners alone inserted.
 fn corner_flags(alloc: Global, count: usize) -> Result<Vec<bool>, NoMemory>
     requires { CORNERS ≤ count }
     ensures count { IfOk result (λ flags. length flags.items ≡ count) }
@@ -122,7 +122,7 @@ fn corner_flags(alloc: Global, count: usize) -> Result<Vec<bool>, NoMemory>
     Ok(flags)
 }
 
-/// Kept cells of so many vertices, of which each corner's has it.
+/// Returns incident cells for `count` vertices: that of each corner has it.
 fn corner_keeps(alloc: Global, count: usize, ids: &[CellId]) -> Result<Vec<KeptCell>, NoMemory>
     requires count { CORNERS ≤ count }
     requires ids { length ids.now ≡ 6 }
@@ -153,7 +153,7 @@ fn box_cells(alloc: Global) -> Result<(Slab<Linked>, Vec<CellId>), NoMemory>
 impl Tetra {
     ghost use Rattle.tetra_store.specs.Store.{vertices_of};
 
-    /// The store of the box with these points, of which none is inserted. Point i is vertex 8 + i. The cells are the Delaunay cells of
+    /// The store of the box with these points, none of them inserted. Point i is vertex 8 + i. The cells are the Delaunay cells of
     /// the corners. The points are distinct data points, `VERTEX_LIMIT` at most.
     pub fn with_box(alloc: Global, points: &[Point]) -> Result<Tetra, NoMemory>
         requires within { (k : ℕ) → k < length points.now → IsWithin DATA_LIMIT (get_or points.now k origin) }

@@ -1,4 +1,4 @@
-//! Putting the cells over a fan in.
+//! Putting in the cells over the boundary of the conflict region.
 
 ghost use Rattle.std.specs.Prelude.{◌≡◌, ◌≢◌, ◌<◌, ◌≤◌, ◌+◌, ◌*◌, ◌^◌, ℕ, true, false, Some, None, [], ◌∷◌, length, slice_index, vec_capacity};
 ghost use Rattle.slab.specs.Slab.{get, HasRoomFor, Updates, slab_len};
@@ -16,7 +16,7 @@ use crate::linked::{Linked, set_back, set_next};
 use crate::{CellId, Facet};
 use slab::Slab;
 
-/// Puts in a cell that has no neighbor but one across the facet opposite to its last vertex.
+/// Puts in a cell that has no neighbor but that opposite to its last vertex.
 pub(crate) fn put(cells: &mut Slab<Linked>, v: [u32; 4], outer: Option<CellId>) -> CellId
     requires room { HasRoomFor cells.old 1 }
     requires few { cells.old.capacity < 2 ^ 32 }
@@ -35,7 +35,7 @@ pub(crate) fn put(cells: &mut Slab<Linked>, v: [u32; 4], outer: Option<CellId>) 
     CellId::new(number)
 }
 
-/// Puts the cells over a fan in, and lists their numbers.
+/// Puts in the cells over the boundary, and lists their numbers.
 pub(crate) fn put_all(cells: &mut Slab<Linked>, fan: &[Facet], p: u32, ids: &mut Vec<CellId>)
     requires room { HasRoomFor cells.old (length fan.now) }
     requires few { cells.old.capacity < 2 ^ 32 }
@@ -71,7 +71,8 @@ fn is_opposite(f: [u32; 3], v: u32) -> bool
     (a != v) & (b != v) & (c != v)
 }
 
-/// The index of a vertex of a cell that a facet does not have. It is 4 if there is none. All four are compared, with no branch between.
+/// The index of a vertex of a cell that a facet does not have. It is 4 if there is none. All four are compared, with no branch
+/// between.
 fn opposite_index(v: [u32; 4], f: [u32; 3]) -> usize
     ensures { result < 4 → (slice_index f 0 ≢ slice_index v result) × (slice_index f 1 ≢ slice_index v result) × (slice_index f 2 ≢ slice_index v result) }
 {
@@ -103,8 +104,8 @@ fn turned_side(v: [u32; 4], f: [u32; 3]) -> usize
     3
 }
 
-/// The side of a cell that has a facet in the other direction. The vertex opposite to it is the one that the facet does not have, and
-/// a cell of four distinct vertices has such a vertex.
+/// The side of a cell that has a facet in the other direction. The vertex opposite to it is the one that the facet does not
+/// have, and a cell of four distinct vertices has such a vertex.
 fn facing_side(v: [u32; 4], f: [u32; 3]) -> usize
     requires { IsFacing (tetrahedron_from v) (facet_at f) }
     ensures side { result < 4 }
@@ -117,10 +118,10 @@ fn facing_side(v: [u32; 4], f: [u32; 3]) -> usize
     turned_side(v, f)
 }
 
-/// The side of a new cell across which the cell across its fan facet is.
+/// The side of a new cell that is its boundary facet.
 const OUTER_SIDE: u8 = 3;
 
-/// Makes a cell name a new one across a facet.
+/// Makes a cell name a new one as its neighbor at a facet.
 fn name(cells: &mut Slab<Linked>, y: CellId, f: [u32; 3], id: CellId)
     requires live { IsLive (links_of cells.old.slots) y }
     requires facing { IsFacing ((links_of cells.old.slots).at y) (facet_at f) }
@@ -134,7 +135,7 @@ fn name(cells: &mut Slab<Linked>, y: CellId, f: [u32; 3], id: CellId)
     set_back(cells, id, usize::from(OUTER_SIDE), side as u8);
 }
 
-/// Makes the cells across a fan name those over it.
+/// Makes the outer cells adjacent to the boundary name the cells over it.
 pub(crate) fn name_outer(cells: &mut Slab<Linked>, fan: &[Facet], ids: &[CellId])
     requires count { length ids.now ≡ length fan.now }
     requires small { (i : ℕ) → i < length ids.now → slice_index ids.now i + 1 < 2 ^ 32 }
@@ -151,8 +152,8 @@ pub(crate) fn name_outer(cells: &mut Slab<Linked>, fan: &[Facet], ids: &[CellId]
     }
 }
 
-/// Puts the cells over a fan in, and makes them neighbors of each other and of the cells across the fan. The two lists are cleared
-/// first, and have room.
+/// Puts in the cells over the boundary, and makes them neighbors of each other and of the outer adjacent cells. The two lists
+/// are cleared first, and have room.
 pub(crate) fn grow(
     cells: &mut Slab<Linked>,
     ids: &mut Vec<CellId>,

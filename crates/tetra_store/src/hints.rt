@@ -1,23 +1,24 @@
-//! Hints where the reverse of each edge of a fan stands.
+//! Hints where the reverse of each edge of the boundary of the conflict region stands.
 //!
-//! The vertices of a fan are numbered as they come. So an edge has a place in a square table: the row of its start and the column of its
-//! end. Each edge is entered there with its index in the list of edges, and its reverse finds it there. What is read of a hint is
-//! checked by whoever reads it. So nothing is promised of a hint, and nothing has to be kept true of the table: what earlier fans
-//! entered stays, and where a fan has too many vertices, a reverse is not found, which costs time and nothing else.
+//! The vertices of a boundary are numbered as they come. So an edge has an entry in a square table: the row of its start and
+//! the column of its end. Each edge is entered there with its index in the list of edges, and its reverse finds it there. The
+//! caller checks each hint that it reads. So nothing is promised of a hint, and nothing has to be kept true of the table: what
+//! earlier boundaries entered stays, and if a boundary has too many vertices, a reverse is not found, which costs time and
+//! nothing else.
 
 use crate::Facet;
 use crate::edge::Edge;
 use std::alloc::{AllocError, Global};
 
-/// How many numbers there are for the vertices of a fan: those that fit a byte.
+/// How many numbers there are for the vertices of a boundary: those that fit a byte.
 const NUMBERS: usize = 256;
 
-/// Hints for the edges of one fan. They are found anew for each fan, which takes no memory.
+/// Hints for the edges of one boundary. They are found anew for each boundary, which takes no memory.
 #[derive(Drop)]
 pub(crate) struct Hints {
-    // The number of each vertex in the last fan that had it.
+    // The number of each vertex in the last boundary that had it.
     numbers: Vec<u8>,
-    // The vertices of the last fan by their numbers.
+    // The vertices of the last boundary by their numbers.
     vertices: [u32; NUMBERS],
     // The indices of edges, by the numbers of start and end.
     table: Vec<u32>,
@@ -33,7 +34,7 @@ impl Hints {
         }
     }
 
-    /// Makes room for fans over so many vertices: a byte for each, and 2^18 bytes for the table.
+    /// Makes room for boundaries over `vertices` vertices: a byte for each, and 2^18 bytes for the table.
     pub(crate) fn reserve(&mut self, vertices: usize) -> Result<(), AllocError> {
         if self.numbers.len() < vertices {
             self.numbers.resize(vertices, 0)?;
@@ -44,7 +45,8 @@ impl Hints {
         Ok(())
     }
 
-    /// Enters the edges of a fan, three for each facet: first those that start at its second, its third and its first vertex.
+    /// Enters the edges of a boundary, three for each facet: first those that start at its second, its third and its first
+    /// vertex.
     pub(crate) fn enter(&mut self, fan: &[Facet]) {
         let mut count = 0u8;
         let mut at = 0u32;
@@ -69,8 +71,9 @@ impl Hints {
     }
 }
 
-/// The number of a vertex, which is the next one where it has none yet. Most vertices of a fan come several times, in no order that
-/// could be foretold. So there is no branch: the vertex is written down as the next one in any case, and counted only if it is new.
+/// Returns the number of a vertex, which is the next one if it has none yet. Most vertices of a boundary come several times, in
+/// no predictable order. So there is no branch: the vertex is written down as the next one in any case, and counted only if it
+/// is new.
 fn number_of(numbers: &mut [u8], vertices: &mut [u32; NUMBERS], count: &mut u8, v: u32) -> u8 {
     let Some(number) = numbers.get_mut(v as usize) else {
         return 0;

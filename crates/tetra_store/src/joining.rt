@@ -1,8 +1,8 @@
-//! Making the cells over a fan neighbors of each other.
+//! Making the cells over the boundary of the conflict region neighbors of each other.
 //!
-//! Two of them are neighbors where their facets have an edge in its two directions. So the directed edges are listed, and hints say
-//! where the reverse of each stands. Each is checked before it is used. If one is wrong, the edges are sorted by their two vertices in
-//! ascending order, and the reverse of each is then next to it. No memory is taken.
+//! Two of them are neighbors where their facets have an edge in its two directions. So the directed edges are listed, and hints
+//! say where the reverse of each stands. Each is checked before it is used. If one is wrong, the edges are sorted by their two
+//! vertices in ascending order, and the reverse of each is then next to it. No memory is taken.
 
 ghost use Rattle.std.specs.Prelude.{List, IfSome, ◌≡◌, ◌<◌, ◌≤◌, ◌+◌, ◌*◌, ◌^◌, ℕ, true, false, [], length, slice_index, vec_capacity, Contains};
 ghost use Rattle.std.specs.List.Sorted.{IsPermutation};
@@ -18,7 +18,7 @@ use crate::linked::{Linked, set_next};
 use crate::{CellId, Facet};
 use slab::Slab;
 
-/// Lists the directed edges of a fan.
+/// Lists the directed edges of the boundary.
 pub(crate) fn push_edges(fan: &[Facet], ids: &[CellId], edges: &mut Vec<Edge>)
     requires count { length ids.now ≡ length fan.now }
     requires small { (i : ℕ) → i < length ids.now → slice_index ids.now i + 1 < 2 ^ 32 }

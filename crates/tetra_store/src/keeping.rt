@@ -1,4 +1,4 @@
-//! The kept cell of each vertex, after cells are put in and before others are taken out.
+//! The incident cell of each vertex, after cells are put in and before others are taken out.
 
 ghost use Rattle.std.specs.Prelude.{◌≡◌, ◌<◌, ◌+◌, ◌^◌, ℕ, true, false, length, slice_index, Contains};
 ghost use Rattle.geo_sign.specs.Tetrahedron.{vertex_of};
@@ -23,7 +23,7 @@ fn keep(kept: &mut [KeptCell], v: [u32; 4], id: CellId)
     }
 }
 
-/// Keeps a cell over the fan for each vertex of the fan, and for p.
+/// Makes a cell over the boundary the incident cell of each boundary vertex, and of p.
 pub(crate) fn keep_new(kept: &mut [KeptCell], fan: &[Facet], ids: &[CellId], p: u32)
     requires count { length ids.now ≡ length fan.now }
     requires small { (i : ℕ) → i < length ids.now → slice_index ids.now i + 1 < 2 ^ 32 }
@@ -47,8 +47,8 @@ fn is_outside(cells: &Slab<Linked>, old: &[CellId], v: u32, number: usize) -> bo
     }
 }
 
-/// A live cell that is not among these and has a vertex, of which there is one. It goes through the live cells, so it is called only
-/// for a vertex that no facet of the fan has.
+/// Returns a live cell that is not among these and has a vertex. There is one. It goes through the live cells, so it is called
+/// only for a vertex that no boundary facet has.
 fn find_outside(cells: &Slab<Linked>, old: &[CellId], v: u32) -> CellId
     requires few { cells.now.capacity < 2 ^ 32 }
     requires held { IsHeld (links_of cells.now.slots) old.now v }

@@ -1,9 +1,9 @@
-//! The kept cell of a vertex, in four bytes.
+//! The incident cell of a vertex, in four bytes.
 
 use crate::CellId;
 use std::marker::Model;
 
-/// The kept cell of a vertex, in four bytes. Contracts see it as that cell's number.
+/// The incident cell of a vertex, in four bytes. Contracts see it as that cell's number.
 #[derive(Clone, Copy)]
 pub(crate) struct KeptCell {
     number: u32,

@@ -1,13 +1,14 @@
-//! The store of linked cells: the vertices of the box and the data, which of them are inserted, and the cells over those, each of
-//! which names its neighbors.
+//! The store of linked cells: the vertices of the box and the data, which of them are inserted, and the cells over those. Each
+//! cell names its neighbors.
 //!
-//! It knows no geometry but the sign of an orientation and the walls of the box. What its type keeps is that the cells are linked: who
-//! is across each facet, and that each facet is in one cell alone. That the cells are Delaunay is for its callers to say, who choose
-//! the cells that `replace` takes out. Only `with_box` says it of the cells that it makes.
+//! It knows no geometry but the sign of an orientation and the walls of the box. Its type keeps that the cells are linked:
+//! which cell is adjacent at each facet, and that each facet is in one cell alone. It does not keep that the cells are
+//! Delaunay: its callers choose the cells that `replace` takes out, and state it. Only `with_box` states it of the cells that
+//! it makes.
 //!
-//! A cell takes 40 bytes: 32 for its vertices and neighbors, 4 for hints which side of each neighbor leads back, and 4 by which the slab
-//! marks a slot that is taken. A vertex takes 12
-//! bytes for its point, 4 for its kept cell, one for whether it is inserted and one for its number in a fan.
+//! A cell takes 40 bytes: 32 for its vertices and neighbors, 4 for hints of the mirror index of each neighbor, and 4 by which
+//! the slab marks a slot that is taken. A vertex takes 12 bytes for its point, 4 for its incident cell, one for whether it is
+//! inserted and one for its number in a boundary.
 #![tactic(auto)]
 
 mod boxed;

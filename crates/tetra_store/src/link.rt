@@ -13,7 +13,7 @@ const NO_CELL: u32 = u32::MAX;
 pub struct Cell {
     /// Its four vertices by number, positively oriented: vertex 3 is on the positive side of the facet of vertices 0, 1, 2.
     pub v: [u32; 4],
-    /// The neighbor across the facet opposite to each vertex. There is none exactly where that facet is on a wall of the box.
+    /// The neighbor opposite to each vertex. There is none exactly if the facet opposite to the vertex is on a wall of the box.
     pub next: [Option<CellId>; 4],
 }
 

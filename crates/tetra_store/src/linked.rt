@@ -16,7 +16,7 @@ use std::marker::Model;
 pub(crate) struct Linked {
     v: [u32; 4],
     next: [Link; 4],
-    // Which side of each neighbor leads back here: a hint, of which nothing is kept true. Whoever reads it tests it.
+    // The mirror index of each neighbor: a hint, which nothing keeps true. Code that reads it tests it.
     backs: [u8; 4],
 }
 
@@ -41,7 +41,7 @@ fn first_of(a: bool, b: bool, c: bool) -> usize
 }
 
 impl Linked {
-    /// A cell with these vertices, and no neighbor but one across the facet opposite to the last. Its hints are unknown.
+    /// Returns a cell with these vertices, and no neighbor but that opposite to the last. Its hints are unknown.
     pub(crate) fn new(v: [u32; 4], outer: Link) -> Linked
         ensures { result ≡ record { v = v; next = None ∷ None ∷ None ∷ outer ∷ [] } }
     {
@@ -78,7 +78,7 @@ impl Linked {
         a == v || b == v || c == v || d == v
     }
 
-    /// The neighbor across a side.
+    /// Returns the neighbor at a side.
     pub(crate) fn next(&self, side: usize) -> Option<CellId>
         requires { side < 4 }
         ensures { result ≡ slice_index_or self.now.next side None }
@@ -86,7 +86,7 @@ impl Linked {
         self.next[side].get()
     }
 
-    /// The side of the neighbor across a side that may lead back here.
+    /// Returns the hint of the mirror index of the neighbor at a side.
     pub(crate) fn back(&self, side: usize) -> usize
         requires { side < 4 }
         ensures { result < 4 }
@@ -94,7 +94,7 @@ impl Linked {
         usize::from(self.backs[side]) % 4
     }
 
-    /// The side across which a neighbor of it is: this one, where it is there, and else the first such side.
+    /// Returns the side at which a neighbor of it is: this one, if it is there, and else the first such side.
     pub(crate) fn side_to(&self, other: CellId, hint: usize) -> usize
         requires neighbor { (k : ℕ) × (k < 4) × (slice_index_or self.now.next k None ≡ Some other) }
         requires hint { hint < 4 }
@@ -107,8 +107,8 @@ impl Linked {
         self.first_side_to(other)
     }
 
-    /// The first side across which a neighbor of it is. It is seldom asked for, and stays a call: so a walk goes on with a hint before
-    /// it is known to be right.
+    /// Returns the first side at which a neighbor of it is. It is seldom asked for, and stays a call: so a walk goes on with a
+    /// hint before it is known to be right.
     #[inline(never)]
     fn first_side_to(&self, other: CellId) -> usize
         requires { (k : ℕ) × (k < 4) × (slice_index_or self.now.next k None ≡ Some other) }
@@ -131,7 +131,7 @@ impl Linked {
         }
     }
 
-    /// Names the neighbor across a side, and which side of that may lead back.
+    /// Names the neighbor at a side, with a hint of its mirror index.
     pub(crate) fn set_next(&mut self, side: usize, other: CellId, back: u8)
         requires side { side < 4 }
         requires other { other + 1 < 2 ^ 32 }
@@ -142,7 +142,7 @@ impl Linked {
         self.backs[side] = back;
     }
 
-    /// Says which side of the neighbor across a side may lead back.
+    /// Sets the hint of the mirror index of the neighbor at a side.
     pub(crate) fn set_back(&mut self, side: usize, back: u8)
         requires { side < 4 }
         ensures { self.new ≡ self.old }
@@ -151,7 +151,7 @@ impl Linked {
     }
 }
 
-/// Names a cell across a side of another, and which side of that cell may lead back.
+/// Names a cell as the neighbor of another at a side, with a hint of its mirror index.
 pub(crate) fn set_next(cells: &mut Slab<Linked>, id: CellId, side: usize, other: CellId, back: u8)
     requires live { ContainsKey cells.old id }
     requires side { side < 4 }
@@ -164,7 +164,7 @@ pub(crate) fn set_next(cells: &mut Slab<Linked>, id: CellId, side: usize, other:
     cell.set_next(side, other, back);
 }
 
-/// Says which side of the neighbor across a side of a cell may lead back.
+/// Sets the hint of the mirror index of the neighbor at a side of a cell.
 pub(crate) fn set_back(cells: &mut Slab<Linked>, id: CellId, side: usize, back: u8)
     requires { side < 4 }
     ensures slots { (x : ℕ) → slot_at cells.new.slots x ≡ slot_at cells.old.slots x }

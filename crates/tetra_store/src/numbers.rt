@@ -1,4 +1,4 @@
-//! Cells by any number, of which some have none.
+//! Cells by any number, also one with no cell.
 
 ghost use Rattle.std.specs.Prelude.{◌≡◌, ◌<◌, IfSome, IfNone, false};
 ghost use Rattle.tetra_store.specs.Links.{links_of, IsLive};
@@ -19,8 +19,8 @@ impl Tetra {
         }
     }
 
-    /// The neighbor across a side, which is 0 to 3, of the cell with this number. None where the facet is on a wall or the number has
-    /// no cell.
+    /// Returns the neighbor at a side, which is 0 to 3, of the cell with this number. None if the facet is on a wall or the
+    /// number has no cell.
     pub fn neighbor_at(&self, number: usize, side: u8) -> Option<CellId>
         requires { side < 4 }
         ensures value { result ≡ (links_of self.now.slots).next number side }

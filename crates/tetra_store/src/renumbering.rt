@@ -1,8 +1,8 @@
 //! Giving cells other numbers, so that those which are near each other in an order have numbers near each other.
 //!
-//! First each cell gets a place, by the order that is asked for and then by its number, and then the cells are copied there one after
-//! another, with the places of their neighbors. The order is a hint: a number in it that has no cell, or that it had before, is passed
-//! over, and cells that it leaves out come last. So nothing is asked of it.
+//! First each cell gets a place, by the order that is asked for and then by its number, and then the cells are copied there one
+//! after another, with the places of their neighbors. The order is a hint: a number in it that has no cell, or that it had
+//! before, is passed over, and cells that it leaves out come last. So nothing is asked of it.
 
 ghost use Rattle.std.specs.Prelude.{◌≡◌, ◌<◌, ◌≤◌, ◌+◌, ◌^◌, ℕ, Some, None, [], IsTrue, IsFalse, IfOk, OnOk, OnErr, length, slice_index_or};
 ghost use Rattle.std.specs.Option.{ForSome};
@@ -178,7 +178,7 @@ fn place_of(of: &[Link], id: CellId) -> Option<CellId>
     }
 }
 
-/// The kept cell at its place, if it has one.
+/// Returns the incident cell at its place, if it has one.
 fn moved_kept(of: &[Link], cell: KeptCell) -> KeptCell
     requires { (x n : ℕ) → IsPlaced of.now x n → n + 1 < 2 ^ 32 }
     ensures { (m : ℕ) → IsPlaced of.now cell m → result ≡ m }
@@ -189,7 +189,7 @@ fn moved_kept(of: &[Link], cell: KeptCell) -> KeptCell
     }
 }
 
-/// The kept cells at their places.
+/// Returns the incident cells at their places.
 fn all_moved_kept(alloc: Global, kept: &[KeptCell], of: &[Link]) -> Result<Vec<KeptCell>, NoMemory>
     requires { (x n : ℕ) → IsPlaced of.now x n → n + 1 < 2 ^ 32 }
     ensures { IfOk result (λ new. AreKeptMoved of.now kept.now new.items (length kept.now)) }
@@ -202,9 +202,9 @@ fn all_moved_kept(alloc: Global, kept: &[KeptCell], of: &[Link]) -> Result<Vec<K
 }
 
 impl Tetra {
-    /// Gives the same cells other numbers, so that no number below that of a cell is free. `order` lists numbers of cells: cells that are
-    /// near each other in it get numbers near each other. It is a hint that decides nothing but speed, and no clause speaks of it: any
-    /// list will do, also one in which numbers stand twice, have no cell, or are left out.
+    /// Gives the same cells other numbers, so that no number below that of a cell is free. `order` lists numbers of cells:
+    /// cells that are near each other in it get numbers near each other. It is a hint that decides nothing but speed, and no
+    /// clause speaks of it: any list will do, also one in which numbers stand twice, have no cell, or are left out.
     ///
     /// It frees the memory of numbers that are free. The only error is out of memory, and after it all is as it was.
     pub fn renumber(&mut self, alloc: Global, order: &[u32]) -> Result<(), NoMemory>

@@ -22,10 +22,10 @@ pub const MOST_CELLS: usize = 4_294_967_295;
 
 /// All vertices, which of them are inserted, and linked cells over those.
 ///
-/// The corners of the box are the vertices 0 to 7 and are inserted. The others are distinct data points. Each cell is written
-/// positively over distinct inserted vertices. No two cells have a directed facet in common. Neighbors name each other across the same
-/// facet in its two directions. A facet has no neighbor exactly on a wall of the box. Each inserted vertex has a kept cell, which has
-/// it.
+/// The corners of the box are the vertices 0 to 7 and are inserted. The others are distinct data points. Each cell is
+/// positively oriented over distinct inserted vertices. No two cells have a directed facet in common. Neighbors name each other
+/// at the same facet in its two directions. A facet has no neighbor exactly on a wall of the box. Each inserted vertex has an
+/// incident cell.
 #[derive(Drop)]
 pub struct Tetra {
     pub(crate) points: Vec<Point>,
@@ -49,12 +49,12 @@ impl Model for Tetra {
     ghost invariant = { λ t. IsStore (store_from t.points.items t.inserted.items t.cells t.kept.items (vec_capacity t.ids) (vec_capacity t.edges)) };
 }
 
-/// The cell across a side of another.
+/// The adjacent cell at a side of another.
 #[derive(Clone, Copy, Debug, PartialEq, Eq)]
 pub struct Neighbor {
     /// Its number.
     pub id: CellId,
-    /// The side of it, 0 to 3, across which the other cell is.
+    /// The mirror index: the side of it, 0 to 3, at which the other cell is.
     pub side: usize,
     /// Its four vertices, as `vertices` has them.
     pub vertices: [u32; 4],
@@ -117,8 +117,8 @@ impl Tetra {
         self.cells[id.number()].vertices()
     }
 
-    /// The neighbor of a cell across a side, which is 0 to 3: the cell across the facet opposite to that vertex. There is none exactly
-    /// where the facet is on a wall, and else it is the only cell that has the facet in the other direction.
+    /// Returns the neighbor of a cell at a side, which is 0 to 3: the adjacent cell at the facet opposite to that vertex. There
+    /// is none exactly if the facet is on a wall, and else it is the only cell that has the facet in the other direction.
     pub fn across(&self, id: CellId, side: u8) -> Option<CellId>
         requires live { IsLive (links_of self.now.slots) id }
         requires side { side < 4 }
@@ -129,9 +129,9 @@ impl Tetra {
         self.cells[id.number()].next(side as usize)
     }
 
-    /// The neighbor of a cell across a side, 0 to 3, as `across` answers it, with the side of it that leads back and its vertices. Two
-    /// cells are neighbors across one facet alone. For walks, which go from cell to cell: it looks each cell up once, and mostly does not
-    /// search for the side.
+    /// Returns the neighbor of a cell at a side, 0 to 3, as `across` returns it, with its mirror index and its vertices. Two
+    /// cells are neighbors at one facet alone. For walks, which go from cell to cell: it looks each cell up once, and mostly
+    /// does not search for the mirror index.
     #[inline(always)]
     pub fn neighbor(&self, id: CellId, side: usize) -> Option<Neighbor>
         requires live { IsLive (links_of self.now.slots) id }
@@ -152,7 +152,7 @@ impl Tetra {
         })
     }
 
-    /// The kept cell of an inserted vertex: a live cell that has it. Which one it is changes as cells are replaced.
+    /// Returns the incident cell of an inserted vertex: a live cell that has it. Which one it is changes as cells are replaced.
     pub fn cell_at(&self, v: u32) -> CellId
         requires { Has (vertices_of self.now) v }
         ensures value { result ≡ slice_index self.now.kept v }
@@ -171,9 +171,10 @@ impl Tetra {
         self.cells.capacity()
     }
 
-    /// Makes room for so many cells more than there are, so that the store is not copied while it grows by these. It gives `replace`
-    /// no room: `reserve` does, and takes no more memory for cells then. Points, cells and what is inserted stay in any case, and the
-    /// room that `replace` has does not grow less. Out of memory is answered too where numbers of cells would not fit 32 bits.
+    /// Makes room for `cells` cells more than there are, so that the store is not copied while it grows by these. It gives
+    /// `replace` no room: `reserve` does, and takes no more memory for cells then. Points, cells and what is inserted stay in
+    /// any case, and the room that `replace` has does not grow less. Out of memory is returned too if numbers of cells would
+    /// not fit 32 bits.
     pub fn reserve_cells(&mut self, cells: usize) -> Result<(), NoMemory>
         ensures spare { OnOk result (self.old.spare ≤ self.new.spare) }
         ensures capacity { self.old.capacity ≤ self.new.capacity }
@@ -192,7 +193,7 @@ impl Tetra {
         Ok(())
     }
 
-    /// Makes room for so many cells, so that `replace` may put them in with no memory taken. Out of memory is answered too where
+    /// Makes room for `cells` new cells, so that `replace` may put them in with no memory taken. Out of memory is returned too if
     /// numbers of cells would not fit 32 bits. Points, cells and what is inserted stay in any case.
     pub fn reserve(&mut self, cells: usize) -> Result<(), NoMemory>
         ensures spare { OnOk result (cells ≤ self.new.spare) }
