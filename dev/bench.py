@@ -14,7 +14,7 @@
   scans=NAME.N,..    these scans, each a shape with its own size, in the place of sizes and shapes; scans=short stands for the worst
                      shapes, and a cube, a room and a torus of 1000000
   check=no           times `build` alone
-  runs=N             runs of each, run by run with the program beside (default: 3)
+  runs=N             runs of each, run by run with the unverified reference (default: 3)
 
 Seconds are of the processor (user and system), the least and the greatest of the runs, and the ratio is that of the least ones. They rise
 where other work shares memory and caches, so compare programs of one row alone. The peak is the largest resident memory, in units of 2^20

@@ -274,7 +274,7 @@ def build(points: Any, scanners: Any = None, seen_by: SeenBy | None = None, *, n
 
 
 class Written(NamedTuple):
-    """A scan that was written: its points (n, 3) in whole units, and the unit and origin of these."""
+    """A scan that was written: its points (n, 3) in whole units, and the scale and origin of these."""
     points: np.ndarray
     unit: int
     origin: np.ndarray

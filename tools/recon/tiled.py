@@ -1,4 +1,4 @@
-"""Surfaces of scans of more points than `recon` takes: cut into tiles, of which each is built and checked, and joined.
+"""Surfaces of scans of more points than `recon` takes: cut into tiles, each built and checked, and joined.
 
 Each tile's surface is the best one of the tile's scan. Of the whole nothing is promised: at the seams gaps may be left, which are filled
 by triangles that no tile has.

@@ -1,12 +1,13 @@
--- What linked cells and counts of votes are as nodes and arcs. Node v is the cell with number v, arc 4 * v + k its side k.
+-- What linked cells and visibility weights are as nodes and arcs. Node v is the cell with number v, arc 4 * v + k its side k.
 --
---   across slots j             the neighbor across the side of an arc
+--   across slots j             the adjacent cell at the side of an arc
 --   neighbor_or_self slots j   the node that an arc enters: the neighbor, or on a wall the cell itself
 --   is_free fixed other        there is a neighbor, and it is free
 --   is_paired slots fixed j    it leads from a free cell to a free neighbor, so the way back is an arc too
---   capacity_of ..             a vote for each crossing and the smoothing, where the neighbor is there and free
+--   capacity_of ..             the visibility weight for each crossing and the area weight, where the neighbor is there and
+--                              free
 --   is_outside slots fixed v   the number has no cell, or a fixed one
---   sink_of ..                 a vote for each sight that the cell is behind
+--   sink_of ..                 the visibility weight for each sight that the cell is behind
 --   IsShape slots ..           they are a network: counts for each number that can have a cell, nodes at both ends of each arc, and
 --                              amounts that fit
 use Rattle.std.specs.Prelude.{ℕ, ◌≢◌, ◌<◌, ◌≤◌, ◌^◌, length, ◌+◌, ◌*◌, ◌/◌, ◌%◌, ◌&&◌, ◌||◌, Bool, false, not, List, Option}
@@ -16,7 +17,7 @@ use Rattle.flow_net.specs.declared.votes.Settings.{Settings}
 use Rattle.tetra_store.specs.declared.link.Cell.{Cell}
 use Rattle.tetra_store.specs.Links.{links_of}
 
--- the neighbor across side j % 4 of cell j / 4
+-- the adjacent cell at side j % 4 of cell j / 4
 abbrev pub across : List (Option Cell) → ℕ → Option ℕ
 across slots j = (links_of slots).next (j / 4) (j % 4)
 
@@ -29,7 +30,7 @@ abbrev pub is_free : List Bool → Option ℕ → Bool
 is_free fixed None = false
 is_free fixed (Some other) = not (flag_at fixed other)
 
--- the cell of the side is free, and there is a free neighbor across
+-- the cell of the side is free, and its adjacent cell there is free
 abbrev pub is_paired : List (Option Cell) → List Bool → ℕ → Bool
 is_paired slots fixed j = not (flag_at fixed (j / 4)) && is_free fixed (across slots j)
 

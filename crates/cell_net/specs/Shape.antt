@@ -1,4 +1,4 @@
--- Linked cells and counts of votes as a network by numbers.
+-- Linked cells and visibility weights as a network by numbers.
 --
 --   numbered_with ..   the network by numbers
 use Rattle.std.specs.Prelude.{ℕ, ◌*◌, ◌/◌, length, List, Bool, Option}

@@ -66,7 +66,7 @@ impl<'a> CellNetwork<'a> {
         }
     }
 
-    /// The neighbor across the side of an arc.
+    /// The adjacent cell at the side of an arc.
     fn across(&self, arc: usize) -> Option<CellId>
         ensures value { result ≡ across self.now.tetra.now.slots arc }
         ensures live { IfSome result (λ other. IsLive (links_of self.now.tetra.now.slots) other) }
@@ -74,7 +74,7 @@ impl<'a> CellNetwork<'a> {
         self.tetra.neighbor_at(arc / 4, (arc % 4) as u8)
     }
 
-    /// The neighbor across the side of an arc, if it is free.
+    /// The adjacent cell at the side of an arc, if it is free.
     fn free_across(&self, arc: usize) -> Option<CellId>
         ensures some { IsSome result → is_free self.now.counts.fixed.now (across self.now.tetra.now.slots arc) ≡ true }
         ensures none { IfNone result (is_free self.now.counts.fixed.now (across self.now.tetra.now.slots arc) ≡ false) }
@@ -88,7 +88,7 @@ impl<'a> CellNetwork<'a> {
         Some(other)
     }
 
-    /// The arc that leads back across the side of a cell, if the neighbor there is free.
+    /// The arc that leads back from the cell adjacent at a side, if that cell is free.
     fn arc_back(&self, id: CellId, side: usize) -> Option<usize>
         requires live { IsLive (links_of self.now.tetra.now.slots) id }
         requires side { side < 4 }

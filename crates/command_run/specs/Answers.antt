@@ -51,7 +51,7 @@ MayEnd task Refused = task.Refuses
 MayEnd task Failed = ⊤
 MayEnd task NoMemory = ⊤
 
--- an input is invalid, after so many files were read: nothing is written
+-- an input is invalid, after this number of files were read: nothing is written
 abbrev pub invalid : ℕ → List ℕ → Answer
 invalid reads line = record { status = Refused; reads = reads; writes = []; line = line }
 

@@ -3,14 +3,14 @@
 --   WhereTold before after Holds        where the host tells, what it tells before and after is so related
 --   all_written writes files            the files after these were written in order
 --   IsUntouched old new                 the files and what was said are as before
---   IsCarriedOut writes line old new    all files were written and the line was said
---   SaidFront, WroteFront               a front of the line was said; a front of a file was written
+--   IsCarriedOut writes line old new    all files were written and the line is on standard output
+--   SaidFront, WroteFront               a prefix of the line is on standard output; a prefix of a file was written
 --   StoppedIn writes line old new       what stands after a call failed on the way through an answer
 --   EndsBy, StopsBy                     one of these answers was carried out; it was up to a failed call
---   TellsBy Answers status old new      what is told after a run that has these answers and ended so
+--   TellsBy Answers status old new      what holds after a run that has these answers and ended so
 --   FaultsFit status before after       the count of faults rose exactly where the run failed
 --   OpensNoMore Answers before after    no more files were opened than the answer reads
---   Run Fits most Answers ..            all of it, for a run that may end so, reads so many files and has these answers
+--   Run Fits most Answers ..            all of it, for a run that may end so, reads this number of files and has these answers
 use Rattle.std.specs.Option.{IsSomeAnd}
 use Rattle.std.specs.Prelude.{IfSome, List, [], ◌∷◌, ◌≡◌, ℕ, ◌++◌, take, ◌⊎◌, ◌+◌, ◌≤◌, false}
 use Rattle.host.specs.Counts.{Rose}
@@ -33,18 +33,18 @@ pub record IsUntouched (old new : Told) : Type 0 where
   pub files : new.files ≡ old.files
   pub said : new.said ≡ old.said
 
--- all files were written and the line was said
+-- all files were written and the line is on standard output
 pub record IsCarriedOut (writes : List Write) (line : List ℕ) (old new : Told) : Type 0 where
   pub files : new.files ≡ all_written writes old.files
   pub said : new.said ≡ old.said ++ line
 
--- all files are whole, and a front of the line was said
+-- all files are whole, and a prefix of the line is on standard output
 pub record SaidFront (line : List ℕ) (old new : Told) : Type 0 where
   pub files : new.files ≡ old.files
   pub length : ℕ
   pub said : new.said ≡ old.said ++ take length line
 
--- nothing was said, and the file is as it was or holds a front of its bytes
+-- nothing is on standard output, and the file is as it was or holds a prefix of its bytes
 pub record WroteFront (name bytes : List ℕ) (old new : Told) : Type 0 where
   pub said : new.said ≡ old.said
   pub files : (new.files ≡ old.files) ⊎ ((length : ℕ) × (new.files ≡ with_file name (take length bytes) old.files))
@@ -68,7 +68,7 @@ pub record StopsBy (Answers : Files → Answer → Type 0) (old new : Told) : Ty
   pub answers : Answers old.files answer
   pub stopped : StoppedIn answer.writes answer.line old new
 
--- what is told after a run that has these answers and ended so
+-- what holds after a run that has these answers and ended so
 abbrev pub TellsBy : (Files → Answer → Type 0) → Status → Told → Told → Type 0
 TellsBy Answers Failed old new = IsUntouched old new ⊎ StopsBy Answers old new
 TellsBy Answers NoMemory old new = IsUntouched old new
@@ -91,7 +91,7 @@ abbrev pub OpensNoMore : (Files → Answer → Type 0) → State → State → T
 OpensNoMore Answers before after =
     IfSome before.told (λ old. (answer : Answer) → Answers old.files answer → after.opens ≤ before.opens + answer.reads)
 
--- what a run does to its host that may end so, reads so many files at most, and has these answers
+-- what a run does to its host that may end so, reads at most this number of files, and has these answers
 pub record Run (Fits : Status → Type 0) (most : ℕ) (Answers : Files → Answer → Type 0) (status : Status)
     (before after : State) : Type 0 where
   -- it may end so
@@ -102,7 +102,7 @@ pub record Run (Fits : Status → Type 0) (most : ℕ) (Answers : Files → Answ
   pub opens : after.opens ≤ before.opens + most
   -- no file is left open for writing
   pub writing : after.writing ≡ false
-  -- what is told
+  -- what holds
   pub tells : WhereTold before after (λ old new. TellsBy Answers status old new)
   -- no more files were opened than this answer reads
   pub reads : OpensNoMore Answers before after

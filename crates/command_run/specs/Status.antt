@@ -1,7 +1,7 @@
 -- The exit status as a number.
 --
 --   code_of status           the number of a status
---   ExitsWith code Holds     the number is that of a status of which this holds
+--   ExitsWith code Holds     the number is that of a status for which this holds
 use Rattle.std.specs.Prelude.{ℕ, ◌≡◌}
 use Rattle.command_run.specs.declared.status.Status.{Status}
 use Rattle.command_run.specs.declared.status.Status.TheVariants.{Done, No, BadArguments, Refused, Failed, NoMemory}

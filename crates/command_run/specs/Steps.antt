@@ -65,7 +65,7 @@ abbrev pub IsPrintedIfRead : MeshReading → Type 0
 IsPrintedIfRead (readings.Mesh mesh) = IsPrinted mesh.points.items mesh.faces.items
 IsPrintedIfRead (readings.Refused line) = ⊤
 
--- nothing changed but what readings change, and no more files were opened than so many and than each of these answers reads
+-- nothing changed but what readings change, and no more files were opened than this number and than each of these answers reads
 pub record ReadsBy (most : ℕ) (Answers : Files → Answer → Type 0) (before after : State) : Type 0 where
   pub told : apart_from_left after.told ≡ apart_from_left before.told
   pub writing : after.writing ≡ false
@@ -89,7 +89,7 @@ pub record IsWritten (writes : List Write) (before after : State) : Type 0 where
   pub writing : after.writing ≡ false
   pub told : WhereTold before after (λ old new. (new.files ≡ all_written writes old.files) × (new.said ≡ old.said))
 
--- all files were written and the line was said
+-- all files were written and the line is on standard output
 pub record CarriesAllOut (writes : List Write) (line : List ℕ) (before after : State) : Type 0 where
   pub faults : after.faults ≡ before.faults
   pub opens : after.opens ≡ before.opens

@@ -65,7 +65,7 @@ impl From<AllocError> for Stop {
     }
 }
 
-/// Returns the answer to an invalid input: no file is written, and this line is said.
+/// Returns the answer to an invalid input: no file is written, and this line is printed.
 pub fn invalid_input<'a>(alloc: Global, line: Line) -> Reply<'a>
     ensures { (reads : ℕ) → answer_of reads result ≡ invalid reads (line_bytes line) }
 {

@@ -8,10 +8,10 @@
 --   total_out net flow v                what leaves node v, over arcs and at its sink
 --   IsUnbalanced net flow v             node v is free, and what enters it is not what leaves it
 --   IsInsideAlone labels other v        node v is inside by labels and outside by others
---   IsNotLeast net labels v             node v is inside, and outside by the least-inside labels
+--   IsNotLeast net labels v             node v is inside, and outside by the minimum cut with the smallest inside
 --   AreWithinArcs net labels flow       no fixed node is inside, and no arc is over its capacity
 --   AreWithinLimits net labels flow     nor is a sink over its limit
---   IsOptimalPair net labels flow       admissible labels that cost what a valid flow is worth
+--   IsOptimalPair net labels flow       admissible labels that cost the value of a valid flow
 --   IsVerdict net labels flow verdict   the verdict: the first of these faults at its smallest node or arc, or Yes
 use Rattle.std.specs.Prelude.{ℕ, ◌≡◌, ◌≢◌, length, slice_index}
 use Rattle.flow_net.specs.declared.Net.{Net}
@@ -53,7 +53,7 @@ IsUnbalanced net flow = faults.IsUnbalanced (network_of net) (slice_index flow.o
 abbrev pub IsInsideAlone : Labels → Labels → ℕ → Type 0
 IsInsideAlone labels other = faults.IsInsideAlone (flag_at labels.inside) (flag_at other.inside)
 
--- node v is inside, and outside by the least-inside labels
+-- node v is inside, and outside by the minimum cut with the smallest inside
 abbrev pub IsNotLeast : Net → Labels → ℕ → Type 0
 IsNotLeast net labels = faults.IsNotLeast (network_of net) (flag_at labels.inside)
 
@@ -66,14 +66,14 @@ abbrev pub AreWithinLimits : Net → Labels → Flow → Type 0
 AreWithinLimits net labels flow =
     faults.AreWithinLimits (network_of net) (flag_at labels.inside) (slice_index flow.on_arc) (slice_index flow.on_sink)
 
--- admissible labels that cost what a valid flow is worth
+-- admissible labels that cost the value of a valid flow
 pub record IsOptimalPair (net : Net) (labels : Labels) (flow : Flow) : Type 0 where
   pub admissible : IsAdmissible net labels
   pub valid : IsValidFlow net flow
   pub equal : value_of net flow ≡ cost_of net labels
 
--- the first fault in the order of the cases, at its smallest node or arc and with its numbers; Yes is a valid flow that
--- is worth what least-inside labels cost
+-- the first fault in the order of the cases, at its smallest node or arc and with its numbers; Yes is a valid flow whose value
+-- is the cost of the minimum cut with the smallest inside
 abbrev pub IsVerdict : Net → Labels → Flow → Verdict → Type 0
 IsVerdict net labels flow Yes = IsValidFlow net flow × (value_of net flow ≡ cost_of net labels) × IsLeastInside net labels
 IsVerdict net labels flow (FixedInside v) = IsFirst (length net.fixed) (IsFixedInside net labels) v

@@ -29,7 +29,7 @@ fn inside_alone(labels: &Labels, other: &Labels) -> Option<usize>
     None
 }
 
-/// The first node that is inside, and outside by the least-inside labels, if there is one.
+/// The first node that is inside, and outside by the minimum cut with the smallest inside, if there is one.
 fn not_least(
     alloc: Global,
     net: &Net,
@@ -44,11 +44,11 @@ fn not_least(
     Ok(inside_alone(labels, &least))
 }
 
-/// Whether labels are the least-inside ones of a network and a flow shows it, or else the first fault.
+/// Whether labels are the minimum cut of a network with the smallest inside and a flow shows it, or else the first fault.
 ///
 /// There is one label and one amount a node, and one amount an arc. The faults are tried in the order of the variants of
-/// [`Verdict`], and the first is answered, at its smallest node or arc. `Yes` comes exactly where the flow is valid, its
-/// value is the cost of the labels, and these are the least-inside ones. The only error is out of memory.
+/// [`Verdict`], and the first is returned, at its smallest node or arc. `Yes` comes exactly if the flow is valid, its value is
+/// the cost of the labels, and these are the minimum cut with the smallest inside. The only error is out of memory.
 pub fn check_flow(
     alloc: Global,
     net: &Net,

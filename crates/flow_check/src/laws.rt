@@ -1,9 +1,8 @@
-//! A law over the definitions, as the contract of a call that does nothing.
+//! A theorem over the definitions, as the contract of a call that does nothing.
 
 ghost use Rattle.flow_check.specs.Laws.{OneVerdict};
 
-/// No labels and flow have two verdicts.
-/// It is for whoever compares two verdicts: a fault that was named is the one.
+/// No labels and flow have two verdicts. Use it to compare two verdicts: a fault that was named is the one.
 pub fn verdicts_are_unique()
     ensures { OneVerdict }
 {}

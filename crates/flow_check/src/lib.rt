@@ -1,12 +1,13 @@
-//! Checks that labels are the least-inside ones of a network, by a flow that is worth what they cost.
+//! Checks that labels are the minimum cut of a network with the smallest inside, by a flow whose value is their cost.
 //!
 //! Nothing is known of labels and flow but that there is one label and one amount a node and one amount an arc. A valid
 //! flow whose value is the cost of admissible labels shows that no labels cost less (Ford and Fulkerson 1956). The first
 //! fault is named, with its node or arc and its numbers.
 //!
-//! `verdict` holds the answers, `limits` finds fixed nodes inside and amounts over their limits, `balance` finds nodes at
-//! which a flow is not balanced, `checking` puts them together, and `laws` says what holds of all verdicts. The crate stands
-//! on `flow_net`, on `flow_valid` for what enters and leaves each node, and on `max_flow` for the least-inside labels.
+//! `verdict` holds the answers, `limits` finds fixed nodes inside and amounts over their limits, `balance` finds nodes at which
+//! a flow is not balanced, `checking` puts them together, and `laws` says what holds of all verdicts. The crate depends on
+//! `flow_net`, on `flow_valid` for what enters and leaves each node, and on `max_flow` for the minimum cut with the smallest
+//! inside.
 #![tactic(auto)]
 
 mod balance;

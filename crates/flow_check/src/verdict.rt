@@ -3,7 +3,7 @@
 /// What a check of labels and a flow finds: the first fault in the order of the variants, at its smallest node or arc.
 #[derive(Clone, Copy, Debug, PartialEq, Eq)]
 pub enum Verdict {
-    /// The flow is valid, its value is the cost of the labels, and these are the least-inside ones.
+    /// The flow is valid, its value is the cost of the labels, and these are the minimum cut with the smallest inside.
     Yes,
     /// A fixed node is inside.
     FixedInside {
@@ -44,7 +44,7 @@ pub enum Verdict {
         /// The cost.
         cost: u128,
     },
-    /// The labels cost least, but a node that they have inside is outside by the least-inside labels.
+    /// The labels cost least, but a node that they have inside is outside by the minimum cut with the smallest inside.
     NotLeast {
         /// The node.
         node: usize,

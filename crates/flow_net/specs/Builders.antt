@@ -10,12 +10,12 @@
 --   CanFeed         nothing is wrong with an arc from a fixed node
 --   AreJoinable     nothing is wrong with the two nodes of an arc and its reverse
 --   CanJoin         nothing is wrong with an arc and its reverse
---   RefusesSink     what a refusal says of a sink
---   RefusesFeed     what a refusal says of an arc from a fixed node
---   RefusesJoin     what a refusal says of an arc and its reverse
+--   RefusesSink     what an error says of a sink
+--   RefusesFeed     what an error says of an arc from a fixed node
+--   RefusesJoin     what an error says of an arc and its reverse
 --
--- A refusal is about the first wrong argument, in the order in which the call takes them; that both ends are one node comes after each
--- of the ends. So for the same arguments there is one refusal, but for out of memory.
+-- An error is about the first wrong argument, in the order in which the call takes them; that both ends are one node comes
+-- after each of the ends. So for the same arguments there is one error, except out of memory.
 use Rattle.std.specs.Prelude.{ℕ, ◌≡◌, ◌≢◌, ◌<◌, ◌≤◌, ◌+◌, ◌⊎◌, Bool, true, false, List, [], ◌∷◌, ◌++◌, length, Some, None}
 use Rattle.flow_net.specs.declared.Arc.{Arc}
 use Rattle.flow_net.specs.declared.builder.NetRefusal.{NetRefusal}
@@ -79,13 +79,13 @@ pub record CanJoin (parts : Parts) (from to cap back_cap : ℕ) : Type 0 where
   pub small : cap ≤ AMOUNT_LIMIT
   pub back_small : back_cap ≤ AMOUNT_LIMIT
 
--- what a refusal says of a sink; for out of memory alone, that nothing is wrong with it
+-- what an error says of a sink; for out of memory alone, that nothing is wrong with it
 abbrev pub RefusesSink : ℕ → NetRefusal → Type 0
 RefusesSink sink (OverLimit amount) = (amount ≡ sink) × AMOUNT_LIMIT < amount
 RefusesSink sink NoMemory = sink ≤ AMOUNT_LIMIT
 RefusesSink sink why = ⊥
 
--- what a refusal says of an arc from a fixed node; for out of memory alone, that nothing is wrong with it
+-- what an error says of an arc from a fixed node; for out of memory alone, that nothing is wrong with it
 abbrev pub RefusesFeed : Parts → ℕ → ℕ → ℕ → NetRefusal → Type 0
 RefusesFeed parts from to cap (NoNode v) = IsFirstWrong v from to (IsNode parts from true) × length parts.fixed ≤ v
 RefusesFeed parts from to cap (SameNode v) = ⊥
@@ -95,7 +95,7 @@ RefusesFeed parts from to cap (OverLimit amount) =
     (amount ≡ cap) × IsNode parts from true × IsNode parts to false × AMOUNT_LIMIT < amount
 RefusesFeed parts from to cap NoMemory = CanFeed parts from to cap
 
--- what a refusal says of an arc and its reverse; for out of memory alone, that nothing is wrong with them
+-- what an error says of an arc and its reverse; for out of memory alone, that nothing is wrong with them
 abbrev pub RefusesJoin : Parts → ℕ → ℕ → ℕ → ℕ → NetRefusal → Type 0
 RefusesJoin parts from to cap back_cap (NoNode v) = IsFirstWrong v from to (IsNode parts from false) × length parts.fixed ≤ v
 RefusesJoin parts from to cap back_cap (SameNode v) = (v ≡ from) × (v ≡ to) × IsNode parts v false

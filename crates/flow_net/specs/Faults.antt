@@ -7,7 +7,7 @@
 --   total_out net on_arc on_node v         what leaves the node, over arcs and at its sink
 --   IsUnbalanced net on_arc on_node v      the node is free, and what enters it is not what leaves it
 --   IsInsideAlone inside other v           the node is inside by labels and outside by others
---   IsNotLeast net inside v                the node is inside, and outside by the least-inside labels
+--   IsNotLeast net inside v                the node is inside, and outside by the minimum cut with the smallest inside
 --   AreWithinArcs net inside on_arc        no fixed node is inside, and no arc is over its capacity
 --   AreWithinLimits net ..                 nor is a sink over its limit
 use Rattle.std.specs.Prelude.{ℕ, ◌≡◌, ◌≢◌, ◌<◌, ◌+◌, Bool, true, false, if◌then◌else◌}
@@ -41,7 +41,7 @@ IsUnbalanced net on_arc on_node v = (net.is_fixed v ≡ false) × (amount_in net
 abbrev pub IsInsideAlone : {Node : Type 0} → (Node → Bool) → (Node → Bool) → Node → Type 0
 IsInsideAlone inside other v = (inside v ≡ true) × (other v ≡ false)
 
--- the node is inside, and outside by the least-inside labels
+-- the node is inside, and outside by the minimum cut with the smallest inside
 abbrev pub IsNotLeast : {Node Arc : Type 0} → Network Node Arc → (Node → Bool) → Node → Type 0
 IsNotLeast {Node} net inside v = (least : Node → Bool) → IsLeastInside net least → IsInsideAlone inside least v
 

@@ -1,5 +1,5 @@
--- The network of a Net: labels, what they cost, flows, what they are worth, and which of them are best, all as of any network
--- by numbers (`NumberedFlows`).
+-- The network of a Net: labels, what they cost, flows, their values, and which of them are best, all as of any network by
+-- numbers (`NumberedFlows`).
 --
 --   network_with    the network of these flags, sinks and arcs
 --   numbered_of     a Net as a network by numbers

@@ -80,8 +80,8 @@ pub record IsLeastInside {Node Arc : Type 0} (net : Network Node Arc) (inside : 
   pub least_cost : IsLeastCost net inside
   pub within : (other : Node → Bool) → IsLeastCost net other → (v : Node) → net.HasNode v → inside v ≡ true → other v ≡ true
 
--- labels cost the same, and are admissible, of the least cost and the least inside together; flows are worth the same, and
--- valid together
+-- labels cost the same, and are admissible, minimum cuts and the one with the smallest inside together; flows have the same
+-- value, and are valid together
 pub record AgreeAsNetworks {Node Arc : Type 0} (net other : Network Node Arc) : Type 0 where
   pub cost_is : (inside : Node → Bool) → cost net inside ≡ cost other inside
   pub admissible : (inside : Node → Bool) → IsAdmissible net inside ↔ IsAdmissible other inside

@@ -1,4 +1,4 @@
--- Labels, what they cost, flows, what they are worth, and which of them are best, in a network by numbers, all as of any network
+-- Labels, what they cost, flows, their values, and which of them are best, in a network by numbers, all as of any network
 -- (`Networks`). Labels and flows are lists, with an entry a node or an arc.
 --
 --   arc_cost        what an arc adds to the cost of labels

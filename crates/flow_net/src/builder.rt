@@ -52,7 +52,7 @@ impl<T: Drop> From<AllocFailed<T>> for NetRefusal {
 
 /// A network that is being made: contracts see its nodes, their sinks and its arcs, which make a valid one at each step.
 ///
-/// Nodes have numbers from 0 in the order in which they are added, and so have arcs. After a refusal all is as it was.
+/// Nodes have numbers from 0 in the order in which they are added, and so have arcs. After an error nothing has changed.
 #[derive(Debug, Drop)]
 pub struct NetBuilder {
     fixed: Vec<bool>,

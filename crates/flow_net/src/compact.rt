@@ -22,7 +22,7 @@ struct NarrowArc {
     pair: u32,
 }
 
-/// A list of arcs, of which contracts see the arcs and nothing of how many bits they take.
+/// A list of arcs. Contracts see the arcs and nothing of how many bits they take.
 ///
 /// From the first arc on that does not fit in 16 bytes they take more.
 #[derive(Debug, Drop)]
@@ -111,7 +111,7 @@ impl From<Vec<Arc>> for Arcs {
 }
 
 impl Arcs {
-    /// No arcs, with room for so many of few bits.
+    /// An empty list with capacity for this number of arcs of few bits.
     pub fn with_capacity(alloc: Global, count: usize) -> Result<Arcs, AllocError>
         ensures { IfOk result (λ arcs. arcs ≡ []) }
     {

@@ -5,9 +5,9 @@
 //! and `thiserror` alone, and knows nothing of geometry.
 //!
 //! This file holds the types. `lists` and `compact` hold the lists that stand in their fields, `network` says what a network by
-//! numbers is, of which `Net` is one and over which all sums and searches go, `builder` makes a `Net` node by node
-//! and join by join, `votes` holds the settings and sights, `sums` the cost of labels and the value of a flow, `laws` what
-//! holds between the two, and `validity` the test that `Net::is_valid` makes.
+//! numbers is (`Net` is one; all sums and searches go over these), `builder` makes a `Net` node by node and join by join,
+//! `votes` holds the settings and sights, `sums` the cost of labels and the value of a flow, `laws` what holds between the two,
+//! and `validity` the test that `Net::is_valid` makes.
 #![tactic(auto)]
 
 ghost use Rattle.std.specs.Prelude.{◌≡◌, ◌↔◌, IsTrue, IsSome, IfSome};
@@ -35,7 +35,7 @@ pub const AMOUNT_LIMIT: u64 = 1_152_921_504_606_846_976;
 
 /// An arc from one node of a network to another.
 ///
-/// An arc stands for a directed facet of the cell `from` with the free cell `to` across it.
+/// An arc stands for a directed facet of the cell `from` to the free adjacent cell `to`.
 #[derive(Clone, Copy, Debug, PartialEq, Eq)]
 pub struct Arc {
     /// The node that the arc leaves.

@@ -4,7 +4,7 @@ ghost use Rattle.std.specs.Prelude.{◌≡◌, ◌<◌, length, slice_set};
 
 use std::marker::Model;
 
-/// A list over a `Vec`, of which contracts see the elements and nothing of its capacity.
+/// A list over a `Vec`. Contracts see the elements and nothing of its capacity.
 ///
 /// `from` makes one of a `Vec` and `into_vec` gives it back. Neither takes memory.
 #[derive(Debug, Drop)]

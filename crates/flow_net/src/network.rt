@@ -8,8 +8,8 @@ use crate::Net;
 /// A network whose nodes and arcs have numbers: nodes from 0 to below [`node_count`](FlowNetwork::node_count), arcs from 0 to below
 /// [`arc_count`](FlowNetwork::arc_count).
 ///
-/// Whoever has a network in a form of its own need not make a [`Net`] of it. An arc on which nothing can flow may begin and end at
-/// one node, so numbers may stand for no arc. A number stands for no node where it is fixed, takes nothing and has no arc on which
+/// A network in another representation need not be made a [`Net`]. An arc on which nothing can flow may begin and end at one
+/// node, so numbers may stand for no arc. A number stands for no node where it is fixed, takes nothing and has no arc on which
 /// something can flow.
 pub trait FlowNetwork {
     /// The nodes and arcs, and what each is like.

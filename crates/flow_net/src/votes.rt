@@ -4,7 +4,7 @@ ghost use Rattle.std.specs.Prelude.{◌≡◌, ◌≤◌, ◌↔◌, IsSome, IsT
 ghost use Rattle.flow_net.specs.Weights.{IsSightList, IsWeighed};
 ghost use Rattle.flow_net.specs.declared.votes.TheConstants.{WEIGHT_LIMIT};
 
-/// The largest weight of a vote and of smoothing.
+/// The largest visibility weight and area weight.
 pub const WEIGHT_LIMIT: u32 = 65_535;
 
 /// The most sights of a network.
@@ -13,12 +13,12 @@ pub const SIGHT_LIMIT: usize = 8_388_608;
 /// The largest weight of a sight.
 pub const SIGHT_WEIGHT_LIMIT: u32 = 255;
 
-/// The weights of votes and of smoothing.
+/// The visibility weight and the area weight.
 #[derive(Clone, Copy, Debug, PartialEq, Eq)]
 pub struct Settings {
     /// What each sight of weight 1 adds to the capacity of a facet that it crosses and to the sink of the cell behind it, 1 to 65,535.
     pub vote: u32,
-    /// What each facet has as capacity beside its votes, 0 to 65,535.
+    /// What each facet has as capacity beside the visibility weights, 0 to 65,535.
     pub smooth: u32,
     pub ghost vote_at_least: { 1 ≤ vote },
     pub ghost vote_at_most: { vote ≤ WEIGHT_LIMIT },
@@ -46,7 +46,7 @@ pub struct Sight {
     pub vertex: u32,
     /// The index of the scanner in the list of scanners.
     pub scanner: u32,
-    /// How much it counts: as much as so many sights of weight 1. It is 1 to 255.
+    /// How much it counts: as much as this number of sights of weight 1. It is 1 to 255.
     pub weight: u32,
 }
 

@@ -94,8 +94,8 @@ impl HullTree {
         Ok(())
     }
 
-    /// Appends to `found` each number below the tree's count of which some inserted box overlaps `hull`. Others may be appended too,
-    /// and those in `found` stay.
+    /// Appends to `found` each number below the tree's count if one of its inserted boxes overlaps `hull`. Others may be
+    /// appended too, and those in `found` stay.
     pub fn near(&self, hull: Hull, found: &mut Vec<usize>) -> Result<(), NoMemory>
         ensures found { OnOk result ((i : ℕ) (h : Hull) → i < 4 * self.now.leaves → IsInserted self.now i h → Contains found.new.items i ⊎ AreOff h hull) }
         ensures kept { OnOk result (KeepsAll found.old.items found.new.items) }

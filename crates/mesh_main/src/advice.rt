@@ -1,5 +1,5 @@
-//! What a person is told on standard error beside the line that is promised: how a command is used, and how to fix an invalid mesh.
-//! No clause speaks of these texts.
+//! Texts on standard error beside the line that is promised: how to use a command, and how to fix an invalid mesh. No contract
+//! speaks of these texts.
 
 use real_host::Advice;
 

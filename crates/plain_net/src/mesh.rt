@@ -1,4 +1,5 @@
-//! The mesh of labels: the facets of outside cells with an inside cell across. It depends on `network`'s arcs and on `mesh_ply`.
+//! The mesh of labels: the facets of outside cells with an inside adjacent cell. It depends on `network`'s arcs and on
+//! `mesh_ply`.
 
 ghost use Rattle.std.specs.Prelude.{◌≡◌, ◌<◌, ◌≤◌, ◌++◌, IfOk, AllPairs, length};
 ghost use Rattle.flow_net.specs.Flows.{IsAdmissible};
@@ -65,8 +66,8 @@ fn cut(
     Ok(list)
 }
 
-/// The mesh of labels of the network of these points: the facets of outside cells with an inside cell across, as outside cells have
-/// them, so that a face's three points turn counterclockwise as seen from outside.
+/// The mesh of labels of the network of these points: the facets of outside cells with an inside adjacent cell, as outside
+/// cells have them, so that a face's three points turn counterclockwise as seen from outside.
 ///
 /// Points that no face has are left out, and the others are numbered in the order of their vertex numbers. The faces have their
 /// smallest number first and rise. The only error is out of memory, which also stands for more than 2^32 - 1 faces.

@@ -29,6 +29,6 @@ HasFacet v cells f = Any (λ row. has_facet v row f ≡ true) cells
 abbrev pub cell_index : Vertices → List (List ℕ) → DirectedFacet → ℕ
 cell_index v cells f = position_or_len (λ row. has_facet v row f) cells
 
--- the first cell that has the directed facet; the cell across the facet is that of the facet turned round
+-- the first cell that has the directed facet; the adjacent cell at the facet is that of the opposite facet
 abbrev pub cell_of : Vertices → List (List ℕ) → DirectedFacet → List ℕ
 cell_of v cells f = slice_index_or cells (cell_index v cells f) []

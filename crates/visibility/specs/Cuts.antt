@@ -5,7 +5,7 @@
 --   is_cut s complex inside f          the facet leads from an outside cell to an inside one
 --   cut_facets s complex inside        these facets
 --   cost s complex inside              the cost of labels
---   IsAdmissible s complex inside      no fixed cell is inside
+--   IsAdmissible s complex inside      no cell fixed outside is inside
 --   IsLeastCost s complex inside       admissible, and no admissible labels cost less
 --   IsLeastInside s complex inside     of the least cost, and inside of all others of that cost
 use Rattle.std.specs.Prelude.{ℕ, ◌&&◌, not, Bool, List, filter, Contains}
@@ -19,7 +19,7 @@ use Rattle.geo_sign.specs.Tetrahedron.{facet_at, turned}
 use Rattle.visibility.specs.Complexes.{Complex, cell_of}
 use Rattle.visibility.specs.Votes.{is_fixed, capacity, sink}
 
--- the listed cells and facets; a facet leads from its own cell to the cell across
+-- the listed cells and facets; a facet leads from its own cell to the adjacent cell
 abbrev pub network_over : Scene → Complex → Network (List ℕ) (List ℕ)
 network_over s complex =
     record {
@@ -35,7 +35,7 @@ network_over s complex =
       sink = sink s;
     }
 
--- the facet's own cell is outside and the cell across is inside
+-- the facet's own cell is outside and the adjacent cell is inside
 abbrev pub is_cut : Vertices → List (List ℕ) → (List ℕ → Bool) → List ℕ → Bool
 is_cut v cells inside f = not (inside (cell_of v cells (facet_at f))) && inside (cell_of v cells (turned (facet_at f)))
 
@@ -43,11 +43,11 @@ is_cut v cells inside f = not (inside (cell_of v cells (facet_at f))) && inside 
 abbrev pub cut_facets : Vertices → Complex → (List ℕ → Bool) → List (List ℕ)
 cut_facets v complex inside = filter (is_cut v complex.cells inside) complex.facets
 
--- the cost of labels: the capacities of facets of outside cells with an inside cell across, and the sinks of outside cells
+-- the cost of labels: the capacities of facets of outside cells with an inside adjacent cell, and the sinks of outside cells
 abbrev pub cost : Scene → Complex → (List ℕ → Bool) → ℕ
 cost s complex = networks.cost (network_over s complex)
 
--- no fixed cell is inside
+-- no cell fixed outside is inside
 abbrev pub IsAdmissible : Scene → Complex → (List ℕ → Bool) → Type 0
 IsAdmissible s complex = networks.IsAdmissible (network_over s complex)
 

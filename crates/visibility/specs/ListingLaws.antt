@@ -1,6 +1,6 @@
 -- The order in which cells and facets are listed decides nothing.
 --
---   RisingIsListed     the rising lists are a listing, and a network over them is one in any order
+--   RisingIsListed     the ascending lists are a listing, and a network over them is one in any order
 --   EachOnce           a listing has each cell once and each facet that has a capacity once, and nothing else
 --   ListingsAgree      two listings of one scene judge labels and flows alike
 use Rattle.std.specs.Prelude.{ℕ, ◌↔◌, List, Contains}

@@ -16,7 +16,7 @@ use Rattle.visibility.specs.Cuts.{network_over}
 abbrev pub AreOnce : List (List ℕ) → Type 0
 AreOnce rows = AllPairs (λ row other. row ≢ other) rows
 
--- the rising lists of cells and of facets in another order, in which the first cell that has a facet is the same
+-- the ascending lists of cells and of facets in another order, in which the first cell that has a facet is the same
 pub record IsListingOf (s : Scene) (listing : Complex) : Type 0 where
   pub complex : Complex
   pub complex_is : IsComplexOf s complex
@@ -25,7 +25,7 @@ pub record IsListingOf (s : Scene) (listing : Complex) : Type 0 where
   pub same_cell : (f : DirectedFacet) → HasFacet s.vertices complex.cells f
       → cell_of s.vertices listing.cells f ≡ cell_of s.vertices complex.cells f
 
--- labels cost the same, and are admissible, of the least cost and the least inside together; flows are worth the same, and
--- valid together
+-- labels cost the same, and are admissible, minimum cuts and the one with the smallest inside together; flows have the same
+-- value, and are valid together
 abbrev pub AgreeInAnyOrder : Scene → Complex → Complex → Type 0
 AgreeInAnyOrder s c d = AgreeAsNetworks (network_over s c) (network_over s d)

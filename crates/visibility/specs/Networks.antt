@@ -27,13 +27,13 @@ complex_of voted = record { cells = voted.cells; facets = voted.facets }
 abbrev pub facet_index : List (List ℕ) → DirectedFacet → ℕ
 facet_index facets f = position_or_len (λ numbers. is_same_facet (facet_at numbers) f) facets
 
--- the number of the facet turned round, where the facet's own cell is free; else it has no capacity
+-- the number of the opposite facet, where the facet's own cell is free; else it has no capacity
 abbrev pub pair_of : Scene → Complex → DirectedFacet → Option ℕ
 pair_of s complex f =
     if is_fixed s.vertices s.scanners (cell_of s.vertices complex.cells f) then None
     else Some (facet_index complex.facets (turned f))
 
--- the arc of a facet: from its own cell to the cell across
+-- the arc of a facet: from its own cell to the adjacent cell
 unfoldable pub arc_of : Scene → Complex → List ℕ → Arc
 arc_of s complex f =
     record {

@@ -10,8 +10,8 @@ use Rattle.geo_sign.specs.Vertices.{Vertices, boxed_vertices}
 use Rattle.flow_net.specs.declared.votes.Settings.{Settings}
 use Rattle.flow_net.specs.declared.votes.Sight.{Sight}
 
--- the vertices, the scanners in order of their numbers, the sights as often as they were seen, and the weights of votes and
--- smoothing
+-- the vertices, the scanners in order of their numbers, the sights as often as they were seen, and the visibility and area
+-- weights
 pub record Scene : Type 0 where
   pub vertices : Vertices
   pub scanners : List Point

@@ -1,5 +1,5 @@
--- What sights vote for (Labatut, Pons and Keriven 2007, with whole numbers): a sight penalises each facet that it crosses
--- on its way from the scanner to the vertex, and favours the cell behind the vertex as inside.
+-- The visibility weights that sights add (Labatut, Pons and Keriven 2007, with whole numbers): a sight penalises each facet
+-- that it crosses on its way from the scanner to the vertex, and favours the cell behind the vertex as inside.
 --
 --   is_fixed_in v scanners t    the cell has a corner or a scanner, and stays outside
 --   is_fixed v scanners row     so it is of a cell by its row
@@ -7,8 +7,8 @@
 --   capacity s f                the facet's capacity
 --   sights_before s row         what the sights that the cell is behind weigh together
 --   sink s row                  the cell's sink
---   HasCapacity s cells f       a directed facet of a cell with a free cell across
---   IsFacetList s cells facets  all of these, rising
+--   HasCapacity s cells f       a directed facet of a cell with a free adjacent cell
+--   IsFacetList s cells facets  all of these, ascending
 --   IsComplexOf s complex       all cells of the scene, and all facets that have a capacity
 use Rattle.std.specs.Prelude.{ℕ, ◌≡◌, ◌+◌, ◌*◌, ◌||◌, nat_lt, Bool, false, List, AllPairs, Contains}
 use Rattle.std.specs.List.{list_any}
@@ -32,7 +32,7 @@ has_corner t = nat_lt t.a CORNERS || nat_lt t.b CORNERS || nat_lt t.c CORNERS ||
 abbrev pub has_scanner : Vertices → List Point → Tetrahedron → Bool
 has_scanner v scanners t = list_any (λ q. is_cell_of v (displaced q) t) scanners
 
--- the cell is fixed: it stays outside. Other cells are free.
+-- the cell is fixed outside. Other cells are free.
 abbrev pub is_fixed_in : Vertices → List Point → Tetrahedron → Bool
 is_fixed_in v scanners t = has_corner t || has_scanner v scanners t
 
@@ -44,7 +44,7 @@ is_fixed v scanners row = is_fixed_in v scanners (written v row)
 unfoldable pub crossings : Scene → DirectedFacet → ℕ
 crossings s f = weight_where (λ sight. is_crossed s.vertices sight.vertex (scanner_point s.scanners sight.scanner) f) s.sights
 
--- the capacity of a directed facet: as many votes, and the smoothing
+-- the capacity of a directed facet: the visibility weight times these, and the area weight
 abbrev pub capacity : Scene → DirectedFacet → ℕ
 capacity s f = s.settings.vote * crossings s f + s.settings.smooth
 
@@ -54,11 +54,11 @@ sights_before s row =
     weight_where
     (λ sight. is_behind s.vertices sight.vertex (scanner_point s.scanners sight.scanner) (written s.vertices row)) s.sights
 
--- the sink of a cell: as many votes
+-- the sink of a cell: the visibility weight times these
 unfoldable pub sink : Scene → List ℕ → ℕ
 sink s row = s.settings.vote * sights_before s row
 
--- a directed facet of a cell, where the cell across is free
+-- a directed facet of a cell, where the adjacent cell is free
 pub record HasCapacity (s : Scene) (cells : List (List ℕ)) (f : List ℕ) : Type 0 where
   pub three : f ≡ numbers_of (facet_at f)
   pub own : HasFacet s.vertices cells (facet_at f)

@@ -12,6 +12,6 @@ pub struct Scene<'a> {
     pub scanners: &'a [Point],
     /// The sights, equal ones as often as they were seen. A sight's scanner is its index in `scanners`.
     pub sights: &'a [Sight],
-    /// The weights of votes and of smoothing.
+    /// The visibility weight and the area weight.
     pub settings: Settings,
 }

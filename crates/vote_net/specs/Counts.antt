@@ -1,10 +1,10 @@
 -- What is asked of the counts, and what is made of them. Counts are by the numbers that cells have in the store.
 --
 --   AreCellsOf scene slots  the store has all cells of the scene
---   row_of slots id         the four vertices of a live cell, in rising order
+--   row_of slots id         the four vertices of a live cell, in ascending order
 --   AreCrossingCounts       what the sights that cross the facet of each side weigh
 --   AreBehind               what the sights that each cell is behind weigh
---   AreFixed                which cells are fixed
+--   AreFixed                which cells are fixed outside
 --   AreIdsOf                the cells' numbers in the store, in the order of their rows
 --   AreCountsOf             what a network is made of: all cells, not too many, and their counts
 use Rattle.std.specs.Prelude.{ℕ, ◌≡◌, ◌<◌, ◌≤◌, ◌+◌, ◌*◌, ◌^◌, Bool, List, [], Option, length, slice_index}

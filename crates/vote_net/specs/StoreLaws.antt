@@ -20,10 +20,10 @@ use Rattle.vote_net.specs.ByNumber.{SaysOfCells, SaysOfSides, IsZeroElsewhere}
 use Rattle.vote_net.specs.Counts.{AreCountsOf}
 use Rattle.vote_net.specs.StoredComplexes.{stored_complex}
 
--- The complex lists the scene's cells and facets. Labels and flows by number have the same cost and value as those that say so of cells
--- and facets, and are the least inside and valid where these are. No valid flow has an amount at a side without a free cell across.
--- Over cells and facets too the value of a valid flow is at most the cost of admissible labels, so one whose value is a least cost is
--- a largest one.
+-- The complex lists the scene's cells and facets. Labels and flows by number have the same cost and value as those that say so
+-- of cells and facets, and have the smallest inside and are valid if these do and are. No valid flow has an amount at a side
+-- without a free adjacent cell. Over cells and facets too the value of a valid flow is at most the cost of admissible labels, so
+-- one whose value is a least cost is a largest one.
 pub record IsStoreNetwork (s : Scene) (slots : List (Option Cell)) (fixed : List Bool) (net : NumberedNetwork) : Type 0 where
   pub listing : IsListingOf s (stored_complex fixed slots)
   pub cost_is : (labels : Labels) (inside : List ℕ → Bool) → SaysOfCells slots (flag_at labels.inside) inside

@@ -6,7 +6,7 @@
 --   AreDistinctBy f xs          no two of a list have one number
 --   AreNumberedTo, AreNumbered  a table has the index of each of the first n, or of all
 --   side_with t f               the side of a cell that has a facet
---   other_of slots x            the neighbor across a side
+--   other_of slots x            the adjacent cell at a side
 --   CanBecomeArc slots x        a side with a neighbor, whose numbers fit
 --   arc_from ..                 the arc of a side, as the code finds it
 --   AreArcs ..                  the arcs of sides, from tables of the indices
@@ -58,7 +58,7 @@ side_with t f =
     (if is_same_facet (least_first (facet_of t 1)) f then 1
     else (if is_same_facet (least_first (facet_of t 2)) f then 2 else 3))
 
--- the neighbor, of which there is one
+-- the neighbor, which is unique
 abbrev pub other_of : List (Option Cell) → Side → ℕ
 other_of slots x = unwrap_or ((links_of slots).next x.id x.side) 0
 
@@ -70,8 +70,8 @@ pub record CanBecomeArc (slots : List (Option Cell)) (x : Side) : Type 0 where
   pub small : 4 * x.id + 4 < 2 ^ 64
   pub small_other : 4 * other_of slots x + 4 < 2 ^ 64
 
--- from the side's own cell to its neighbor's, at a vote for each crossing and the smoothing; its reverse leaves a free cell
--- alone
+-- from the side's own cell to its neighbor's, at the visibility weight for each crossing and the area weight; its reverse
+-- leaves a free cell alone
 unfoldable pub arc_from : List (Option Cell) → (nodes numbers crossed : List ℕ) → List Bool → Settings → Side → Arc
 arc_from slots nodes numbers crossed fixed settings x =
     record {

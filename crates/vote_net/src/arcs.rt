@@ -1,4 +1,4 @@
-//! The arcs of sides: from the side's cell to the one across, at a vote for each crossing and the smoothing.
+//! The arcs of sides: from the side's cell to the adjacent one, at the visibility weight for each crossing and the area weight.
 
 ghost use Rattle.std.specs.Prelude.{◌≡◌, ◌<◌, ◌+◌, ◌*◌, ◌^◌, IfOk, IsSome, Contains, map, length, slice_index};
 ghost use Rattle.geo_sign.specs.Tetrahedron.{facet_at, turned};
@@ -42,7 +42,7 @@ fn side_with(v: [u32; 4], facet: [u32; 3]) -> usize
     }
 }
 
-/// The neighbor of a cell across a side that is not on a wall.
+/// The adjacent cell at a side that is not on a wall.
 fn neighbor(t: &Tetra, side: &Side) -> CellId
     requires live { IsLive (links_of t.now.slots) side.now.id }
     requires side { side.now.side < 4 }
@@ -56,7 +56,7 @@ fn neighbor(t: &Tetra, side: &Side) -> CellId
     }
 }
 
-/// What a number of votes is worth.
+/// The visibility weight times a count of crossings.
 pub(crate) fn votes(settings: Settings, count: u32) -> u64
     ensures value { result ≡ settings.vote * count }
     ensures fits { result < 2 ^ 48 }
@@ -82,7 +82,7 @@ fn reverse(t: &Tetra, tables: Tables<'_>, side: &Side, other: CellId) -> usize
     entry(tables.numbers, 4 * other.number() + back) as usize
 }
 
-/// The arc of a side with a cell across.
+/// The arc of a side with an adjacent cell.
 #[tactic(auto, unfolding(crate::specs::Tables::arc_from))]
 fn arc(t: &Tetra, tables: Tables<'_>, settings: Settings, side: &Side) -> Arc
     requires { CanBecomeArc t.now.slots side.now }

@@ -13,8 +13,8 @@ use crate::rows::{cells_of, sorted_rows};
 use std::alloc::Global;
 use tetra_store::Tetra;
 
-/// The list of all cells of the box's corners and the points that the store has after them, of which all are inserted: the four vertices
-/// of each cell by rising number, the cells in rising order. The only error is want of memory.
+/// The list of all cells of the box's corners and the points that the store has after them, all inserted: the four vertices of
+/// each cell by ascending number, the cells in ascending order. The only error is out of memory.
 pub fn rising_cells(alloc: Global, t: &Tetra) -> Result<Vec<[u32; 4]>, NoMemory>
     requires inserted { (u : ℕ) → u < length t.now.points → slice_index_or t.now.inserted u false ≡ true }
     requires delaunay { IsDelaunay (vertices_of t.now) (links_of t.now.slots) }

@@ -3,7 +3,7 @@
 ghost use Rattle.std.specs.Prelude.{◌≡◌};
 ghost use Rattle.vote_net.specs.Gathered.{row_key, facet_key as facet_key_of};
 
-/// A number that is the greater the later a cell's four numbers stand in rising order.
+/// A number that is the greater the later a cell's four numbers stand in ascending order.
 pub fn cell_key(cell: [u32; 4]) -> u128
     ensures { result ≡ row_key cell }
 {
@@ -13,7 +13,7 @@ pub fn cell_key(cell: [u32; 4]) -> u128
     u128::from(first) * 18_446_744_073_709_551_616 + u128::from(last)
 }
 
-/// A number that is the greater the later a facet's three numbers stand in rising order.
+/// A number that is the greater the later a facet's three numbers stand in ascending order.
 pub fn facet_key(facet: [u32; 3]) -> u128
     ensures { result ≡ facet_key_of facet }
 {

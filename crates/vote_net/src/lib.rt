@@ -6,9 +6,9 @@
 //! how a cell or a facet is written, and labels and flows of the network of `cell_net`, which is the store itself and lists no arcs, are
 //! judged as those over cells and facets. All this is what the program uses.
 //!
-//! `network` makes of what is counted the network as lists (`assemble`): a node for each cell, an arc for each directed facet with a free
-//! cell across, both in ascending order. `tables` finds their indices and `arcs` makes the arcs. `count_votes` of `votes` returns it; the
-//! program does not call it.
+//! `network` makes of what is counted the network as lists (`assemble`): a node for each cell, an arc for each directed facet
+//! with a free adjacent cell, both in ascending order. `tables` finds their indices and `arcs` makes the arcs. `count_votes` of
+//! `votes` returns it; the program does not call it.
 //!
 //! No sight and no point is looked at. The crate depends on `tetra_store` (linked cells), `visibility` (scenes, and what their network
 //! is), `flow_net` and `cell_net` (networks) and the theorems of `cell_laws`.
@@ -31,5 +31,5 @@ pub use rows::cell_row;
 pub use sides::{Side, facet_row, flag, sorted_cut};
 use std::alloc::AllocError;
 
-/// Want of memory: the one answer that any input may get.
+/// Out of memory: the one error that any input may cause.
 pub type NoMemory = AllocError;

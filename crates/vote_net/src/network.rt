@@ -1,4 +1,4 @@
-//! The network: a node for each cell, an arc for each directed facet with a free cell across.
+//! The network: a node for each cell, an arc for each directed facet with a free adjacent cell.
 
 ghost use Rattle.std.specs.Prelude.{◌≡◌, ◌*◌, IfOk, map, slice_index};
 ghost use Rattle.std.specs.List.Sorted.{IsPermutation, IsNonDecreasingBy};
@@ -36,7 +36,7 @@ fn ids_of(alloc: Global, rows: &[Row]) -> Result<Vec<CellId>, NoMemory>
     rows.iter().map(|row| row.id).collect(alloc)
 }
 
-/// The facets of sides, which are let go.
+/// The facets of sides, which are freed.
 fn facets_of(alloc: Global, sides: Vec<Side>) -> Result<Vec<[u32; 3]>, NoMemory>
     ensures { IfOk result (λ v. v.items ≡ map facet_of_side sides.items) }
 {
@@ -104,11 +104,12 @@ fn network_over(
     Ok(Counted { voted, ids })
 }
 
-/// The network of a scene, whose cells are those of the store: nodes in the order of their cells' rising numbers, and arcs in that of
-/// their facets from the least number on, which is the one order that does not depend on how the store numbers its cells.
+/// The network of a scene, whose cells are those of the store: nodes in the order of their cells' ascending numbers, and arcs
+/// in that of their facets from the least number on, which is the one order that does not depend on how the store numbers its
+/// cells.
 ///
-/// Both lists are sorted, which takes longer than all else here. The only error is want of memory, which also stands for 2^32 cells or
-/// facets and more.
+/// Both lists are sorted, which takes longer than all else here. The only error is out of memory, which also stands for 2^32
+/// cells or facets and more.
 pub fn assemble(
     alloc: Global,
     t: &Tetra,

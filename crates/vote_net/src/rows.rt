@@ -1,4 +1,4 @@
-//! The live cells by their rising numbers.
+//! The live cells by their ascending numbers.
 
 ghost use Rattle.std.specs.Prelude.{◌≡◌, IfOk, map};
 ghost use Rattle.std.specs.List.Sorted.{IsPermutation, IsNonDecreasingBy};
@@ -12,7 +12,7 @@ use crate::keys::cell_key;
 use std::alloc::Global;
 use tetra_store::{CellId, Tetra};
 
-/// A live cell, with its numbers rising.
+/// A live cell, with its numbers ascending.
 #[derive(Clone, Copy)]
 pub(crate) struct Row {
     pub(crate) cell: [u32; 4],
@@ -27,7 +27,7 @@ fn in_order(x: u32, y: u32) -> (u32, u32)
     if y < x { (y, x) } else { (x, y) }
 }
 
-/// The four vertices of a cell by number, in rising order.
+/// The four vertices of a cell by number, in ascending order.
 #[tactic(auto, unfolding(crate::specs::CellRows::risen))]
 pub fn cell_row(v: [u32; 4]) -> [u32; 4]
     ensures { result ≡ row_from (risen (tetrahedron_from v)) }
@@ -40,7 +40,7 @@ pub fn cell_row(v: [u32; 4]) -> [u32; 4]
     [a, b, c, d]
 }
 
-/// The live cells, by rising id.
+/// The live cells, by ascending id.
 fn rows(alloc: Global, t: &Tetra) -> Result<Vec<Row>, NoMemory>
     ensures { IfOk result (λ rows. rows.items ≡ all_rows t.now.slots) }
 {

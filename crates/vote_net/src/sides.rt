@@ -76,7 +76,7 @@ pub(crate) fn side_of(id: CellId, cell: &Cell, side: u8) -> Side
     }
 }
 
-/// Appends a side where the cell across is free.
+/// Appends a side if the adjacent cell is free.
 #[tactic(auto, unfolding(crate::specs::Gathered::side_if_open))]
 fn push_if_open(
     sides: &mut Vec<Side>,
@@ -96,7 +96,7 @@ fn push_if_open(
     Ok(())
 }
 
-/// Appends the sides of a cell with a free cell across.
+/// Appends the sides of a cell with a free adjacent cell.
 fn push_open(sides: &mut Vec<Side>, fixed: &[bool], id: CellId, cell: &Cell) -> Result<(), NoMemory>
     ensures { IfOk result (λ _. sides.new.items ≡ sides.old.items ++ open_at fixed.now (id, cell.now)) }
 {
@@ -106,7 +106,7 @@ fn push_open(sides: &mut Vec<Side>, fixed: &[bool], id: CellId, cell: &Cell) -> 
     push_if_open(sides, fixed, id, cell, 3)
 }
 
-/// The sides with a free cell across, by rising id and side, in a list with room for so many.
+/// The sides with a free adjacent cell, by ascending id and side, in a list with capacity for all.
 fn open_sides(alloc: Global, t: &Tetra, fixed: &[bool], room: usize) -> Result<Vec<Side>, NoMemory>
     ensures { IfOk result (λ sides. sides.items ≡ all_open fixed.now t.now.slots) }
 {
@@ -126,7 +126,7 @@ fn sort_sides(sides: &mut [Side])
     sides.sort_unstable_by_key(|side| facet_key(side.facet));
 }
 
-/// The sides with a free cell across, in the order of their facets. There is room for so many from the first on.
+/// The sides with a free adjacent cell, in the order of their facets. The list has capacity for all from the start.
 pub(crate) fn sorted_sides(
     alloc: Global,
     t: &Tetra,
@@ -141,7 +141,7 @@ pub(crate) fn sorted_sides(
     Ok(sides)
 }
 
-/// Appends the sides of an outside cell with an inside cell across.
+/// Appends the sides of an outside cell with an inside adjacent cell.
 #[tactic(auto, unfolding(crate::specs::Gathered::cut_at))]
 fn push_cut(
     sides: &mut Vec<Side>,
@@ -157,7 +157,7 @@ fn push_cut(
     Ok(())
 }
 
-/// The sides of outside cells with an inside cell across, by rising id and side.
+/// The sides of outside cells with an inside adjacent cell, by ascending id and side.
 fn cut_sides(alloc: Global, t: &Tetra, outside: &[bool]) -> Result<Vec<Side>, NoMemory>
     ensures { IfOk result (λ sides. sides.items ≡ all_cut outside.now t.now.slots) }
 {
@@ -169,7 +169,7 @@ fn cut_sides(alloc: Global, t: &Tetra, outside: &[bool]) -> Result<Vec<Side>, No
     Ok(sides)
 }
 
-/// The sides of outside cells with an inside cell across, each once, in the order of their facets.
+/// The sides of outside cells with an inside adjacent cell, each once, in the order of their facets.
 pub fn sorted_cut(alloc: Global, t: &Tetra, outside: &[bool]) -> Result<Vec<Side>, NoMemory>
     ensures sides { IfOk result (λ sides. AreCutSides t.now.slots outside.now sides.items) }
     ensures moved { IfOk result (λ sides. IsPermutation (all_cut outside.now t.now.slots) sides.items) }

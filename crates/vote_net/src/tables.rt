@@ -11,7 +11,7 @@ use crate::sides::Side;
 use std::alloc::Global;
 
 impl Side {
-    /// Its number among all sides, of which each cell has four.
+    /// Its number among all sides, four a cell.
     pub(crate) fn number(&self) -> usize
         requires { number_of_side self.now < 2 ^ 64 }
         ensures { result ≡ number_of_side self.now }

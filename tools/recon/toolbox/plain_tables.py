@@ -1,6 +1,6 @@
 """Plain files of numbers read whole, by numpy: a PLY of points without lists, and a list of `X Y Z ..` a line.
 
-Only files of which nothing is to be said are read here: each number is finite, and nothing is missing or left over. Of any other file
+Only files without errors or notes are read here: each number is finite, and nothing is missing or left over. Of any other file
 the answer is None, and `scan_source` reads it row by row, with its errors and what it leaves out.
 
 Names: PlainPly (columns of the points, and the scanners' positions) · plain_ply · plain_list.
