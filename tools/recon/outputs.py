@@ -114,7 +114,7 @@ def figures_of(made: Made, unseen: float) -> list[tuple[str, str]]:
     verdict = 'look at the positions' if against > 0.1 else 'as where positions are right'
     return [('points read', f'{made.read:,}'), ('points', f'{counts["points"]:,}'), ('scanners', f'{counts["scanners"]:,}'),
             ('sights', f'{counts["sights"]:,}'), ('faces as built', f'{counts["faces"]:,}'), ('faces', f'{len(made.mesh.faces):,}'),
-            ('cost', f'{counts["cost"]:,}'), ('votes against a sight', f'{against:.3f} ({verdict})'),
+            ('cost', f'{counts["cost"]:,}'), ('contradictions a line of sight', f'{against:.3f} ({verdict})'),
             ('spacing', f'{made.texture.distance:.4g}'), ('noise', f'{made.texture.noise:.2g}'),
             ('area that no scanner saw', f'{unseen:.0%}'), *([('tiles', str(len(made.surface.tiles())))] if made.surface.tiles() else []),
             ('checked', 'each tile' if made.surface.tiles() else 'no' if made.args.no_check else 'yes')]

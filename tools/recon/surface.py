@@ -8,8 +8,8 @@ overrides it. It runs `recon build` and `recon check`, and leaves beside the mes
   MESH.recon/      scan.ply, mesh.ply and scan.cert, which `recon check` takes; report.json with choices, reasons and figures; again.sh,
                    which repeats the run from the original files
 
-Status: 0 done, 1 error, 2 invalid arguments, 3 no surface is left, 4 done, but positions or normals look wrong: over 0.25 votes against the
-surface for each line of sight (--force ends with 0).
+Status: 0 done, 1 error, 2 invalid arguments, 3 no surface is left, 4 done, but positions or normals look wrong: over 0.25 contradictions for each
+line of sight (--force ends with 0).
 """
 from __future__ import annotations
 
@@ -187,9 +187,9 @@ def built(scan: Scan, args: Any, folder: Path, choices: Choices) -> Surface:
     if not surface.counts['faces']:
         raise NoSurface('the surface is empty: the points lie in a plane, or --smooth is too large')
     against = surface.votes_against_per_sight
-    choices.tell(f'{against:.3f} votes against the surface for each line of sight')
+    choices.tell(f'{against:.3f} contradictions for each line of sight')
     if against > LOOK:
-        choices.warn(f'{against:.2f} votes against the surface for each line of sight, over {LOOK}: look at '
+        choices.warn(f'{against:.2f} contradictions for each line of sight, over {LOOK}: look at '
                      + ('the normals' if cloud.is_made_up else 'the positions of the scanners'))
     return surface
 
@@ -388,7 +388,7 @@ def run(words: Sequence[str]) -> int:
         return failed(1, f'error: {error.strerror}: {error.filename or "writing"}' if error.strerror else f'error: {error}')
     against = result.surface.votes_against_per_sight
     if against > WRONG and not args.force:
-        return failed(4, f'{against:.2f} votes against the surface for each line of sight: positions or normals look wrong (--force)')
+        return failed(4, f'{against:.2f} contradictions for each line of sight: positions or normals look wrong (--force)')
     return 0
 
 

@@ -435,8 +435,8 @@ class Program(InFolder):
         status, said, _ = at_terminal('build', 'scan', 'mesh', 'cert')
         numbers = {name: int(number) for name, number in re.findall('([a-z]+) ([0-9]+)', said)}
         equal((status, 2 * numbers['points'] < numbers['sights'], numbers['sights']), (0, True, 300))
-        equal(hints()[-1], f'recon: {numbers["points"]} points have 300 lines of sight: if each point was seen once, many have become one at this '
-              'unit (unit=1000 makes millimetres of metres)')
+        equal(hints()[-1], f'recon: {numbers["points"]} points have 300 lines of sight: if each point was seen once, many have become one by '
+              'rounding (unit=1000 makes millimeters of meters)')
         equal(told('build', 'scan', 'mesh', 'cert')[2], '')
 
     def test_counts_at_a_terminal(self) -> None:

@@ -77,7 +77,7 @@ impl Weights {
         if built.points < built.sights / 2 {
             let (points, sights) = (built.points, built.sights);
             let _ = eprintln!(rt;
-                "recon: {points} points have {sights} lines of sight: if each point was seen once, many have become one at this unit (unit=1000 makes millimetres of metres)"
+                "recon: {points} points have {sights} lines of sight: if each point was seen once, many have become one by rounding (unit=1000 makes millimeters of meters)"
             );
         }
     }
