@@ -39,6 +39,7 @@ from typing import Any, Callable, List, Optional, Sequence, Tuple
 
 import numpy as np
 
+from recon.library import rows_at
 from recon.mesh_program import Wanted, finish_mesh, mesh_program_path
 from recon.meshes import Mesh, unseen_faces
 from recon.toolbox.flips import flip_edges
@@ -144,7 +145,8 @@ class FinishReport(Report):
         if self.stamp is not None:
             said.append(f'unit={self.unit} by {self.stamp}')
         if self.kept_pieces is not None:
-            said.append(f'kept {self.kept_pieces} of {number_of(self.pieces, "piece")} and left out {number_of(self.left_out, "face")}')
+            of = f' of {number_of(self.pieces, "piece")}' if self.pieces else ''
+            said.append(f'kept {self.kept_pieces}{of or " pieces"} and left out {number_of(self.left_out, "face")}')
         if self.is_flipped:
             said.append('recon-mesh flipped edges')
         if self.flipped is not None:
@@ -173,8 +175,6 @@ class Work:
             raise Refusal('the mesh has no faces: there is nothing to finish')
         self.path, self.known_twins = name, np.zeros(0, np.int64)
         self.vertex_of = np.arange(len(self.places))
-        if mesh is None:
-            self.known_twins = pair_edges(self.places, self.corners)
         self.report = FinishReport(name, len(self.places), len(self.corners) // 3, unit=wishes.unit)
 
     @property
@@ -208,11 +208,17 @@ class Work:
         self.corners, self.known_twins, flipped, kept = flip_edges(self.places, self.corners, self.twins, self.tell)
         return flipped, kept
 
-    def flip_by_program(self, program: str) -> None:
-        """Flips the edges of the mesh as it was read, by `recon-mesh`."""
-        self.tell(f'recon-mesh finish {self.path}')
-        self.places, self.corners = finish_mesh(self.path, Wanted(), program)
-        self.known_twins, self.report.is_flipped = np.zeros(0, np.int64), True
+    def finish_by_program(self, program: str) -> None:
+        """Finishes the mesh as it was read by `recon-mesh`, which moves no vertex."""
+        wishes, report, before = self.wishes, self.report, self.places
+        wanted = Wanted(wishes.pieces, wishes.manifold, wishes.flips)
+        self.tell(' '.join(['recon-mesh finish', *wanted.options()]))
+        self.places, self.corners = finish_mesh(self.path, wanted, program)
+        self.vertex_of = rows_at(before, self.places)
+        report.is_flipped, report.kept_pieces = wishes.flips, wishes.pieces
+        report.left_out = report.faces - len(self.corners) // 3
+        if wishes.manifold:
+            report.split = len(self.places) - len(np.unique(self.vertex_of))
 
     def smooth(self) -> None:
         """Smooths, on a grid that is finer than a unit."""
@@ -235,8 +241,8 @@ class Work:
         self.report.split = len(copies)
         return np.r_[np.arange(len(self.places)), copies]
 
-    def finished(self) -> Finished:
-        """The mesh to be written."""
+    def finished(self, is_split: bool) -> Finished:
+        """The mesh to be written. `is_split`: sheets that touch are split already, if that is asked for."""
         columns: list[Column] = []
         if self.wishes.scan is not None:
             columns = columns_of(self.wishes.scan, self.wishes.unit, self.first_places)
@@ -247,25 +253,29 @@ class Work:
             unseen = unseen_faces(spots, self.corners.reshape(-1, 3))
             self.report.unseen = int(unseen.sum())
             face_columns.append(('unseen', 'uchar', unseen))
-        origins = self.split() if self.wishes.manifold else np.arange(len(self.places))
+        origins = self.split() if self.wishes.manifold and not is_split else np.arange(len(self.places))
         return Finished(spots[origins], self.corners.reshape(-1, 3), [(name, kind, values[origins]) for name, kind, values in columns],
                         face_columns, self.vertex_of[origins])
 
     def run(self) -> Finished:
-        """Finishes the mesh. The program flips edges where nothing is to be smoothed, and before pieces are left out: a flip joins none."""
-        program = mesh_program_path(self.wishes.program) if self.wishes.flips and not self.wishes.steps else None
-        self.report.angle_before = mean_angle(self.places, self.corners)
+        """Finishes the mesh: by the program where that does all that is asked for, and is there."""
+        wishes, report = self.wishes, self.report
+        report.angle_before = mean_angle(self.places, self.corners)
+        is_whole = not wishes.steps and not wishes.by_volume and bool(wishes.flips or wishes.pieces or wishes.manifold)
+        program = mesh_program_path(wishes.program) if is_whole else None
         if program is not None:
-            self.flip_by_program(program)
-        if self.wishes.pieces is not None:
-            self.keep_pieces(self.wishes.pieces)
-        self.first_places = self.places
-        if self.wishes.flips and program is None:
-            self.report.flipped, self.report.let_be = self.flip()
-        if self.wishes.steps:
-            self.smooth()
-        self.report.angle_after = mean_angle(self.places, self.corners)
-        return self.finished()
+            self.finish_by_program(program)
+            self.first_places = self.places
+        else:
+            if wishes.pieces is not None:
+                self.keep_pieces(wishes.pieces)
+            self.first_places = self.places
+            if wishes.flips:
+                report.flipped, report.let_be = self.flip()
+            if wishes.steps:
+                self.smooth()
+        report.angle_after = mean_angle(self.places, self.corners)
+        return self.finished(is_split=program is not None)
 
 
 def finished(path: str, wishes: Wishes, tell: Callable[[str], None] = lambda text: None,
