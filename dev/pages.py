@@ -36,7 +36,8 @@ REFERENCE = TOP / 'dev/reference/target/release/recon-reference'
 OF_REFERENCE, OF_MODEL = ('build', 'check', 'cells', 'demo'), ('slice', 'export', 'ask examples/tetrahedron.ply')
 # What differs from run to run: seconds, and the names of temporary folders.
 FILE = re.compile(r'(?<![\w./-])[\w./-]+\.[a-z]\w*\b')
-DIFFERS = [(re.compile(r'(?m)^(recon-surface:) +\d+\.\d s'), r'\1 0.0 s'), (re.compile(r'\.recon-\w{8}'), '.recon-00000000')]
+DIFFERS = [(re.compile(r'(?m)^(recon-surface:) +\d+\.\d s'), r'\1 0.0 s'), (re.compile(r'\(\d+\.\d s, beside'), '(0.0 s, beside'),
+           (re.compile(r'\.recon-\w{8}'), '.recon-00000000')]
 
 
 def pages() -> list[pathlib.Path]:

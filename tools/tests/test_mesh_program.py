@@ -3,6 +3,7 @@ They run where it is built (the path in RECON_MESH, ./recon-mesh, or what is lef
 from __future__ import annotations
 
 import os
+import random
 import subprocess
 import unittest
 from collections import Counter
@@ -13,8 +14,41 @@ import numpy as np
 from helpers import RECON_MESH, InFolder, equal, read, write
 from test_finish import ball, crossing_pairs, flat, mesh_text, total_angle
 
+Place = tuple[int, int, int]
+Solid = tuple[list[Place], list[tuple[int, ...]]]
+
 POINTS = [(100, 100, 100), (100, -100, -100), (-100, 100, -100), (-100, -100, 100)]
 FACES = [(0, 1, 2), (0, 2, 3), (0, 3, 1), (1, 3, 2)]
+CUBE = [(x, y, z) for x in (0, 1) for y in (0, 1) for z in (0, 1)]
+SIDES = [(0, 1, 3, 2), (4, 6, 7, 5), (0, 4, 5, 1), (2, 3, 7, 6), (0, 2, 6, 4), (1, 5, 7, 3)]
+CUBE_FACES = [face for a, b, c, d in SIDES for face in ((a, b, c), (a, c, d))]
+
+
+def moved(points: Sequence[Any], by: Sequence[int]) -> list[tuple[int, ...]]:
+    """Returns the points, moved by a vector."""
+    return [tuple(x + y for x, y in zip(point, by)) for point in points]
+
+
+def two_cubes(by: Sequence[int]) -> tuple[list[tuple[int, ...]], list[tuple[int, ...]]]:
+    """Two unit cubes as one mesh, the second moved by a vector; points at one place are one vertex."""
+    points = list(dict.fromkeys(CUBE + moved(CUBE, by)))
+    number = [points.index(point) for point in moved(CUBE, by)]
+    return points, CUBE_FACES + [(number[a], number[b], number[c]) for a, b, c in CUBE_FACES]
+
+
+# points, faces, whether closed, faces without area, and six times the volume
+INSPECTED: list[tuple[Any, Any, str, int, int]] = [
+    ([], [], 'yes', 0, 0),
+    (POINTS, FACES, 'yes', 0, 16000000),
+    (POINTS, [(a, c, b) for a, b, c in FACES], 'yes', 0, -16000000),
+    (moved(POINTS, (8000000, -8000000, 7)), FACES, 'yes', 0, 16000000),
+    (POINTS, FACES[1:], 'no edge 0 1 there 0 back 1', 0, 12000000),
+    (POINTS, FACES + FACES[3:], 'no edge 1 2 there 1 back 2', 0, 20000000),
+    (CUBE, CUBE_FACES, 'yes', 0, 6),
+    (*two_cubes((1, 1, 1)), 'yes', 0, 12),
+    (*two_cubes((1, 1, 0)), 'yes', 0, 12),
+    ([(0, 0, 0), (1, 1, 1), (3, 3, 3), (0, 0, 0)], [(0, 1, 2), (0, 2, 1), (0, 3, 1), (0, 1, 3)], 'yes', 4, 0),
+]
 
 
 def mesh_program(*words: str) -> Any:
@@ -45,12 +79,16 @@ class MeshProgram(InFolder):
     def test_invalid_arguments(self) -> None:
         for words in ((), ('--help',), ('finish',), ('finish', 'mesh.ply'), ('finish', 'mesh.ply', 'mesh.ply'), ('finish', '', 'out.ply'),
                       ('finish', 'mesh.ply', ''), ('finish', 'mesh.ply', 'out.ply', 'flips=yes'), ('finish', 'mesh.ply', 'out.ply', ''),
-                      ('finish', 'mesh.ply', 'out.ply', 'flips=no', 'flips=no'), ('finish', 'mesh.ply', 'out.ply', 'pieces=1'),
-                      ('finish', 'mesh.ply', 'out.ply', 'smooth=1', 'within=1'), ('finish', 'mesh.ply', 'out.ply', 'manifold=yes'),
-                      ('Finish', 'mesh.ply', 'out.ply'), ('check', 'mesh.ply', 'out.ply'), ('inspect', 'mesh.ply')):
+                      ('finish', 'mesh.ply', 'out.ply', 'flips=no', 'flips=no'), ('finish', 'mesh.ply', 'out.ply', 'pieces='),
+                      ('finish', 'mesh.ply', 'out.ply', 'pieces=0'), ('finish', 'mesh.ply', 'out.ply', 'pieces=-1'),
+                      ('finish', 'mesh.ply', 'out.ply', 'pieces=4294967296'), ('finish', 'mesh.ply', 'out.ply', 'pieces=1', 'pieces=1'),
+                      ('finish', 'mesh.ply', 'out.ply', 'manifold=no'), ('finish', 'mesh.ply', 'out.ply', 'manifold=yes', 'manifold=yes'),
+                      ('finish', 'mesh.ply', 'out.ply', 'smooth=1', 'within=1'),
+                      ('Finish', 'mesh.ply', 'out.ply'), ('check', 'mesh.ply', 'out.ply'), ('inspect',), ('inspect', ''),
+                      ('inspect', 'mesh.ply', 'out.ply')):
             status, line, error = mesh_program(*words)
             equal((status, line), (2, 'refused words\n'))
-            equal('usage: recon-mesh finish MESH OUT [flips=no]' in error, True)
+            equal('usage: recon-mesh finish MESH OUT [pieces=N] [manifold=yes] [flips=no]\nusage: recon-mesh inspect MESH\n' in error, True)
         equal(os.listdir('.'), ['mesh.ply'])
 
     def test_invalid_meshes(self) -> None:
@@ -61,12 +99,13 @@ class MeshProgram(InFolder):
                              (text.replace('3 0 1 2', '3 0 1 4'), 'refused 29 mesh_line line 14\n')):
             write('mesh.ply', bytes_)
             write('out.ply', 'as it was')
-            status, said, error = mesh_program('finish', 'mesh.ply', 'out.ply')
-            equal((status, said, error.startswith('recon-mesh: ')), (3, line, True))
+            for words in (('finish', 'mesh.ply', 'out.ply'), ('inspect', 'mesh.ply')):
+                status, said, error = mesh_program(*words)
+                equal((status, said, error.startswith('recon-mesh: ')), (3, line, True))
             equal(read('out.ply'), 'as it was')
 
     def test_failed_calls(self) -> None:
-        for words in (('finish', 'none.ply', 'out.ply'), ('finish', 'mesh.ply', 'none/out.ply'), ('finish', '.', 'out.ply')):
+        for words in (('finish', 'none.ply', 'out.ply'), ('finish', 'mesh.ply', 'none/out.ply'), ('finish', '.', 'out.ply'), ('inspect', 'none.ply'), ('inspect', '.')):
             status, said, error = mesh_program(*words)
             equal((status, said, error.startswith('recon-mesh: ')), (4, '', True))
         equal(os.listdir('.'), ['mesh.ply'])
@@ -77,6 +116,22 @@ class MeshProgram(InFolder):
             write('mesh.ply', text)
             status, said, _ = mesh_program('finish', 'mesh.ply', 'out.ply', 'flips=no')
             equal((status, said.startswith('finished points '), read('out.ply')), (0, True, text))
+
+    def test_inspections(self) -> None:
+        for points, faces, closed, flat, volume in INSPECTED:
+            write('mesh.ply', mesh_text(points, [turned(face) for face in faces]))
+            line = f'inspected points {len(points)} faces {len(faces)} closed {closed} flat_faces {flat} volume {volume}/6\n'
+            equal(mesh_program('inspect', 'mesh.ply'), (0, line, ''))
+        equal(os.listdir('.'), ['mesh.ply'])
+
+    def test_inspections_beside_whole_numbers(self) -> None:
+        for seed in range(40):
+            chance = random.Random(seed)
+            size = chance.choice((1, 3, 8388608))
+            points = [tuple(chance.randint(-size, size) for _ in range(3)) for _ in range(chance.randint(3, 6))]
+            faces = [turned(chance.sample(range(len(points)), 3)) for _ in range(chance.randint(0, 12))]
+            write('mesh.ply', mesh_text(points, faces))
+            equal(mesh_program('inspect', 'mesh.ply'), (0, inspected(points, faces), ''))
 
     def test_flips_lower_the_angles(self) -> None:
         for size, roughness in ((3000, 0.1), (1900000, 0.1), (300, 0.3)):
@@ -91,6 +146,98 @@ class MeshProgram(InFolder):
             before, after = np.array(flat(faces)), np.array(flat(finished))
             equal(len(crossing_pairs(places, after)) <= len(crossing_pairs(places, before)), True)
             equal(total_angle(places, after) < 0.9 * total_angle(places, before), True)
+
+    def test_a_mesh_that_is_not_closed(self) -> None:
+        write('mesh.ply', mesh_text(POINTS, FACES[1:]))
+        write('out.ply', 'as it was')
+        for options in ((), ('flips=no',), ('pieces=1',), ('manifold=yes', 'pieces=2')):
+            status, said, _ = mesh_program('finish', 'mesh.ply', 'out.ply', *options)
+            equal((status, said, read('out.ply')), (3, 'refused 28 unbalanced from 0 to 1 there 0 back 1\n', 'as it was'))
+
+    def test_pieces_by_size(self) -> None:
+        corners: Solid = ([(x, y, z) for x, y, z in POINTS], FACES)
+        points, faces = joined(cube(0, 0, 0), shifted(corners, 1000), cube(200, 0, 0), shifted(rough_ball(), 2000))
+        for count, sizes in ((1, [48]), (2, [48, 12]), (3, [48, 12, 12]), (4, [48, 12, 12, 4]), (5, [48, 12, 12, 4])):
+            kept, new = self.finish(points, faces, f'pieces={count}', 'flips=no')
+            equal((len(new), len(kept)), (sum(sizes), sum({48: 26, 12: 8, 4: 4}[size] for size in sizes)))
+            equal([[kept[v] for v in face] for face in new],
+                  [[points[v] for v in face] for face in faces if any(points[face[0]] == place for place in kept)])
+            equal([place for place in points if place in kept], kept)
+
+    def test_cubes_that_touch(self) -> None:
+        for name, points, faces in (('edge', *joined(cube(0, 0, 0), cube(100, 100, 0))), ('vertex', *joined(cube(0, 0, 0), cube(100, 100, 100)))):
+            twice = [edge for edge, count in edges_of(faces).items() if count > 1]
+            equal((len(points), len(twice)), (14, 2) if name == 'edge' else (15, 0))
+            kept, one = self.finish(points, faces, 'pieces=1')
+            equal((len(kept), len(one)), (8, 12))
+            split, new = self.finish(points, faces, 'manifold=yes', 'flips=no')
+            equal((len(split), sorted(set(split)), split), (16, sorted(points), sorted(split, key=points.index)))
+            equal([[split[v] for v in face] for face in new], [[points[v] for v in face] for face in faces])
+            for options in (('manifold=yes',), ('manifold=yes', 'flips=no'), ('pieces=2', 'manifold=yes')):
+                split, new = self.finish(points, faces, *options)
+                equal((len(split), set(edges_of(new).values())), (16, {1}))
+                equal(edges_of(new), Counter((b, a) for a, b in edges_of(new).elements()))
+
+    def finish(self, points: list[Place], faces: Sequence[Any], *options: str) -> Solid:
+        """The points and faces that `finish` writes of this mesh."""
+        write('mesh.ply', mesh_text(points, [turned(face) for face in faces]))
+        status, _, error = mesh_program('finish', 'mesh.ply', 'out.ply', *options)
+        equal((status, error), (0, ''))
+        kept, new = rows_of(read('out.ply'))
+        return [(x, y, z) for x, y, z in kept], new
+
+
+def cube(x: int, y: int, z: int) -> Solid:
+    """A cube of side 100 with this corner, faces from outside counterclockwise."""
+    places = [(x + 100 * (k & 1), y + 100 * (k >> 1 & 1), z + 100 * (k >> 2)) for k in range(8)]
+    quads = ((0, 2, 3, 1), (4, 5, 7, 6), (0, 1, 5, 4), (2, 6, 7, 3), (0, 4, 6, 2), (1, 3, 7, 5))
+    return places, [face for a, b, c, d in quads for face in ((a, b, c), (a, c, d))]
+
+
+def rough_ball() -> Solid:
+    """A ball of 48 faces and 26 points."""
+    places, faces = ball(2, 300)
+    return [(int(x), int(y), int(z)) for x, y, z in places], [tuple(map(int, face)) for face in faces]
+
+
+def shifted(solid: Solid, by: int) -> Solid:
+    """A solid that is moved along the first axis."""
+    places, faces = solid
+    return [(x + by, y, z) for x, y, z in places], faces
+
+
+def joined(*solids: Solid) -> Solid:
+    """One mesh of these, in which equal places are one point."""
+    points: list[Place] = []
+    faces: list[tuple[int, ...]] = []
+    for places, more in solids:
+        points += [place for place in places if place not in points]
+        faces += [turned([points.index(places[v]) for v in face]) for face in more]
+    return points, faces
+
+
+def inspected(points: Sequence[Any], faces: Sequence[Any]) -> str:
+    """The line of `inspect`, by the definitions of its numbers."""
+    count = edges_of(faces)
+    odd = sorted((min(edge), max(edge)) for edge in count if count[edge] != count[edge[::-1]])
+    closed = 'closed yes'
+    if odd:
+        a, b = odd[0]
+        closed = f'closed no edge {a} {b} there {count[a, b]} back {count[b, a]}'
+    corners = [[points[v] for v in face] for face in faces]
+    flat_faces = sum(not any(product(difference(a, b), difference(a, c))) for a, b, c in corners)
+    volume = sum(sum(x * y for x, y in zip(a, product(b, c))) for a, b, c in corners)
+    return f'inspected points {len(points)} faces {len(faces)} {closed} flat_faces {flat_faces} volume {volume}/6\n'
+
+
+def difference(a: Sequence[int], b: Sequence[int]) -> tuple[int, ...]:
+    """The vector from a to b."""
+    return tuple(y - x for x, y in zip(a, b))
+
+
+def product(a: Sequence[int], b: Sequence[int]) -> tuple[int, int, int]:
+    """The vector product."""
+    return a[1] * b[2] - a[2] * b[1], a[2] * b[0] - a[0] * b[2], a[0] * b[1] - a[1] * b[0]
 
 
 def turned(face: Sequence[int]) -> tuple[int, ...]:

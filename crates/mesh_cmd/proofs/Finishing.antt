@@ -1,24 +1,39 @@
--- A mesh after what the options of `finish` ask for.
-use Rattle.std.proofs.Common.{◌≡◌, Bool, true, List, sym, subst}
-use Rattle.std.specs.List.{All}
-use Rattle.geo_sign.specs.Point.{Point, IsWithin}
-use Rattle.geo_sign.specs.declared.point.TheConstants.{BOX_LIMIT}
-use Rattle.mesh_ply.specs.Meshes.{Surface, IsMesh}
-use Rattle.mesh_ply.specs.Texts.{IsPrinted}
-use Rattle.mesh_edges.specs.Edges.{IsBalanced}
-use Rattle.mesh_finish.specs.Finished.{IsFinished}
-use Rattle.mesh_cmd.specs.Finish.{AreFlippedIf, IsFinishedMesh}
-use Rattle.mesh_cmd.specs.declared.commands.finish.FinishOptions.{FinishOptions}
+-- The answers of `finish`: how they end, and what is written.
+use Rattle.std.proofs.Common.{ℕ, ◌≡◌, ◌⊎◌, inl, inr, ap, sym, ◌∙◌, subst, List}
+use Rattle.mesh_ply.specs.Meshes.{Surface}
+use Rattle.mesh_edges.specs.Edges.{IsFirstUnbalanced}
+use Rattle.mesh_finish.specs.declared.options.FinishOptions.{FinishOptions}
+use Rattle.mesh_finish.specs.declared.options.Step.{Step}
+use Rattle.command_run.specs.Answers.{Answer, invalid}
+use Rattle.command_run.specs.declared.status.Status.{Status}
+use Rattle.command_run.specs.declared.status.Status.TheVariants.{Done, Refused}
+use Rattle.mesh_cmd.specs.Finish.{FinishAnswer, not_closed_line, unverified_line}
 
--- with flips its points stay, so they stay in the box
-pub flipped_mesh : (options : FinishOptions) (old new : Surface) → options.flips ≡ true → IsPrinted old.points old.faces
-    → new.points ≡ old.points → IsFinished old.points old.faces new.faces → IsMesh new.points new.faces
-    → (IsBalanced old.faces → IsBalanced new.faces) → IsFinishedMesh options old new
-flipped_mesh options old new on printed same finished valid closed =
-    record {
-      points = same;
-      faces = subst (λ (b : Bool). AreFlippedIf b old.points old.faces new.faces) (sym on) finished;
-      printed =
-          record { valid = valid; boxed = subst (λ (ps : List Point). All (IsWithin BOX_LIMIT) ps) (sym same) printed.boxed };
-      closed = closed;
-    }
+-- it is done or refused
+pub answer_ends : (output : List ℕ) (options : FinishOptions) (mesh : Surface) (answer : Answer)
+    → FinishAnswer output options mesh answer → (answer.status ≡ Done) ⊎ (answer.status ≡ Refused)
+answer_ends output options mesh answer (inl writes) = inl (ap (λ (a : Answer). a.status) writes.is)
+answer_ends output options mesh answer (inr (inl edge)) = inr (ap (λ (a : Answer). a.status) edge.is)
+answer_ends output options mesh answer (inr (inr step)) = inr (ap (λ (a : Answer). a.status) step.1)
+
+pub done_or_refused : (P : Status → Type 0) (s : Status) → P Done → P Refused → (s ≡ Done) ⊎ (s ≡ Refused) → P s
+done_or_refused P s done refused (inl e) = subst P (sym e) done
+done_or_refused P s done refused (inr e) = subst P (sym e) refused
+
+-- the line says of an edge that it is the first that is not balanced
+pub answers_open : (output : List ℕ) (options : FinishOptions) (mesh : Surface) (answer : Answer) (line : List ℕ)
+    (from to there back : ℕ) → IsFirstUnbalanced mesh.faces from to there back → line ≡ not_closed_line from to there back
+    → answer ≡ invalid 1 line → FinishAnswer output options mesh answer
+answers_open output options mesh answer line from to there back first e is =
+    inr (inl (record {
+      from = from;
+      to = to;
+      there = there;
+      back = back;
+      first = first;
+      is = is ∙ ap (invalid 1) e;
+    }))
+
+pub answers_unverified : (output : List ℕ) (options : FinishOptions) (mesh : Surface) (answer : Answer) (line : List ℕ)
+    (step : Step) → line ≡ unverified_line step → answer ≡ invalid 1 line → FinishAnswer output options mesh answer
+answers_unverified output options mesh answer line step e is = inr (inr (step, is ∙ ap (invalid 1) e))

@@ -2,6 +2,7 @@
 --
 --   Asked                        a command with its names and options
 --   finish_of words              what the arguments after `finish` ask for
+--   inspect_of words             what the arguments after `inspect` ask for
 --   command_of words             the command that the arguments ask for, if they are valid
 --   asked command                a command as the program holds it
 --   task_of asked                what a command is apart from its arguments
@@ -20,14 +21,17 @@ use Rattle.command_run.specs.Outcome.{Run}
 use Rattle.command_run.specs.Words.{Names, are_names}
 use Rattle.command_run.specs.declared.status.Status.{Status}
 use Rattle.command_run.specs.declared.status.Status.TheVariants.{Done, No, BadArguments, Refused, Failed, NoMemory}
-use Rattle.mesh_cmd.specs.Finish.{finish_names, finish_task, finish_options}
+use Rattle.mesh_cmd.specs.Finish.{finish_names, finish_task}
+use Rattle.mesh_cmd.specs.Inspect.{inspect_task}
+use Rattle.mesh_cmd.specs.Options.{finish_options}
 use Rattle.mesh_cmd.specs.declared.commands.Command.{Command}
 use Rattle.mesh_cmd.specs.declared.commands.Command.TheVariants as commands
-use Rattle.mesh_cmd.specs.declared.commands.finish.FinishOptions.{FinishOptions}
+use Rattle.mesh_finish.specs.declared.options.FinishOptions.{FinishOptions}
 
 -- a command with its names and options
 pub data Asked : Type 0 where
   finish : Names → FinishOptions → Asked
+  inspect : List ℕ → Asked
 
 -- two names, and options
 abbrev pub finish_of : List (List ℕ) → Option Asked
@@ -38,18 +42,29 @@ finish_of (mesh ∷ output ∷ options) =
     then option_map (finish (record { input = mesh; output = output })) (finish_options options)
     else None
 
+-- one name
+abbrev pub inspect_of : List (List ℕ) → Option Asked
+inspect_of [] = None
+inspect_of (mesh ∷ []) = if are_names (mesh ∷ []) then Some (inspect mesh) else None
+inspect_of (mesh ∷ other ∷ words) = None
+
 -- the command that the arguments ask for, if they are valid
 abbrev pub command_of : List (List ℕ) → Option Asked
 command_of [] = None
-command_of (word ∷ words) = if bytes_eq word (codes "finish") then finish_of words else None
+command_of (word ∷ words) =
+    if bytes_eq word (codes "finish")
+    then finish_of words
+    else (if bytes_eq word (codes "inspect") then inspect_of words else None)
 
 -- a command as the program holds it
 abbrev pub asked : Command → Asked
 asked (commands.Finish words) = finish (finish_names words) words.options
+asked (commands.Inspect words) = inspect words.mesh.now
 
 -- what a command is apart from its arguments
 abbrev pub task_of : Asked → Task
 task_of (finish names options) = finish_task names options
+task_of (inspect name) = inspect_task name
 
 -- invalid arguments: nothing is read or written
 abbrev pub bad_arguments_answer : Answer

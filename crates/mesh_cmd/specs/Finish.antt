@@ -1,37 +1,29 @@
--- `finish MESH OUT [flips=no]`: a mesh with its edges flipped.
+-- `finish MESH OUT`: a mesh after what the options ask for.
 --
---   option_of word, finish_options words     the options that arguments are, if they are valid
 --   finish_names words                   the names that the program holds
---   finished_line points faces             the line
+--   finished_line points faces           the line
 --   finish_done output mesh              the answer that writes this mesh
---   AreFlippedIf flips points old new    the faces are flipped, or as they were
---   IsFinishedMesh options old new       a mesh after what the options ask for
---   WritesFinished output options ..     the answer writes such a mesh
+--   not_closed_line from to there back   the line of a mesh that is not closed
+--   unverified_line step                 the line of a step whose result did not pass its verification
+--   WritesFinished output options ..     the answer writes a mesh after what the options ask for
+--   IsNotClosed mesh answer              the mesh is not closed, which the answer says
+--   IsUnverified answer                  a step did not pass its verification, which the answer says
+--   FinishAnswer output options ..       one of these
 --   finish_task names options            the command
-use Rattle.std.specs.Prelude.{ℕ, List, [], ◌∷◌, if◌then◌else◌, Bool, true, false, Option, Some, None, ◌++◌, codes, ◌≡◌, length}
-use Rattle.std.specs.Str.{bytes_eq}
-use Rattle.geo_sign.specs.Point.{Point}
+use Rattle.std.specs.Prelude.{ℕ, List, [], ◌∷◌, ◌++◌, codes, ◌≡◌, ◌⊎◌, length}
 use Rattle.mesh_ply.specs.Meshes.{Surface}
 use Rattle.mesh_ply.specs.Texts.{mesh_text, IsPrinted}
-use Rattle.mesh_edges.specs.Edges.{IsBalanced}
-use Rattle.mesh_finish.specs.Finished.{IsFinished}
-use Rattle.command_run.specs.Answers.{Answer, Task, mesh_task}
-use Rattle.command_run.specs.Lines.{labelled}
+use Rattle.mesh_edges.specs.Edges.{IsFirstUnbalanced}
+use Rattle.mesh_finish.specs.Steps.{AreFinished}
+use Rattle.mesh_finish.specs.declared.options.FinishOptions.{FinishOptions}
+use Rattle.mesh_finish.specs.declared.options.Step.{Step}
+use Rattle.mesh_finish.specs.declared.options.Step.TheVariants.{Pairing, Pieces, Splitting}
+use Rattle.command_run.specs.Answers.{Answer, Task, mesh_task, invalid}
+use Rattle.command_run.specs.Lines.{labelled, text_line}
 use Rattle.command_run.specs.Words.{Names}
 use Rattle.command_run.specs.declared.meshes.TheConstants.{FILE_LIMIT}
 use Rattle.command_run.specs.declared.status.Status.TheVariants.{Done}
-use Rattle.mesh_cmd.specs.declared.commands.finish.FinishOptions.{FinishOptions}
 use Rattle.mesh_cmd.specs.declared.commands.finish.FinishWords.{FinishWords}
-
--- the options that one argument is
-abbrev pub option_of : List ℕ → Option FinishOptions
-option_of word = if bytes_eq word (codes "flips=no") then Some (record { flips = false }) else None
-
--- the options that the arguments after the names are
-abbrev pub finish_options : List (List ℕ) → Option FinishOptions
-finish_options [] = Some (record { flips = true })
-finish_options (word ∷ []) = option_of word
-finish_options (word ∷ other ∷ words) = None
 
 -- the names that the program holds
 abbrev pub finish_names : FinishWords → Names
@@ -51,24 +43,43 @@ finish_done output mesh =
       line = finished_line (length mesh.points) (length mesh.faces);
     }
 
--- with flips the faces are reached by flips, and by none two faces meet that were apart; without they are as they were
-abbrev pub AreFlippedIf : (flips : Bool) → List Point → (old new : List (List ℕ)) → Type 0
-AreFlippedIf true points old new = IsFinished points old new
-AreFlippedIf false points old new = new ≡ old
+-- the line of a mesh that is not closed: its smallest edge that occurs another number of times than its reverse, with both counts
+unfoldable pub not_closed_line : (from to there back : ℕ) → List ℕ
+not_closed_line from to there back =
+    labelled (codes "refused 28 unbalanced from ") from
+    ++ (labelled (codes " to ") to ++ (labelled (codes " there ") there ++ (labelled (codes " back ") back ++ (10 ∷ []))))
 
--- A mesh after what the options ask for: the points stay, and so does that it has a text and, if it was so, that it is closed.
-pub record IsFinishedMesh (options : FinishOptions) (old new : Surface) : Type 0 where
-  pub points : new.points ≡ old.points
-  pub faces : AreFlippedIf options.flips old.points old.faces new.faces
-  pub printed : IsPrinted new.points new.faces
-  pub closed : IsBalanced old.faces → IsBalanced new.faces
+-- the line of a step whose result did not pass its verification
+abbrev pub unverified_line : Step → List ℕ
+unverified_line Pairing = text_line (codes "refused 31 unverified pairing")
+unverified_line Pieces = text_line (codes "refused 31 unverified pieces")
+unverified_line Splitting = text_line (codes "refused 31 unverified splitting")
 
--- the text of such a mesh is written, and its numbers of points and faces are said
+-- the text of a mesh after what the options ask for is written, and its numbers of points and faces are said
 pub record WritesFinished (output : List ℕ) (options : FinishOptions) (mesh : Surface) (answer : Answer) : Type 0 where
   pub finished : Surface
-  pub so : IsFinishedMesh options mesh finished
+  pub printed : IsPrinted finished.points finished.faces
+  pub so : AreFinished options mesh.points mesh.faces finished.points finished.faces
   pub is : answer ≡ finish_done output finished
+
+-- the mesh is not closed, which the line says
+pub record IsNotClosed (mesh : Surface) (answer : Answer) : Type 0 where
+  pub from : ℕ
+  pub to : ℕ
+  pub there : ℕ
+  pub back : ℕ
+  pub first : IsFirstUnbalanced mesh.faces from to there back
+  pub is : answer ≡ invalid 1 (not_closed_line from to there back)
+
+-- a step did not pass its verification, which the line says
+abbrev pub IsUnverified : Answer → Type 0
+IsUnverified answer = (step : Step) × (answer ≡ invalid 1 (unverified_line step))
+
+-- a finished mesh is written, or it is said why not
+abbrev pub FinishAnswer : List ℕ → FinishOptions → Surface → Answer → Type 0
+FinishAnswer output options mesh answer =
+    WritesFinished output options mesh answer ⊎ (IsNotClosed mesh answer ⊎ IsUnverified answer)
 
 -- it reads the mesh, and writes a finished one if the mesh is valid
 abbrev pub finish_task : Names → FinishOptions → Task
-finish_task names options = mesh_task ⊥ FILE_LIMIT names.input (WritesFinished names.output options)
+finish_task names options = mesh_task ⊥ FILE_LIMIT names.input (FinishAnswer names.output options)

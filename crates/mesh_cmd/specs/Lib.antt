@@ -1,2 +1,4 @@
 pub mod Commands
 pub mod Finish
+pub mod Inspect
+pub mod Options

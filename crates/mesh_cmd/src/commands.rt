@@ -5,18 +5,24 @@ ghost use Rattle.command_run.specs.Steps.{IsReplied, ReadsFor, CountsFaults};
 ghost use Rattle.mesh_cmd.specs.Commands.{command_of, asked, task_of};
 
 mod finish;
+mod inspect;
 
 use command_run::{Reply, Stop};
+pub use finish::FinishWords;
 use finish::{finish_command, reply_to_finish};
-pub use finish::{FinishOptions, FinishWords};
 use host::Host;
+use inspect::{inspect_command, reply_to_inspect};
+pub use inspect::{InspectWords, Measures};
 use std::alloc::Global;
 
 /// What a run is asked for.
 #[derive(Clone, Copy, Debug)]
 pub enum Command<'a> {
-    /// `finish MESH OUT [flips=no]`: reads the mesh, flips its edges where the angles between faces fall, and writes the result.
+    /// `finish MESH OUT [pieces=N] [manifold=yes] [flips=no]`: reads the mesh, keeps its N largest pieces, splits vertices so that each
+    /// edge has two faces, flips edges where the angles between faces fall, and writes the result.
     Finish(FinishWords<'a>),
+    /// `inspect MESH`: reads the mesh and says its measures.
+    Inspect(InspectWords<'a>),
 }
 
 /// Returns the command that the arguments ask for, and `None` exactly if they are invalid.
@@ -30,6 +36,7 @@ pub fn understand(words: &[String]) -> Option<Command<'_>>
     };
     match command.as_str() {
         "finish" => finish_command(words),
+        "inspect" => inspect_command(words),
         _ => None,
     }
 }
@@ -47,5 +54,6 @@ pub fn reply_to<'a, H: Host>(
 {
     match command {
         Command::Finish(words) => reply_to_finish(alloc, host, words),
+        Command::Inspect(words) => reply_to_inspect(alloc, host, words),
     }
 }

@@ -15,7 +15,7 @@ use std::alloc::Global;
 /// |---|---|
 /// | 0 | the command is done |
 /// | 2 | invalid arguments |
-/// | 3 | invalid mesh, or its file is longer than 4,294,967,296 bytes |
+/// | 3 | the mesh is invalid or not closed, or its file is longer than 4,294,967,296 bytes |
 /// | 4 | a call of the host failed |
 /// | 5 | out of memory |
 ///

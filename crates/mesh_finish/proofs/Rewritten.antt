@@ -11,9 +11,10 @@ use Rattle.mesh_ply.specs.Meshes.{IsFace}
 use Rattle.mesh_edges.specs.Edges.{has_edge, faces_with_edge, IsBalanced, face_at}
 use Rattle.mesh_edges.proofs.Counts.{one_if}
 use Rattle.mesh_flips.specs.Turns.{IsTriangle, IsCycled}
-use Rattle.mesh_flips.specs.Flips.{AreFlips}
+use Rattle.mesh_flips.specs.Flips.{AreFlips, KeepsSingle}
 use Rattle.mesh_flips.proofs.Kept.{flips_excess}
 use Rattle.mesh_flips.proofs.Sides.{sides, turned_sides}
+use Rattle.mesh_split.specs.Splits.{AreSingle}
 use Rattle.mesh_finish.specs.Finished.{AreTurned}
 
 -- a face of a mesh is a triangle
@@ -83,4 +84,14 @@ finished_balanced n old sorted flipped new each after moved flips turned closed 
       flips_excess n each flips u v,
       turned_edges n u v flipped new after turned.count turned.each,
       turned_edges n v u flipped new after turned.count turned.each,
+    )
+
+-- no directed edge occurs twice after all three that did not before
+pub finished_single : (n : ℕ) (old sorted flipped new : List (List ℕ)) → All (IsTriangle n) flipped → IsPermutation old sorted
+    → KeepsSingle sorted flipped → AreTurned flipped new → AreSingle old → AreSingle new
+finished_single n old sorted flipped new after moved keeps turned once u v =
+    omega (
+      arith,
+      turned_edges n u v flipped new after turned.count turned.each,
+      keeps u v (omega (arith, sum_by-IsPermutation (λ f. one_if (has_edge u v f)) old sorted moved, once u v)),
     )

@@ -71,7 +71,7 @@ module _ (points : List Point) (faces : List (List ℕ)) (one other : ℕ) (q : 
       subst (λ (x : List ℕ). AreFacesApart points x (face_at (flipped faces one other q) j)) (sym e)
       (subst (λ (x : List ℕ). AreFacesApart points f x) (sym h) apart)
 
-  pub flip_apart : KeepsApart points faces (flipped faces one other q)
+  pub flip_apart : KeepsApart points points faces (flipped faces one other q)
   flip_apart i j ne li lj apart =
       let x : List ℕ = q.a ∷ q.d ∷ q.c ∷ [] in
       let y : List ℕ = q.d ∷ q.b ∷ q.c ∷ [] in

@@ -3,7 +3,7 @@
 --   IsFlip old new         one edge is flipped
 --   AreFlips old new       any number of edges are flipped, one after another
 --   SameExcess old new     for each directed edge, how much more often it occurs than its reverse is as before
---   KeepsApart points old new   faces that were apart still are
+--   KeepsApart before after old new   faces that were apart among the points before are apart among those after
 --   KeepsSingle old new    no directed edge that occurred at most once occurs more often
 --   IsFlipped points old new    edges were flipped so that the last two hold
 use Rattle.std.specs.Prelude.{ℕ, ◌≡◌, ◌≢◌, ◌+◌, ◌<◌, ◌≤◌, List, length}
@@ -31,11 +31,11 @@ abbrev pub SameExcess : (old new : List (List ℕ)) → Type 0
 SameExcess old new =
     (u v : ℕ) → faces_with_edge u v new + faces_with_edge v u old ≡ faces_with_edge u v old + faces_with_edge v u new
 
--- faces that were apart, by their numbers, still are
-abbrev pub KeepsApart : List Point → (old new : List (List ℕ)) → Type 0
-KeepsApart points old new =
-    (i j : ℕ) → i ≢ j → i < length old → j < length old → AreFacesApart points (face_at old i) (face_at old j)
-    → AreFacesApart points (face_at new i) (face_at new j)
+-- Faces that were apart, by their numbers, still are: the old ones among the points before, the new ones among those after.
+abbrev pub KeepsApart : (before after : List Point) → (old new : List (List ℕ)) → Type 0
+KeepsApart before after old new =
+    (i j : ℕ) → i ≢ j → i < length old → j < length old → AreFacesApart before (face_at old i) (face_at old j)
+    → AreFacesApart after (face_at new i) (face_at new j)
 
 -- no directed edge that occurred at most once occurs more often
 abbrev pub KeepsSingle : (old new : List (List ℕ)) → Type 0
@@ -44,5 +44,5 @@ KeepsSingle old new = (u v : ℕ) → faces_with_edge u v old ≤ 1 → faces_wi
 -- edges were flipped, faces that were apart still are, and no directed edge occurs twice that did not
 pub record IsFlipped (points : List Point) (old new : List (List ℕ)) : Type 0 where
   pub flips : AreFlips old new
-  pub apart : KeepsApart points old new
+  pub apart : KeepsApart points points old new
   pub single : KeepsSingle old new

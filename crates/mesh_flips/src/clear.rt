@@ -23,8 +23,8 @@ fn place(points: &[Point], v: u32) -> Point
     points[v as usize]
 }
 
-/// Returns the box of a face.
-pub(crate) fn hull_of(points: &[Point], face: [u32; 3]) -> Hull
+/// Returns the smallest box that contains a face.
+pub fn hull_of(points: &[Point], face: [u32; 3]) -> Hull
     requires { IsTriangle (length points.now) face }
     ensures { HoldsFace points.now result face }
 {

@@ -98,8 +98,8 @@ fn flip_pass(
     Ok(())
 }
 
-/// Returns a tree with the boxes of all faces.
-fn tree_of(alloc: Global, points: &[Point], faces: &[[u32; 3]]) -> Result<HullTree, NoMemory>
+/// Returns a tree with the box of each face, at the face's number.
+pub fn tree_of(alloc: Global, points: &[Point], faces: &[[u32; 3]]) -> Result<HullTree, NoMemory>
     requires each { All (IsTriangle (length points.now)) faces.now }
     requires few { length faces.now < 2 ^ 60 }
     ensures { IfOk result (λ tree. IsReady points.now faces.now tree) }
@@ -116,12 +116,14 @@ fn tree_of(alloc: Global, points: &[Point], faces: &[[u32; 3]]) -> Result<HullTr
 /// `twins[h]` is the opposite of half edge `h`, which is side `h % 3` of face `h / 3`. It is a hint: if it is wrong, that edge is not
 /// flipped. Faces that were apart stay apart, and no directed edge occurs twice that did not. After `NoMemory` some edges are flipped,
 /// and the same holds.
+///
+/// Returns the opposites after the flips, a hint again.
 pub fn flip_edges(
     alloc: Global,
     points: &[Point],
     faces: &mut [[u32; 3]],
     twins: Vec<u32>,
-) -> Result<(), NoMemory>
+) -> Result<Vec<u32>, NoMemory>
     requires each { All (IsTriangle (length points.now)) faces.old }
     requires few { length faces.old < 2 ^ 60 }
     ensures flipped { IsFlipped points.now faces.old faces.new }
@@ -133,5 +135,5 @@ pub fn flip_edges(
     for least in LEAST_GAINS {
         flip_pass(points, faces, &mut tree, &mut found, &mut hints, least)?;
     }
-    Ok(())
+    Ok(hints.twins)
 }

@@ -15,11 +15,13 @@ mod laws;
 mod quad;
 mod way;
 
-pub use driving::flip_edges;
+pub use clear::hull_of;
+pub use driving::{flip_edges, tree_of};
 pub use flips::flip;
 pub use laws::{flips_keep_closed, flips_keep_faces};
 pub use quad::{Quad, quad_at};
 use std::alloc::AllocError;
+pub use way::Way;
 
 /// Out of memory.
 pub type NoMemory = AllocError;

@@ -1,13 +1,16 @@
-//! Vectors in floating point, for the choice of flips. No clause depends on them.
+//! Vectors in floating point, for the choice of flips and of places. No clause depends on them.
 
 use geo_sign::Point;
 
-/// A vector, rounded.
+/// A vector of three floating-point numbers. No clause says anything of its value.
 #[derive(Clone, Copy, Debug)]
-pub(crate) struct Way {
-    x: f64,
-    y: f64,
-    z: f64,
+pub struct Way {
+    /// The first coordinate.
+    pub x: f64,
+    /// The second coordinate.
+    pub y: f64,
+    /// The third coordinate.
+    pub z: f64,
 }
 
 /// Coefficients of the arc cosine with an error below 2e-8 (Abramowitz and Stegun, 4.4.46), the highest first.
@@ -25,14 +28,15 @@ const ARC_COSINE: [f64; 8] = [
 const HALF_TURN: f64 = 3.141592653589793;
 
 impl Way {
-    pub(crate) const NONE: Way = Way {
+    /// The zero vector.
+    pub const NONE: Way = Way {
         x: 0.0,
         y: 0.0,
         z: 0.0,
     };
 
     /// Returns the vector from one point to another.
-    pub(crate) fn between(a: Point, b: Point) -> Way {
+    pub fn between(a: Point, b: Point) -> Way {
         Way {
             x: f64::from(b.x()) - f64::from(a.x()),
             y: f64::from(b.y()) - f64::from(a.y()),
@@ -41,7 +45,7 @@ impl Way {
     }
 
     /// Returns the cross product.
-    pub(crate) fn across(self, other: Way) -> Way {
+    pub fn across(self, other: Way) -> Way {
         Way {
             x: self.y * other.z - self.z * other.y,
             y: self.z * other.x - self.x * other.z,
@@ -49,11 +53,13 @@ impl Way {
         }
     }
 
-    pub(crate) fn dot(self, other: Way) -> f64 {
+    /// Returns the scalar product.
+    pub fn dot(self, other: Way) -> f64 {
         self.x * other.x + self.y * other.y + self.z * other.z
     }
 
-    pub(crate) fn plus(self, other: Way) -> Way {
+    /// Returns the sum.
+    pub fn plus(self, other: Way) -> Way {
         Way {
             x: self.x + other.x,
             y: self.y + other.y,
@@ -61,12 +67,22 @@ impl Way {
         }
     }
 
-    pub(crate) fn length(self) -> f64 {
+    /// Returns the product with a number.
+    pub fn times(self, factor: f64) -> Way {
+        Way {
+            x: self.x * factor,
+            y: self.y * factor,
+            z: self.z * factor,
+        }
+    }
+
+    /// Returns the length.
+    pub fn length(self) -> f64 {
         self.dot(self).sqrt()
     }
 
     /// Returns the vector scaled to length 1; the zero vector stays.
-    pub(crate) fn unit(self) -> Way {
+    pub fn unit(self) -> Way {
         let long = self.length();
         if long > 0.0 {
             Way {

@@ -4,13 +4,24 @@
 use real_host::Advice;
 
 /// The commands, each with its arguments.
-const USES: [(&str, &str); 1] = [("finish", "MESH OUT [flips=no]")];
+const USES: [(&str, &str); 2] = [
+    ("finish", "MESH OUT [pieces=N] [manifold=yes] [flips=no]"),
+    ("inspect", "MESH"),
+];
 
 /// How the line of an error begins, and how to fix what caused it.
-const CURES: [(&[u8], &str); 3] = [
+const CURES: [(&[u8], &str); 5] = [
     (
         b"refused 19 too_long mesh",
         "over 4 GiB, so most likely another file than was meant",
+    ),
+    (
+        b"refused 28 unbalanced",
+        "the mesh is not closed at the edge between points a and b, counted from 0: take a mesh that recon build wrote",
+    ),
+    (
+        b"refused 31 unverified",
+        "the result of this step did not pass its verification: finish without its option",
     ),
     (
         b"refused 29 mesh_line",

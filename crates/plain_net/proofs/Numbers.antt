@@ -68,7 +68,7 @@ arc_is s voted j n l =
 
 -- ---- rows that occur once
 -- indices of rows that stand once are equal where the rows are
-index_test : (rows : List (List ℕ)) (i j : ℕ) → AreOnce rows → i < length rows → j < length rows
+pub index_test : (rows : List (List ℕ)) (i j : ℕ) → AreOnce rows → i < length rows → j < length rows
     → eqb i j ≡ bytes_eq (get_or rows i []) (get_or rows j [])
 index_test rows i j r li lj =
     same_bools (eqb i j) (bytes_eq (get_or rows i []) (get_or rows j []))
@@ -84,7 +84,7 @@ taken f xs d (suc n) l =
     ∙ ap (λ (i : ℕ). i + f (get_or xs n d)) (taken f xs d n (omega arith))
 
 -- a sum over a list is a sum over its indices
-sum_by-below : {X : Type 0} (f : X → ℕ) (xs : List X) (d : X) → sum_by f xs ≡ sum_below (length xs) (λ j. f (get_or xs j d))
+pub sum_by-below : {X : Type 0} (f : X → ℕ) (xs : List X) (d : X) → sum_by f xs ≡ sum_below (length xs) (λ j. f (get_or xs j d))
 sum_by-below f xs d = ap (sum_by f) (sym (take-length xs)) ∙ taken f xs d (length xs) (omega arith)
 
 -- ---- both networks

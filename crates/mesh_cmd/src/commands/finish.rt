@@ -1,28 +1,22 @@
-//! `finish MESH OUT [flips=no]`: its arguments, its answer and its line.
+//! `finish MESH OUT [pieces=N] [manifold=yes] [flips=no]`: its arguments, its answer and its lines.
 ghost use Rattle.std.specs.Option.{option_map};
 ghost use Rattle.std.specs.Prelude.{◌≡◌, false, map, string_bytes, IfOk};
 ghost use Rattle.mesh_ply.specs.Texts.{IsPrinted};
 ghost use Rattle.command_run.specs.Replies.{answer_of};
 ghost use Rattle.command_run.specs.Steps.{IsReplied, ReadsFor, CountsFaults, surface_of};
 ghost use Rattle.mesh_cmd.specs.Commands.{asked, finish_of};
-ghost use Rattle.mesh_cmd.specs.Finish.{option_of, finish_options, finish_names, finish_task, finished_line, finish_done, IsFinishedMesh, WritesFinished};
+ghost use Rattle.mesh_cmd.specs.Finish.{finish_names, finish_task, finished_line, finish_done, not_closed_line, unverified_line, FinishAnswer};
 
 use crate::commands::Command;
+use crate::options::options_in;
 use command_run::{
     FILE_LIMIT, Line, MeshReading, NoMemory, Reply, Status, Stop, Text, are_names, invalid_input,
-    push_labelled, read_mesh_file,
+    line_of_text, push_labelled, read_mesh_file,
 };
 use host::Host;
-use mesh_finish::finish_mesh;
+use mesh_finish::{FinishError, FinishOptions, Step, finish_mesh};
 use mesh_ply::{Mesh, push_mesh};
-use std::alloc::Global;
-
-/// What is done to a mesh.
-#[derive(Clone, Copy, Debug, PartialEq, Eq)]
-pub struct FinishOptions {
-    /// Edges are flipped where the angles between faces fall (default: true; `flips=no`: false).
-    pub flips: bool,
-}
+use std::alloc::{AllocError, Global};
 
 /// The arguments of `finish`.
 #[derive(Clone, Copy, Debug)]
@@ -53,28 +47,6 @@ pub fn finish_command(words: &[String]) -> Option<Command<'_>>
     }))
 }
 
-/// Returns the options that these arguments are, if they are valid.
-fn options_in(words: &[String]) -> Option<FinishOptions>
-    ensures { result ≡ finish_options (map string_bytes words.now) }
-{
-    match words {
-        [] => Some(FinishOptions { flips: true }),
-        [word] => option_in(word.as_str()),
-        _ => None,
-    }
-}
-
-/// Returns the options with this one given, if it is one.
-fn option_in(word: &str) -> Option<FinishOptions>
-    ensures { result ≡ option_of word.now }
-{
-    if word == "flips=no" {
-        Some(FinishOptions { flips: false })
-    } else {
-        None
-    }
-}
-
 /// Reads the mesh and makes the answer of `finish`. Nothing is written or said.
 pub fn reply_to_finish<'a, H: Host>(
     alloc: Global,
@@ -100,23 +72,20 @@ fn reply_to_mesh<'a>(
     output: &'a str,
 ) -> Result<Reply<'a>, NoMemory>
     requires { IsPrinted mesh.points.items mesh.faces.items }
-    ensures { IfOk result (λ reply. WritesFinished output.now options (surface_of mesh) (answer_of 1 reply)) }
+    ensures { IfOk result (λ reply. FinishAnswer output.now options (surface_of mesh) (answer_of 1 reply)) }
 {
-    let finished = finished(alloc, mesh, options)?;
-    let reply = reply_of_mesh(alloc, &finished, output)?;
-    Ok(reply)
-}
-
-/// Returns the mesh with its edges flipped, or as it is if the options say so.
-fn finished(alloc: Global, mesh: Mesh, options: FinishOptions) -> Result<Mesh, NoMemory>
-    requires { IsPrinted mesh.points.items mesh.faces.items }
-    ensures { IfOk result (λ new. IsFinishedMesh options (surface_of mesh) (surface_of new)) }
-{
-    if !options.flips {
-        return Ok(mesh);
+    match finish_mesh(alloc, mesh, options) {
+        Ok(finished) => Ok(reply_of_mesh(alloc, &finished, output)?),
+        Err(FinishError::NotClosed(edge)) => {
+            let line = line_of_open_mesh(alloc, edge.from, edge.to, edge.there, edge.back)?;
+            Ok(invalid_input(alloc, Line::Made(line)))
+        }
+        Err(FinishError::Unverified(step)) => {
+            let line = line_of_unverified(alloc, step)?;
+            Ok(invalid_input(alloc, Line::Made(line)))
+        }
+        Err(FinishError::NoMemory) => Err(AllocError),
     }
-    let finished = finish_mesh(alloc, mesh)?;
-    Ok(finished)
 }
 
 /// Makes the answer that writes this mesh.
@@ -149,4 +118,35 @@ fn line_of_finish(alloc: Global, points: u64, faces: u64) -> Result<Vec<u8>, NoM
     push_labelled(&mut line, b" faces ", faces)?;
     line.push(b'\n')?;
     Ok(line)
+}
+
+/// Returns the line of a mesh that is not closed: an edge, and how many faces have it in each direction.
+#[tactic(auto, unfolding(crate::specs::Finish::not_closed_line))]
+fn line_of_open_mesh(
+    alloc: Global,
+    from: u32,
+    to: u32,
+    there: u32,
+    back: u32,
+) -> Result<Vec<u8>, NoMemory>
+    ensures { IfOk result (λ line. line.items ≡ not_closed_line from to there back) }
+{
+    let mut line = Vec::new(alloc);
+    push_labelled(&mut line, b"refused 28 unbalanced from ", u64::from(from))?;
+    push_labelled(&mut line, b" to ", u64::from(to))?;
+    push_labelled(&mut line, b" there ", u64::from(there))?;
+    push_labelled(&mut line, b" back ", u64::from(back))?;
+    line.push(b'\n')?;
+    Ok(line)
+}
+
+/// Returns the line of a step whose result did not pass its verification.
+fn line_of_unverified(alloc: Global, step: Step) -> Result<Vec<u8>, NoMemory>
+    ensures { IfOk result (λ line. line.items ≡ unverified_line step) }
+{
+    match step {
+        Step::Pairing => line_of_text(alloc, b"refused 31 unverified pairing"),
+        Step::Pieces => line_of_text(alloc, b"refused 31 unverified pieces"),
+        Step::Splitting => line_of_text(alloc, b"refused 31 unverified splitting"),
+    }
 }

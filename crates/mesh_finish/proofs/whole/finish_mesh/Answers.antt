@@ -1,7 +1,33 @@
-use Rattle.std.proofs.Common.{ℕ, List, sym, subst}
-use Rattle.mesh_edges.specs.Edges.{IsBalanced}
+-- The twins say that the mesh is closed, before the flips and, by what these keep, after them.
+use Rattle.std.proofs.Common.{rules, length, sym, subst, List}
+use Rattle.std.specs.List.{All}
+use Rattle.geo_sign.specs.Point.{Point, IsWithin}
+use Rattle.geo_sign.specs.declared.point.TheConstants.{BOX_LIMIT}
+use Rattle.half_edges.proofs.Paired.{paired_closed}
+use Rattle.mesh_finish.proofs.Composed.{composed}
 use Rattle.mesh_finish.proofs.whole.finish_mesh.Goals as goal
 
-pub returns-clause-closed : goal.returns-clause-closed
-returns-clause-closed c = λ closed.
-    c.in_ok-faces.ensures.closed (subst (λ (faces : List (List ℕ)). IsBalanced faces) (sym c.deref-2.ensures.value) closed)
+pub returns-clause-finished : goal.returns-clause-finished
+returns-clause-finished c =
+    let split = c.in_ok-split in
+    let new = c.in_ok-new in
+    composed c.args.options c.args.mesh.points.items c.args.mesh.faces.items c.in_ok-kept.kept.mesh.points.items
+    c.in_ok-kept.kept.mesh.faces.items split.split.mesh.points.items split.split.mesh.faces.items new.new.points.items
+    new.new.faces.items c.in_ok-kept.ensures.pieces split.ensures.split new.ensures.points new.ensures.flips
+    (paired_closed (length c.args.mesh.points.items) c.args.mesh.faces.items c.in_ok-twins.twins.items c.requires.each
+    c.in_ok-twins.ensures.paired)
+    (new.ensures.closed
+    (paired_closed (length split.split.mesh.points.items) split.split.mesh.faces.items split.split.twins.items
+    split.ensures.valid.each split.ensures.paired))
+    new.ensures.single
+
+pub returns-clause-boxed : goal.returns-clause-boxed
+returns-clause-boxed c = λ boxed.
+    subst (λ (ps : List Point). All (IsWithin BOX_LIMIT) ps) (sym c.in_ok-new.ensures.points)
+    (c.in_ok-split.ensures.boxed (c.in_ok-kept.ensures.boxed boxed))
+
+pub returns-in_err-kept-clause-why : goal.returns-in_err-kept-clause-why
+returns-in_err-kept-clause-why c = search (rules, c.in_err-kept.ensures.why c.args.mesh.faces.items)
+
+pub returns-in_err-split-clause-why : goal.returns-in_err-split-clause-why
+returns-in_err-split-clause-why c = search (rules, c.in_err-split.ensures.why c.args.mesh.faces.items)

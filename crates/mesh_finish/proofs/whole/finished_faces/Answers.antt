@@ -8,7 +8,7 @@ use Rattle.mesh_ply.specs.Meshes.{IsFace}
 use Rattle.mesh_flips.specs.Turns.{IsTriangle}
 use Rattle.mesh_flips.proofs.Kept.{flips_count}
 use Rattle.mesh_finish.specs.Finished.{AreTurned}
-use Rattle.mesh_finish.proofs.Rewritten.{faces_triangles, finished_balanced}
+use Rattle.mesh_finish.proofs.Rewritten.{faces_triangles, finished_balanced, finished_single}
 use Rattle.mesh_finish.proofs.whole.finished_faces.Goals as goal
 
 -- a mesh's faces in another order
@@ -59,3 +59,13 @@ returns-clause-closed c =
     subst (λ (faces : List (List ℕ)). IsPermutation c.args.faces.now faces) (sym (sorted_before c)) c.in_ok-sorted.ensures in
     finished_balanced n c.args.faces.now c.deref_mut.result.now c.flip_edges.new.faces c.in_ok-turned.turned.items
     (sorted_triangles n _ _ c.requires.each moved) c.flip_edges.ensures.each moved c.flip_edges.ensures.flipped.flips turned
+
+pub returns-clause-single : goal.returns-clause-single
+returns-clause-single c =
+    let n = length c.args.points.now in
+    let turned : AreTurned c.flip_edges.new.faces c.in_ok-turned.turned.items =
+    subst (λ (faces : List (List ℕ)). AreTurned faces c.in_ok-turned.turned.items) (read c) c.in_ok-turned.ensures.turned in
+    let moved : IsPermutation c.args.faces.now c.deref_mut.result.now =
+    subst (λ (faces : List (List ℕ)). IsPermutation c.args.faces.now faces) (sym (sorted_before c)) c.in_ok-sorted.ensures in
+    finished_single n c.args.faces.now c.deref_mut.result.now c.flip_edges.new.faces c.in_ok-turned.turned.items
+    c.flip_edges.ensures.each moved c.flip_edges.ensures.flipped.single turned

@@ -1,22 +1,22 @@
-use Rattle.std.proofs.Common.{IfSome, subst, sym, ap}
-use Rattle.command_run.specs.Answers.{Answer, MayEnd, mesh_task}
-use Rattle.command_run.specs.Steps.{IsAnswered, IsMeshReading}
+use Rattle.std.proofs.Common.{IfSome, subst}
+use Rattle.command_run.specs.Answers.{MayEnd, mesh_task}
+use Rattle.command_run.specs.Steps.{IsAnswered, IsMeshReading, surface_of}
 use Rattle.command_run.specs.declared.meshes.MeshReading.{MeshReading}
 use Rattle.command_run.specs.declared.meshes.TheConstants.{FILE_LIMIT}
-use Rattle.command_run.specs.declared.status.Status.{Status}
 use Rattle.command_run.proofs.MeshReplies.{mesh_answered, mesh_refused}
-use Rattle.mesh_cmd.specs.Finish.{WritesFinished}
+use Rattle.mesh_cmd.specs.Finish.{FinishAnswer}
+use Rattle.mesh_cmd.proofs.Finishing.{answer_ends, done_or_refused}
 use Rattle.mesh_cmd.proofs.commands.finish.reply_to_finish.Goals as goal
 
 pub returns-in_ok-reply_to_mesh-in-Mesh-clause-replied : goal.returns-in_ok-reply_to_mesh-in-Mesh-clause-replied
 returns-in_ok-reply_to_mesh-in-Mesh-clause-replied g c =
     let words = c.args.words.now in
-    let answers = WritesFinished words.output.now words.options in
-    let status = ap (λ (a : Answer). a.status) c.in_ok-reply_to_mesh-in-Mesh.ensures.is in
+    let answers = FinishAnswer words.output.now words.options in
+    let ends = answer_ends words.output.now words.options (surface_of c.in-Mesh.mesh) _ c.in_ok-reply_to_mesh-in-Mesh.ensures in
     mesh_answered ⊥ FILE_LIMIT words.mesh.now answers c.in-Mesh.mesh c.in_ok-reply_to_mesh-in-Mesh.field-0
     (g.H.Host.state c.args.host.now)
-    (subst (λ (s : Status). MayEnd (mesh_task ⊥ FILE_LIMIT words.mesh.now answers) s) (sym status) tt)
-    (subst IsAnswered (sym status) tt) c.in_ok-reply_to_mesh-in-Mesh.ensures
+    (done_or_refused (λ s. MayEnd (mesh_task ⊥ FILE_LIMIT words.mesh.now answers) s) _ tt tt ends)
+    (done_or_refused IsAnswered _ tt tt ends) c.in_ok-reply_to_mesh-in-Mesh.ensures
     (subst (λ (reading : MeshReading).
     IfSome (g.H.Host.state c.args.host.now).told (IsMeshReading FILE_LIMIT words.mesh.now reading)) c.in-Mesh.is
     c.in_ok-mesh.ensures.read)
@@ -24,7 +24,7 @@ returns-in_ok-reply_to_mesh-in-Mesh-clause-replied g c =
 pub returns-in-Refused-clause-replied : goal.returns-in-Refused-clause-replied
 returns-in-Refused-clause-replied g c =
     let words = c.args.words.now in
-    mesh_refused ⊥ FILE_LIMIT words.mesh.now (WritesFinished words.output.now words.options) c.in-Refused.line
+    mesh_refused ⊥ FILE_LIMIT words.mesh.now (FinishAnswer words.output.now words.options) c.in-Refused.line
     c.invalid_input.result (g.H.Host.state c.args.host.now) (c.invalid_input.ensures 1)
     (subst (λ (reading : MeshReading).
     IfSome (g.H.Host.state c.args.host.now).told (IsMeshReading FILE_LIMIT words.mesh.now reading)) c.in-Refused.is

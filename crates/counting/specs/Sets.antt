@@ -1,0 +1,12 @@
+-- How many things there are.
+--
+--   AreSoMany P n     there are exactly n things of which P holds
+use Rattle.std.specs.Prelude.{ℕ, ◌≡◌, ◌≢◌, List, length, All, AllPairs, Contains}
+
+-- They stand in a list, each once.
+pub record AreSoMany {A : Type 0} (P : A → Type 0) (n : ℕ) : Type 0 where
+  pub things : List A
+  pub number : length things ≡ n
+  pub distinct : AllPairs (λ a b. a ≢ b) things
+  pub each : All P things
+  pub every : (a : A) → P a → Contains things a

@@ -1,0 +1,51 @@
+-- The steps of finishing, each if it is asked for.
+--
+--   ArePiecesIf pieces points faces ..      pieces are kept, or all is as it was
+--   IsSplitIf manifold points faces ..      vertices are split, or all is as it was
+--   AreFlippedIf flips points old new       edges are flipped, or the faces are as they were
+--   AreFinished options points faces ..     what the options ask for, step after step
+--   ExplainsFinish faces error                    what an error says of the faces
+use Rattle.std.specs.Prelude.{ℕ, ◌≡◌, Bool, true, false, Option, None, Some, List, ⊤}
+use Rattle.geo_sign.specs.Point.{Point}
+use Rattle.mesh_edges.specs.Edges.{IsBalanced, IsFirstUnbalanced}
+use Rattle.mesh_pieces.specs.Pieces.{ArePieces}
+use Rattle.mesh_split.specs.Splits.{IsSplit, HasTwoFaces}
+use Rattle.mesh_finish.specs.Finished.{IsFinished}
+use Rattle.mesh_finish.specs.declared.options.FinishError.{FinishError}
+use Rattle.mesh_finish.specs.declared.options.FinishError.TheVariants.{NotClosed, Unverified, NoMemory}
+use Rattle.mesh_finish.specs.declared.options.FinishOptions.{FinishOptions}
+
+-- pieces are kept, or all is as it was
+abbrev pub ArePiecesIf : Option ℕ → List Point → List (List ℕ) → List Point → List (List ℕ) → Type 0
+ArePiecesIf None points faces new_points new_faces = (new_points ≡ points) × (new_faces ≡ faces)
+ArePiecesIf (Some most) points faces new_points new_faces = ArePieces points faces new_points new_faces
+
+-- vertices are split, or all is as it was
+abbrev pub IsSplitIf : Bool → List Point → List (List ℕ) → List Point → List (List ℕ) → Type 0
+IsSplitIf false points faces new_points new_faces = (new_points ≡ points) × (new_faces ≡ faces)
+IsSplitIf true points faces new_points new_faces = IsSplit points faces new_points new_faces
+
+-- with flips the faces are reached by flips, and by none two faces meet that were apart; without they are as they were
+abbrev pub AreFlippedIf : (flips : Bool) → List Point → (old new : List (List ℕ)) → Type 0
+AreFlippedIf true points old new = IsFinished points old new
+AreFlippedIf false points old new = new ≡ old
+
+-- Pieces are kept, then vertices are split, then edges are flipped, each if the options ask for it. The mesh was closed and is, and after
+-- a split each edge has two faces. Flips keep apart what is apart in the mesh after the split.
+pub record AreFinished (options : FinishOptions) (points : List Point) (faces : List (List ℕ)) (new_points : List Point)
+    (new_faces : List (List ℕ)) : Type 0 where
+  pub kept_points : List Point
+  pub kept_faces : List (List ℕ)
+  pub split_faces : List (List ℕ)
+  pub pieces : ArePiecesIf options.pieces points faces kept_points kept_faces
+  pub split : IsSplitIf options.manifold kept_points kept_faces new_points split_faces
+  pub flips : AreFlippedIf options.flips new_points split_faces new_faces
+  pub was_closed : IsBalanced faces
+  pub closed : IsBalanced new_faces
+  pub two : options.manifold ≡ true → HasTwoFaces new_faces
+
+-- the first edge that is not balanced; the other errors say nothing of the faces
+abbrev pub ExplainsFinish : List (List ℕ) → FinishError → Type 0
+ExplainsFinish faces (NotClosed e) = IsFirstUnbalanced faces e.from e.to e.there e.back
+ExplainsFinish faces (Unverified step) = ⊤
+ExplainsFinish faces NoMemory = ⊤

@@ -1,0 +1,110 @@
+//! The steps before flips: half edges are paired, pieces kept and vertices split.
+
+ghost use Rattle.std.specs.Prelude.{ℕ, List, IfOk, IfErr, All};
+ghost use Rattle.geo_sign.specs.Point.{IsWithin};
+ghost use Rattle.geo_sign.specs.declared.point.TheConstants.{BOX_LIMIT};
+ghost use Rattle.mesh_ply.specs.Meshes.{IsMesh};
+ghost use Rattle.half_edges.specs.HalfEdges.{ArePaired};
+ghost use Rattle.mesh_pieces.specs.Pieces.{ArePieces};
+ghost use Rattle.mesh_split.specs.Splits.{IsSplit};
+ghost use Rattle.mesh_finish.specs.Steps.{ArePiecesIf, IsSplitIf, ExplainsFinish};
+
+use crate::options::{FinishError, Step};
+use half_edges::{PairingError, pair};
+use mesh_pieces::{PairedMesh, PiecesError, keep_pieces};
+use mesh_ply::Mesh;
+use mesh_split::{SplitError, split_mesh};
+use std::alloc::Global;
+
+/// Returns the twin of each half edge of a closed mesh.
+pub(crate) fn paired(alloc: Global, mesh: &Mesh) -> Result<Vec<u32>, FinishError>
+    requires { IsMesh mesh.now.points.items mesh.now.faces.items }
+    ensures paired { IfOk result (λ twins. ArePaired mesh.now.faces.items twins.items) }
+    ensures why { IfErr result (λ error. ExplainsFinish mesh.now.faces.items error) }
+{
+    match pair(alloc, mesh) {
+        Ok(twins) => Ok(twins),
+        Err(PairingError::NotClosed(edge)) => Err(FinishError::NotClosed(edge)),
+        Err(PairingError::Unpaired) => Err(FinishError::Unverified(Step::Pairing)),
+        Err(PairingError::NoMemory) => Err(FinishError::NoMemory),
+    }
+}
+
+/// Returns the largest pieces of a mesh.
+fn keep(alloc: Global, mesh: &Mesh, twins: &[u32], most: u32) -> Result<PairedMesh, FinishError>
+    requires valid { IsMesh mesh.now.points.items mesh.now.faces.items }
+    requires paired { ArePaired mesh.now.faces.items twins.now }
+    ensures pieces { IfOk result (λ new. ArePieces mesh.now.points.items mesh.now.faces.items new.mesh.points.items new.mesh.faces.items) }
+    ensures valid { IfOk result (λ new. IsMesh new.mesh.points.items new.mesh.faces.items) }
+    ensures boxed { All (IsWithin BOX_LIMIT) mesh.now.points.items → IfOk result (λ new. All (IsWithin BOX_LIMIT) new.mesh.points.items) }
+    ensures paired { IfOk result (λ new. ArePaired new.mesh.faces.items new.twins.items) }
+    ensures why { (faces : List (List ℕ)) → IfErr result (λ error. ExplainsFinish faces error) }
+{
+    match keep_pieces(alloc, mesh, twins, most) {
+        Ok(kept) => Ok(kept),
+        Err(PiecesError::Unverified) => Err(FinishError::Unverified(Step::Pieces)),
+        Err(PiecesError::NoMemory) => Err(FinishError::NoMemory),
+    }
+}
+
+/// Returns the largest pieces, if the option asks for them, or the mesh as it is.
+pub(crate) fn kept(
+    alloc: Global,
+    mesh: Mesh,
+    twins: Vec<u32>,
+    pieces: Option<u32>,
+) -> Result<PairedMesh, FinishError>
+    requires valid { IsMesh mesh.points.items mesh.faces.items }
+    requires paired { ArePaired mesh.faces.items twins.items }
+    ensures pieces { IfOk result (λ new. ArePiecesIf pieces mesh.points.items mesh.faces.items new.mesh.points.items new.mesh.faces.items) }
+    ensures valid { IfOk result (λ new. IsMesh new.mesh.points.items new.mesh.faces.items) }
+    ensures boxed { All (IsWithin BOX_LIMIT) mesh.points.items → IfOk result (λ new. All (IsWithin BOX_LIMIT) new.mesh.points.items) }
+    ensures paired { IfOk result (λ new. ArePaired new.mesh.faces.items new.twins.items) }
+    ensures why { (faces : List (List ℕ)) → IfErr result (λ error. ExplainsFinish faces error) }
+{
+    match pieces {
+        None => Ok(PairedMesh { mesh, twins }),
+        Some(most) => {
+            let new = keep(alloc, &mesh, &twins, most)?;
+            Ok(new)
+        }
+    }
+}
+
+/// Returns a mesh with its vertices split.
+fn split_all(alloc: Global, mesh: &Mesh, twins: &[u32]) -> Result<Mesh, FinishError>
+    requires valid { IsMesh mesh.now.points.items mesh.now.faces.items }
+    ensures split { IfOk result (λ new. IsSplit mesh.now.points.items mesh.now.faces.items new.points.items new.faces.items) }
+    ensures valid { IfOk result (λ new. IsMesh new.points.items new.faces.items) }
+    ensures boxed { All (IsWithin BOX_LIMIT) mesh.now.points.items → IfOk result (λ new. All (IsWithin BOX_LIMIT) new.points.items) }
+    ensures paired { IfOk result (λ new. ArePaired new.faces.items twins.now) }
+    ensures why { (faces : List (List ℕ)) → IfErr result (λ error. ExplainsFinish faces error) }
+{
+    match split_mesh(alloc, mesh, twins) {
+        Ok(new) => Ok(new),
+        Err(SplitError::Unsplit) => Err(FinishError::Unverified(Step::Splitting)),
+        Err(SplitError::NoMemory) => Err(FinishError::NoMemory),
+    }
+}
+
+/// Returns the mesh with its vertices split, if the option asks for it, or as it is.
+pub(crate) fn split(
+    alloc: Global,
+    kept: PairedMesh,
+    manifold: bool,
+) -> Result<PairedMesh, FinishError>
+    requires valid { IsMesh kept.mesh.points.items kept.mesh.faces.items }
+    requires paired { ArePaired kept.mesh.faces.items kept.twins.items }
+    ensures split { IfOk result (λ new. IsSplitIf manifold kept.mesh.points.items kept.mesh.faces.items new.mesh.points.items new.mesh.faces.items) }
+    ensures valid { IfOk result (λ new. IsMesh new.mesh.points.items new.mesh.faces.items) }
+    ensures boxed { All (IsWithin BOX_LIMIT) kept.mesh.points.items → IfOk result (λ new. All (IsWithin BOX_LIMIT) new.mesh.points.items) }
+    ensures paired { IfOk result (λ new. ArePaired new.mesh.faces.items new.twins.items) }
+    ensures why { (faces : List (List ℕ)) → IfErr result (λ error. ExplainsFinish faces error) }
+{
+    if !manifold {
+        return Ok(kept);
+    }
+    let PairedMesh { mesh, twins } = kept;
+    let new = split_all(alloc, &mesh, &twins)?;
+    Ok(PairedMesh { mesh: new, twins })
+}

@@ -1,0 +1,33 @@
+-- Smoothed meshes on a finer grid.
+--
+--   magnified k p                      a point, each coordinate times k
+--   IsMagnified k old new              as many points, each times k
+--   IsReshaped before after old new   faces were flipped and points moved; what was apart still is
+--   IsSmoothedMesh points new_points old new fine within   the same on a finer grid, each point near its home
+use Rattle.std.specs.Prelude.{ℕ, ◌≡◌, ◌<◌, ◌*◌, pos, ◌*ℤ◌, List, length}
+use Rattle.geo_sign.specs.Point.{Point, point}
+use Rattle.mesh_ply.specs.Meshes.{point_at}
+use Rattle.mesh_flips.specs.Flips.{AreFlips, KeepsApart, KeepsSingle}
+use Rattle.mesh_smooth.specs.Near.{IsNear}
+
+-- each coordinate times k
+abbrev pub magnified : ℕ → Point → Point
+magnified k p = point (pos k *ℤ p.x) (pos k *ℤ p.y) (pos k *ℤ p.z)
+
+-- as many points, each times k
+pub record IsMagnified (k : ℕ) (old new : List Point) : Type 0 where
+  pub count : length new ≡ length old
+  pub each : (v : ℕ) → v < length old → point_at new v ≡ magnified k (point_at old v)
+
+-- Edges were flipped and points moved. Faces that were apart still are, and no directed edge occurs twice that did not.
+pub record IsReshaped (before after : List Point) (old new : List (List ℕ)) : Type 0 where
+  pub flips : AreFlips old new
+  pub single : KeepsSingle old new
+  pub apart : KeepsApart before after old new
+
+-- One unit of the old grid is `fine` units of the new one. Each point is at most `within` old units from where it was.
+pub record IsSmoothedMesh (points new_points : List Point) (old new : List (List ℕ)) (fine within : ℕ) : Type 0 where
+  pub finer : 0 < fine
+  pub count : length new_points ≡ length points
+  pub near : (v : ℕ) → v < length points → IsNear (magnified fine (point_at points v)) (point_at new_points v) (fine * within)
+  pub shape : IsReshaped points new_points old new

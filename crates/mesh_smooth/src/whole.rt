@@ -1,0 +1,119 @@
+//! All steps of smoothing, on a finer grid.
+
+ghost use Rattle.std.specs.Prelude.{◌≡◌, ◌<◌, ◌*◌, ◌^◌, All, IfOk, OnOk, length};
+ghost use Rattle.mesh_flips.specs.Turns.{IsTriangle};
+ghost use Rattle.mesh_smooth.specs.Near.{AreNearHome};
+ghost use Rattle.mesh_smooth.specs.Smoothed.{IsReshaped, IsSmoothedMesh};
+
+use crate::NoMemory;
+use crate::fine_grid::{finest, greatest, magnified_points};
+use crate::step::smooth;
+use geo_sign::Point;
+use mesh_flips::flip_edges;
+use std::alloc::Global;
+
+/// How a mesh is smoothed.
+#[derive(Clone, Copy, Debug)]
+pub struct Smoothing {
+    /// How often it is smoothed.
+    pub steps: u32,
+    /// How far a point may be from where it was, in units of the mesh.
+    pub within: u32,
+    /// Whether edges are flipped after each step.
+    pub flips: bool,
+}
+
+/// Points of a smoothed mesh.
+#[derive(Drop)]
+pub struct Smoothed {
+    /// The points on the finer grid.
+    pub points: Vec<Point>,
+    /// How many units of the finer grid one unit of the old grid has.
+    pub fine: u32,
+}
+
+/// Smooths a mesh by one step and flips its edges if asked to. Returns the opposites of half edges, a hint.
+fn smooth_and_flip(
+    alloc: Global,
+    points: &mut [Point],
+    faces: &mut [[u32; 3]],
+    twins: Vec<u32>,
+    home: &[Point],
+    within: u64,
+    flips: bool,
+) -> Result<Vec<u32>, NoMemory>
+    requires each { All (IsTriangle (length points.old)) faces.old }
+    requires few { length faces.old < 2 ^ 60 }
+    requires near { AreNearHome home.now points.old within }
+    ensures each { All (IsTriangle (length points.old)) faces.new }
+    ensures near { AreNearHome home.now points.new within }
+    ensures shape { OnOk result (IsReshaped points.old points.new faces.old faces.new) }
+{
+    smooth(alloc, points, faces, &twins, home, within)?;
+    if !flips {
+        return Ok(twins);
+    }
+    let twins = flip_edges(alloc, points, faces, twins)?;
+    Ok(twins)
+}
+
+/// Smooths a mesh by all steps. `within` is in units of the points' grid.
+fn all_steps(
+    alloc: Global,
+    points: &mut [Point],
+    faces: &mut [[u32; 3]],
+    twins: Vec<u32>,
+    home: &[Point],
+    within: u64,
+    smoothing: Smoothing,
+) -> Result<(), NoMemory>
+    requires each { All (IsTriangle (length points.old)) faces.old }
+    requires few { length faces.old < 2 ^ 60 }
+    requires near { AreNearHome home.now points.old within }
+    ensures each { All (IsTriangle (length points.old)) faces.new }
+    ensures near { AreNearHome home.now points.new within }
+    ensures shape { OnOk result (IsReshaped points.old points.new faces.old faces.new) }
+{
+    let mut twins = twins;
+    for _ in 0..smoothing.steps {
+        let flips = smoothing.flips;
+        twins = smooth_and_flip(alloc, points, faces, twins, home, within, flips)?;
+    }
+    Ok(())
+}
+
+/// Returns a distance in units of the finer grid.
+fn fine_distance(fine: u32, within: u32) -> u64
+    ensures { result ≡ fine * within }
+{
+    u64::from(fine) * u64::from(within)
+}
+
+/// Smooths a mesh, step by step, on a grid as fine as the box allows, and flips edges after each step where that lowers the angles
+/// between faces.
+///
+/// Each point stays at most `within` units of the mesh from where it was, exactly. Faces that were apart stay apart, no directed
+/// edge occurs twice that did not, and the faces are reached by flips alone. `twins` is a hint, as for [`smooth`] and [`flip_edges`].
+pub fn smooth_mesh(
+    alloc: Global,
+    points: &[Point],
+    faces: &mut [[u32; 3]],
+    twins: Vec<u32>,
+    smoothing: Smoothing,
+) -> Result<Smoothed, NoMemory>
+    requires each { All (IsTriangle (length points.now)) faces.old }
+    requires few { length faces.old < 2 ^ 60 }
+    ensures smoothed { IfOk result (λ s. IsSmoothedMesh points.now s.points.items faces.old faces.new s.fine smoothing.within) }
+    ensures each { All (IsTriangle (length points.now)) faces.new }
+{
+    let reach = greatest(points);
+    let fine = finest(reach);
+    let home = magnified_points(alloc, points, fine, reach)?;
+    let mut moved = Vec::from_slice(alloc, &home)?;
+    let within = fine_distance(fine, smoothing.within);
+    all_steps(alloc, &mut moved, faces, twins, &home, within, smoothing)?;
+    Ok(Smoothed {
+        points: moved,
+        fine,
+    })
+}
