@@ -5,7 +5,6 @@ Names: mesh_program_path · Wanted (what of a mesh is to be finished) · finish_
 from __future__ import annotations
 
 import os
-import tempfile
 from dataclasses import dataclass
 from typing import List, Optional
 
@@ -35,17 +34,15 @@ class Wanted:
         return words + (['manifold=yes'] if self.manifold else []) + ([] if self.flips else ['flips=no'])
 
 
-def finish_mesh(path: str, wanted: Wanted, program: Optional[str] = None) -> tuple[np.ndarray, np.ndarray]:
-    """Finishes the mesh of a file, and returns it as `read_mesh` does: places (n, 3) in whole units, and the corners of all faces one after
-    another. Raises `Refusal` with the program's error, and FileNotFoundError without the program."""
+def finish_mesh(path: str, wanted: Wanted, out: str, program: Optional[str] = None) -> tuple[np.ndarray, np.ndarray]:
+    """Finishes the mesh of a file into another file, and returns it as `read_mesh` does: places (n, 3) in whole units, and the corners of all
+    faces one after another. Raises `Refusal` with the program's error, or without the program."""
     found = mesh_program_path(program)
     if found is None:
-        raise FileNotFoundError('the program `recon-mesh` was not found: put it on the PATH, or name it in the variable RECON_MESH')
-    with tempfile.TemporaryDirectory(prefix='recon-finish-') as folder:
-        out = os.path.join(folder, 'out.ply')
-        try:
-            run(['finish', path, out, *wanted.options()], found)
-        except Refused as error:
-            is_open = error.line.startswith('refused 28 unbalanced')
-            raise Refusal(f'the mesh is not closed: recon-mesh says {error.line}' if is_open else f'recon-mesh: {error}') from None
-        return read_mesh(out)
+        raise Refusal('the program recon-mesh was not found: put it on the PATH, or name it in the variable RECON_MESH')
+    try:
+        run(['finish', path, out, *wanted.options()], found)
+    except Refused as error:
+        is_open = error.line.startswith('refused 28 unbalanced')
+        raise Refusal(f'the mesh is not closed: recon-mesh says {error.line}' if is_open else f'recon-mesh: {error}') from None
+    return read_mesh(out)
