@@ -233,7 +233,7 @@ def told(crate: str, place: str, *names: str) -> str:
         modules.setdefault(of, {}).setdefault(module, []).append(len(lines))
     count = sum(len(by_module) for by_module in modules.values())
     head = f"{', '.join(f'`{name}`' for name in names)}: {len(reached)} definitions of {count} files of `specs/`, together {sum(map(len, reached.values()))} lines. "
-    parts = (f"`{of}`: {', '.join(f'{module} {sum(by_module[module])}' for module in sorted(by_module))}" for of, by_module in sorted(modules.items()))
+    parts = (f"`{of}`: {', '.join(f'`{module}` {sum(by_module[module])}' for module in sorted(by_module))}" for of, by_module in sorted(modules.items()))
     return head + '; '.join(parts)
 
 

@@ -63,7 +63,7 @@ def cells_of(uses: dict[str, list[str]], crates: pathlib.Path) -> dict[str, str]
     """Returns the level of each crate and what it depends on, as in the page's table."""
     named = {name: [it for it in used if it in names] or used for name, used in uses.items() for names in [named_in(crates / name)]}
     below = below_each(named)
-    return {name: ': '.join(filter(None, [str(level), ', '.join(below[name])])) for name, level in levels_of(uses).items()}
+    return {name: ': '.join(filter(None, [str(level), ', '.join(f'`{it}`' for it in below[name])])) for name, level in levels_of(uses).items()}
 
 
 def main(words: list[str]) -> int:

@@ -1,5 +1,5 @@
 #!/usr/bin/env python3
-"""Fails if docs/verification/guarantees.md names a mutant that no edit has, or if an edit cannot be applied to the current sources.
+"""Fails if docs/verification/mutants.md names a mutant that no edit has, or if an edit cannot be applied to the current sources.
 
 The edits are those that the gate tries, crates/NAME/must-fail/, and those that only `make attack` tries, attack/NAME/. A mutant that the page
 names with its crate, as `votes/equal_sights_counted_once`, has to be one that the gate tries. Each text that an edit removes has to occur in its
@@ -68,8 +68,8 @@ def main() -> int:
     gate, attack = tried_by_the_gate(), tried_by_attack()
     paths = gate + attack
     known = {path.stem for path in paths} | {f'{crate_of(path).name}/{path.stem}' for path in gate}
-    words = named((TOP / 'docs/verification/guarantees.md').read_text().splitlines())
-    faults = [f'docs/verification/guarantees.md line {at} names {word}' for at, word in words if word not in known]
+    words = named((TOP / 'docs/verification/mutants.md').read_text().splitlines())
+    faults = [f'docs/verification/mutants.md line {at} names {word}' for at, word in words if word not in known]
     faults += [fault for path in paths for fault in faults_of(path)]
     places = collections.Counter((crate_of(path).name, path.stem) for path in paths)
     faults += [f'{crate} has {name} twice' for (crate, name), count in places.items() if count > 1]
@@ -77,7 +77,7 @@ def main() -> int:
         for crate in sorted({crate_of(path).name for path in paths}):
             print(f'{crate}: ' + ', '.join(path.stem for path in paths if crate_of(path).name == crate))
     summary = (f'{len(gate)} tried by the gate, {len(attack)} more by make attack, in {len({crate_of(path) for path in paths})} crates, '
-               f"{len({word.split('/')[-1] for _, word in words if word in known})} named in docs/verification/guarantees.md")
+               f"{len({word.split('/')[-1] for _, word in words if word in known})} named in docs/verification/mutants.md")
     return reported('wrong bodies', faults, summary)
 
 

@@ -138,10 +138,10 @@ class Believed(InFolder):
             write(name, text.encode())
         crates, believed.CRATES = believed.CRATES, pathlib.Path.cwd()
         try:
-            first = '3 definitions of 2 files of `specs/`, together 6 lines. `high`: Both 2; `low`: Numbers 4'
+            first = '3 definitions of 2 files of `specs/`, together 6 lines. `high`: `Both` 2; `low`: `Numbers` 4'
             equal(believed.told('high', 'src/lib.rt', 'first'), f'`first`: {first}')
             equal(believed.told('high', 'Both', 'IsBoth'), f'`IsBoth`: {first}')
-            second = '2 definitions of 2 files of `specs/`, together 4 lines. `high`: Both 2; `low`: Numbers 2'
+            second = '2 definitions of 2 files of `specs/`, together 4 lines. `high`: `Both` 2; `low`: `Numbers` 2'
             equal(believed.told('high', 'src/lib.rt', 'second'), f'`second`: {second}')
         finally:
             believed.CRATES = crates

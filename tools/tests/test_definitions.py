@@ -108,7 +108,7 @@ class Definitions(InFolder):
 
     def test_what_a_crate_stands_on(self) -> None:
         uses = levels.uses_of(USES)
-        equal(levels.cells_of(uses, pathlib.Path('crates')), {'low': '1', 'mid': '2: low', 'high': '3: low'})
+        equal(levels.cells_of(uses, pathlib.Path('crates')), {'low': '1', 'mid': '2: `low`', 'high': '3: `low`'})
         equal(levels.below_each({'low': [], 'mid': ['low'], 'side': ['low'], 'high': ['low', 'mid', 'side']}),
               {'low': [], 'mid': ['low'], 'side': ['low'], 'high': ['mid', 'side']})
 
