@@ -35,6 +35,8 @@ from recon.toolbox.tool import run
 SEED = '7'
 # Shapes whose sights cross as many cells as may be, and how many rows of each take about as long as the others.
 WORST = (('tube', 20000), ('crowd', 1000000), ('paraboloid', 30000))
+# What tables call them.
+NAMES = {'tube': 'thin tube', 'crowd': 'random rays'}
 # The worst, and three of the others as large as may be.
 SHORT = WORST + (('cube', 1000000), ('room', 1000000), ('torus', 1000000))
 
@@ -119,7 +121,7 @@ def measured(programs: list[str], folder: str, shape: str, size: int, count: int
             built[program].append(Run([program, 'build', scan, *texts(program, folder, name)]))
     if len(programs) == 2:
         compared([built[program][0].line for program in programs], [texts(program, folder, name)[0] for program in programs])
-    cells = [f'{shape} {size:,}', *(cell for program in programs for cell in cells_of(built[program]))]
+    cells = [f'{NAMES.get(shape, shape)}, {size:,}', *(cell for program in programs for cell in cells_of(built[program]))]
     if len(programs) == 2:
         cells.append(f'{least(built[programs[0]]) / least(built[programs[1]]):.2f}')
     if not check:

@@ -152,7 +152,7 @@ def scan_jobs() -> list[Job]:
 def jobs() -> list[Job]:
     scan = colored_scan()
     mesh = texts_of(scan, [])[0]
-    finishing: tuple[tuple[str, list[str]], ...] = (('out.ply', []), ('out.stl', ['unit=10']), ('out.glb', ['pieces=1', 'by=volume', 'origin=1,2,3']), ('out.ply', ['smooth=2', 'within=3']),
+    finishing: tuple[tuple[str, list[str]], ...] = (('out.ply', []), ('out.stl', ['unit=10']), ('out.glb', ['pieces=1', 'origin=1,2,3']), ('out.ply', ['smooth=2', 'within=3']),
                  ('out.ply', ['manifold=yes', 'flips=no']))
     return scan_jobs() + [Job('mesh', 'finish', ['in', out, *more], {'in': mesh}, 'in') for out, more in finishing] + [
         Job('scan', 'finish', ['in', 'out.ply', 'scan=s'], {'in': mesh, 's': scan}, 's'),

@@ -1,7 +1,7 @@
 """A mesh as `recon build` wrote it becomes one to view, print and exchange: in the numbers of the scan, less rough,
 without pieces that float, with the colors of its points. What comes out is no longer the surface that `recon check` confirms.
 
-  recon-finish MESH OUT [unit=U] [origin=X,Y,Z] [pieces=N] [by=faces|volume] [flips=no] [smooth=N within=D] [manifold=yes]
+  recon-finish MESH OUT [unit=U] [origin=X,Y,Z] [pieces=N] [flips=no] [smooth=N within=D] [manifold=yes]
                [seen=yes] [scan=SCAN] [cert=CERT]
 
   OUT                the mesh as binary PLY, STL, GLB or OBJ: its name ends in .ply, .stl, .glb or .obj
@@ -10,7 +10,6 @@ without pieces that float, with the colors of its points. What comes out is no l
   cert=CERT          the certificate of the mesh, which states its scale
   origin=X,Y,Z       the place that was taken off the scan. Without it 0,0,0
   pieces=N           keep the N largest pieces of those that hang together by edges, and leave the others out. Without it all
-  by=faces|volume    what is large: a piece of many faces, or of a large volume. Without it faces
   flips=no           leave all edges as they are. Without it an edge between two faces takes the other diagonal wherever the
                      angles between the faces fall by that. No vertex moves, and no two faces cross that did not
   smooth=N           N steps of smoothing, each with flips after it. Vertices are no points of the scan then
@@ -23,8 +22,9 @@ without pieces that float, with the colors of its points. What comes out is no l
                      of several points at one place those of the first. STL keeps none of them, GLB and OBJ red, green
                      and blue
 
-Each option may also be written as --unit 1000, --seen or --no-flips. Flips of a mesh of 200,000 faces take some 20 seconds, of
-two million some three minutes and 1.3 GB.
+Each option may also be written as --unit 1000, --seen or --no-flips. The program `recon-mesh` keeps pieces, flips edges and splits
+vertices; it is found beside this program, on the PATH, or by the variable RECON_MESH. A step of smoothing takes some ten seconds for
+200,000 faces.
 """
 from __future__ import annotations
 
@@ -33,26 +33,27 @@ import gzip
 import os
 import re
 import sys
+import tempfile
 import time
 from dataclasses import dataclass
 from typing import Any, Callable, List, Optional, Sequence, Tuple
 
 import numpy as np
 
-from recon.mesh_program import Wanted, finish_mesh, mesh_program_path
+from recon.library import rows_at
+from recon.mesh_program import Wanted, finish_mesh
 from recon.meshes import Mesh, unseen_faces
 from recon.toolbox.flips import flip_edges
-from recon.toolbox.half_edges import fans_of, mean_angle, pair_edges, pieces_of
-from recon.toolbox.mesh_files import Column, Finished, form_of, read_mesh, write_mesh
+from recon.toolbox.half_edges import mean_angle, pair_edges
+from recon.toolbox.mesh_files import Column, Finished, form_of, read_mesh, write_mesh, write_whole
 from recon.toolbox.ply_text import IS_NUMBER, Refusal
 from recon.toolbox.scan_rows import columns_of
 from recon.toolbox.smoothing import Smoother
 from recon.toolbox.tool import Report, number_of, run, three, whole, yes
-from recon.toolbox.vectors import across, axes, dot
 
 LONGEST = 1 << 22
 FINEST = 1 << 10
-KEYS = ('unit', 'origin', 'pieces', 'by', 'flips', 'smooth', 'within', 'manifold', 'seen', 'scan', 'cert')
+KEYS = ('unit', 'origin', 'pieces', 'flips', 'smooth', 'within', 'manifold', 'seen', 'scan', 'cert')
 STAMP = re.compile(rb'recon certificate 2\nscan [0-9a-f]{64}\nunit ([0-9]{1,7})\n')
 
 
@@ -79,7 +80,6 @@ class Wishes:
     unit: int = 1
     origin: Sequence[float] = (0.0, 0.0, 0.0)
     pieces: Optional[int] = None
-    by_volume: bool = False
     flips: bool = True
     steps: int = 0
     within: float = 0.0
@@ -91,15 +91,13 @@ class Wishes:
     @classmethod
     def of(cls, options: Any) -> Wishes:
         """Reads the options of the command line."""
-        if options.by not in (None, 'faces', 'volume'):
-            raise Refusal('by= is faces or volume')
         steps = whole(options.smooth or '0', 'smooth', 0, 1000)
         if (options.within is None) != (steps == 0):
             raise Refusal('smooth= and within= stand together: how many steps, and how far a vertex may go')
         if steps and not (IS_NUMBER(options.within) and 0 < float(options.within) < 1e30):
             raise Refusal('within= is a length over 0')
         return cls(whole(options.unit or '1', 'unit', 1, 1000000), [float(word) for word in three(options.origin or '0,0,0', 'origin')],
-                   whole(options.pieces, 'pieces', 1, 10 ** 9) if options.pieces else None, options.by == 'volume',
+                   whole(options.pieces, 'pieces', 1, 10 ** 9) if options.pieces else None,
                    options.flips is None or yes(options.flips, 'flips'), steps, float(options.within or 0),
                    yes(options.manifold, 'manifold'), yes(options.seen, 'seen'), options.scan)
 
@@ -113,11 +111,8 @@ class FinishReport(Report):
     stamp: Optional[str] = None
     unit: int = 1
     kept_pieces: Optional[int] = None
-    pieces: int = 0
     left_out: int = 0
     is_flipped: bool = False
-    flipped: Optional[int] = None
-    let_be: int = 0
     steps: int = 0
     mean_way: float = 0.0
     longest_way: float = 0.0
@@ -144,11 +139,9 @@ class FinishReport(Report):
         if self.stamp is not None:
             said.append(f'unit={self.unit} by {self.stamp}')
         if self.kept_pieces is not None:
-            said.append(f'kept {self.kept_pieces} of {number_of(self.pieces, "piece")} and left out {number_of(self.left_out, "face")}')
+            said.append(f'kept the {number_of(self.kept_pieces, "largest piece")} and left out {number_of(self.left_out, "face")}')
         if self.is_flipped:
-            said.append('recon-mesh flipped edges')
-        if self.flipped is not None:
-            said.append(f'flipped {number_of(self.flipped, "edge")} and let {self.let_be} be where faces would cross or an edge stand twice')
+            said.append('flipped edges by recon-mesh')
         if self.steps:
             said.append(f'smoothed in {number_of(self.steps, "step")}: vertices went {self.mean_way:.4g} on the mean and '
                         f'{self.longest_way:.4g} at most, {self.put_back} were put back where faces crossed, and '
@@ -164,55 +157,34 @@ class FinishReport(Report):
 
 
 class Work:
-    """A mesh on its way, and the report of it."""
+    """A mesh on its way, and the report of it. `recon-mesh` keeps pieces, splits vertices and flips edges, in files of a folder that goes
+    with the run."""
 
-    def __init__(self, name: str, wishes: Wishes, tell: Callable[[str], None], mesh: tuple[np.ndarray, np.ndarray] | None) -> None:
-        self.wishes, self.tell, self.fine = wishes, tell, 1
+    def __init__(self, name: str, wishes: Wishes, tell: Callable[[str], None], mesh: tuple[np.ndarray, np.ndarray] | None, folder: str) -> None:
+        self.path, self.wishes, self.tell, self.folder, self.fine = name, wishes, tell, folder, 1
         self.places, self.corners = read_mesh(name) if mesh is None else mesh
         if not len(self.corners):
             raise Refusal('the mesh has no faces: there is nothing to finish')
-        self.path, self.known_twins = name, np.zeros(0, np.int64)
         self.vertex_of = np.arange(len(self.places))
-        if mesh is None:
-            self.known_twins = pair_edges(self.places, self.corners)
         self.report = FinishReport(name, len(self.places), len(self.corners) // 3, unit=wishes.unit)
 
-    @property
-    def twins(self) -> np.ndarray:
-        """The twin of each half edge, found when it is asked for the first time. Raises `Refusal` where the mesh is not closed."""
-        if len(self.known_twins) != len(self.corners):
-            self.known_twins = pair_edges(self.places, self.corners)
-        return self.known_twins
+    def program(self, path: str, wanted: Wanted) -> tuple[np.ndarray, np.ndarray]:
+        """Runs `recon-mesh finish` on a file."""
+        self.tell(' '.join(['recon-mesh finish', *wanted.options()]))
+        return finish_mesh(path, wanted, os.path.join(self.folder, 'finished.ply'), self.wishes.program)
 
-    def keep_pieces(self, most: int) -> None:
-        """Keeps the largest pieces."""
-        piece = pieces_of(self.twins)
-        sizes = self.sizes_of(piece)
-        kept = np.lexsort((np.arange(len(sizes)), -sizes))[:most]
-        is_kept = np.isin(piece, kept)
-        self.report.kept_pieces, self.report.pieces, self.report.left_out = len(kept), len(sizes), int((~is_kept).sum())
-        if self.report.left_out:
-            used, faces = with_used(self.corners.reshape(-1, 3)[is_kept], len(self.places))
-            self.places, self.corners, self.vertex_of = self.places[used], faces.ravel(), used
-            self.known_twins = np.zeros(0, np.int64)
-
-    def sizes_of(self, piece: np.ndarray) -> np.ndarray:
-        """The faces of each piece, or six times its volume."""
-        if not self.wishes.by_volume:
-            return np.bincount(piece)
-        a, b, c = (axes(self.places.astype(float), self.corners[k::3]) for k in range(3))
-        return np.abs(np.bincount(piece, dot(across((0, 0, 0), a, b), c)))
-
-    def flip(self) -> tuple[int, int]:
-        """Flips edges, and answers how many, and how many were let be."""
-        self.corners, self.known_twins, flipped, kept = flip_edges(self.places, self.corners, self.twins, self.tell)
-        return flipped, kept
-
-    def flip_by_program(self, program: str) -> None:
-        """Flips the edges of the mesh as it was read, by `recon-mesh`."""
-        self.tell(f'recon-mesh finish {self.path}')
-        self.places, self.corners = finish_mesh(self.path, Wanted(), program)
-        self.known_twins, self.report.is_flipped = np.zeros(0, np.int64), True
+    def keep_split_and_flip(self) -> None:
+        """Does what moves no vertex. What is smoothed is split afterwards, so that copies of a vertex stay at one place."""
+        wishes, report, before = self.wishes, self.report, self.places
+        wanted = Wanted(wishes.pieces, wishes.manifold and not wishes.steps, wishes.flips)
+        if wanted == Wanted(flips=False):
+            return
+        self.places, self.corners = self.program(self.path, wanted)
+        self.vertex_of = rows_at(before, self.places)
+        report.is_flipped, report.kept_pieces = wishes.flips, wishes.pieces
+        report.left_out = report.faces - len(self.corners) // 3
+        if wanted.manifold:
+            report.split = len(self.places) - len(np.unique(self.vertex_of))
 
     def smooth(self) -> None:
         """Smooths, on a grid that is finer than a unit."""
@@ -221,59 +193,65 @@ class Work:
             self.fine *= 2
         self.places = self.places * self.fine
         smoother, report = Smoother(self.places, self.wishes.within * self.wishes.unit * self.fine), self.report
+        twins = pair_edges(self.places, self.corners)
         for step in range(self.wishes.steps):
             self.tell(f'step {step + 1} of smoothing')
-            smoother.step(self.corners, self.twins)
-            report.flipped_later += self.flip()[0] if self.wishes.flips else 0
+            smoother.step(self.corners, twins)
+            if self.wishes.flips:
+                self.corners, twins, flipped, _ = flip_edges(self.places, self.corners, twins, self.tell)
+                report.flipped_later += flipped
         far = np.sqrt(((self.places - smoother.home).astype(float) ** 2).sum(axis=1)) / (self.fine * self.wishes.unit)
         report.steps, report.put_back = self.wishes.steps, smoother.held_back
         report.mean_way, report.longest_way = float(far.mean()), float(far.max())
 
     def split(self) -> np.ndarray:
-        """Splits vertices where sheets touch, and answers the vertex that each one is a copy of."""
-        self.corners, copies = fans_of(self.corners, self.twins)
-        self.report.split = len(copies)
-        return np.r_[np.arange(len(self.places)), copies]
-
-    def finished(self) -> Finished:
-        """The mesh to be written."""
-        columns: list[Column] = []
-        if self.wishes.scan is not None:
-            columns = columns_of(self.wishes.scan, self.wishes.unit, self.first_places)
-            self.report.columns = [name for name, _, _ in columns]
-        spots = self.places / (self.fine * self.wishes.unit) + np.array(self.wishes.origin)
-        face_columns: list[Column] = []
-        if self.wishes.seen:
-            unseen = unseen_faces(spots, self.corners.reshape(-1, 3))
-            self.report.unseen = int(unseen.sum())
-            face_columns.append(('unseen', 'uchar', unseen))
-        origins = self.split() if self.wishes.manifold else np.arange(len(self.places))
-        return Finished(spots[origins], self.corners.reshape(-1, 3), [(name, kind, values[origins]) for name, kind, values in columns],
-                        face_columns, self.vertex_of[origins])
+        """Splits vertices where sheets touch, after smoothing, and returns the vertex that each one is a copy of."""
+        middle, whole = np.round(self.places.mean(axis=0)).astype(np.int64), os.path.join(self.folder, 'smoothed.ply')
+        write_whole(whole, self.places - middle, self.corners)
+        before, (places, self.corners) = self.places, self.program(whole, Wanted(manifold=True, flips=False))
+        self.places = places + middle
+        self.report.split = len(self.places) - len(before)
+        return row_numbers(before, self.places)
 
     def run(self) -> Finished:
-        """Finishes the mesh. The program flips edges where nothing is to be smoothed, and before pieces are left out: a flip joins none."""
-        program = mesh_program_path(self.wishes.program) if self.wishes.flips and not self.wishes.steps else None
-        self.report.angle_before = mean_angle(self.places, self.corners)
-        if program is not None:
-            self.flip_by_program(program)
-        if self.wishes.pieces is not None:
-            self.keep_pieces(self.wishes.pieces)
-        self.first_places = self.places
-        if self.wishes.flips and program is None:
-            self.report.flipped, self.report.let_be = self.flip()
-        if self.wishes.steps:
+        """Finishes the mesh, and brings columns of the scan back."""
+        wishes, report = self.wishes, self.report
+        report.angle_before = mean_angle(self.places, self.corners)
+        self.keep_split_and_flip()
+        homes = self.places
+        if wishes.steps:
             self.smooth()
-        self.report.angle_after = mean_angle(self.places, self.corners)
-        return self.finished()
+        report.angle_after = mean_angle(self.places, self.corners)
+        columns: list[Column] = []
+        if wishes.scan is not None:
+            columns = columns_of(wishes.scan, wishes.unit, homes)
+            report.columns = [name for name, _, _ in columns]
+        origins = self.split() if wishes.manifold and wishes.steps else np.arange(len(self.places))
+        spots = self.places / (self.fine * wishes.unit) + np.array(wishes.origin)
+        face_columns: list[Column] = []
+        if wishes.seen:
+            unseen = unseen_faces(spots, self.corners.reshape(-1, 3))
+            report.unseen = int(unseen.sum())
+            face_columns.append(('unseen', 'uchar', unseen))
+        return Finished(spots, self.corners.reshape(-1, 3), [(name, kind, values[origins]) for name, kind, values in columns],
+                        face_columns, self.vertex_of[origins])
+
+
+def row_numbers(rows: np.ndarray, wanted: np.ndarray) -> np.ndarray:
+    """The number of a row equal to each of the wanted ones, which are all there."""
+    both, number = np.unique(np.concatenate([rows, wanted]), axis=0, return_inverse=True)
+    first = np.full(len(both), len(rows))
+    np.minimum.at(first, number[:len(rows)], np.arange(len(rows)))
+    return np.asarray(first[number[len(rows):]])
 
 
 def finished(path: str, wishes: Wishes, tell: Callable[[str], None] = lambda text: None,
              mesh: tuple[np.ndarray, np.ndarray] | None = None) -> tuple[Finished, FinishReport]:
     """Finishes the mesh of a file, and returns it with the report. `tell` gets lines on what is done; `mesh` is what `read_mesh` gives
     of the file, if it is known."""
-    work = Work(path, wishes, tell, mesh)
-    return work.run(), work.report
+    with tempfile.TemporaryDirectory(prefix='recon-finish-') as folder:
+        work = Work(path, wishes, tell, mesh, folder)
+        return work.run(), work.report
 
 
 def with_used(faces: np.ndarray, count: int) -> tuple[np.ndarray, np.ndarray]:

@@ -5,14 +5,14 @@ Names: mesh_program_path · Wanted (what of a mesh is to be finished) · finish_
 from __future__ import annotations
 
 import os
-import tempfile
 from dataclasses import dataclass
 from typing import List, Optional
 
 import numpy as np
 
-from recon.program import found_program, run
+from recon.program import Refused, found_program, run
 from recon.toolbox.mesh_files import read_mesh
+from recon.toolbox.ply_text import Refusal
 
 
 def mesh_program_path(path: str | None = None) -> str | None:
@@ -23,20 +23,26 @@ def mesh_program_path(path: str | None = None) -> str | None:
 
 @dataclass
 class Wanted:
-    """What is to be finished, as `recon-mesh finish` has it: whether edges are flipped."""
+    """What is to be finished, as `recon-mesh finish` has it: how many of the largest pieces are kept, whether vertices are split where sheets
+    touch, and whether edges are flipped."""
+    pieces: Optional[int] = None
+    manifold: bool = False
     flips: bool = True
 
     def options(self) -> List[str]:
-        return [] if self.flips else ['flips=no']
+        words = [f'pieces={self.pieces}'] if self.pieces else []
+        return words + (['manifold=yes'] if self.manifold else []) + ([] if self.flips else ['flips=no'])
 
 
-def finish_mesh(path: str, wanted: Wanted, program: Optional[str] = None) -> tuple[np.ndarray, np.ndarray]:
-    """Finishes the mesh of a file, and returns it as `read_mesh` does: places (n, 3) in whole units, and the corners of all faces one after
-    another. Raises `Refused` with the program's error, and FileNotFoundError without the program."""
+def finish_mesh(path: str, wanted: Wanted, out: str, program: Optional[str] = None) -> tuple[np.ndarray, np.ndarray]:
+    """Finishes the mesh of a file into another file, and returns it as `read_mesh` does: places (n, 3) in whole units, and the corners of all
+    faces one after another. Raises `Refusal` with the program's error, or without the program."""
     found = mesh_program_path(program)
     if found is None:
-        raise FileNotFoundError('the program `recon-mesh` was not found: put it on the PATH, or name it in the variable RECON_MESH')
-    with tempfile.TemporaryDirectory(prefix='recon-finish-') as folder:
-        out = os.path.join(folder, 'out.ply')
+        raise Refusal('the program recon-mesh was not found: put it on the PATH, or name it in the variable RECON_MESH')
+    try:
         run(['finish', path, out, *wanted.options()], found)
-        return read_mesh(out)
+    except Refused as error:
+        is_open = error.line.startswith('refused 28 unbalanced')
+        raise Refusal(f'the mesh is not closed: recon-mesh says {error.line}' if is_open else f'recon-mesh: {error}') from None
+    return read_mesh(out)

@@ -41,8 +41,8 @@ from recon.toolbox.ply_text import IS_NUMBER, Refusal
 
 MOST, MOST_OF_A_TILE = 1_000_000, 800_000
 LOOK, WRONG = 0.1, 0.25
-# faces a second whose edges are flipped: by Python, which smooths too, and by recon-mesh
-FLIPS_A_SECOND, FLIPS_BY_PROGRAM = 8000, 150_000
+# faces of which Python smooths a step in a second
+SMOOTHED_A_SECOND = 12_000
 ROOM = 0.8
 
 
@@ -228,21 +228,21 @@ def wishes_for(surface: Surface, scan: Scan, args: Any, choices: Choices) -> Wis
     apart, noise = scan.texture
     within = args.within if args.within is not None else float(f'{2 * noise:.2g}') if noise > 0.05 * apart else 0.0
     steps = args.steps if args.steps is not None else 6 if noise > 0.3 * apart else 3
-    flipping = len(surface.faces) / FLIPS_A_SECOND
-    quick = len(surface.faces) / FLIPS_BY_PROGRAM if mesh_program_path() else flipping
-    flips = not args.no_flips and (args.steps is not None or quick <= args.patience)
-    steps = steps if within else 0
-    if args.steps is None and steps and flipping * (1 + 0.65 * steps) > args.patience:
-        choices.warn(f'not smoothed, which would take some {flipping * (1 + 0.65 * steps) / 60:.0f} minutes (--patience SECONDS)')
+    steps, flips = steps if within else 0, not args.no_flips
+    smoothing = len(surface.faces) * steps / SMOOTHED_A_SECOND
+    if args.steps is None and smoothing > args.patience:
+        choices.warn(f'not smoothed, which would take some {smoothing / 60:.0f} minutes (--patience SECONDS)')
         steps = 0
-    choices.choose('flips', 'yes' if flips else 'no', 'given' if args.no_flips else 'edges lie better' if flips else
-                   f'they would take some {quick / 60:.0f} minutes (--patience SECONDS)')
+    if mesh_program_path() is None:
+        choices.warn('the program recon-mesh is not there (make run builds it): the mesh is as it was built')
+        steps, flips, kept = 0, False, 0
+    choices.choose('flips', 'yes' if flips else 'no', 'given' if args.no_flips else 'edges lie better' if flips else 'recon-mesh is not there')
     if steps:
         choices.choose('steps', steps, 'given' if args.steps is not None else f'noise of {noise:.2g} at {apart:.2g} apart')
         choices.choose('within', f'{within:g}', 'given' if args.within is not None else 'twice the noise')
     else:
         choices.choose('steps', 0, 'given' if args.steps == 0 else 'patience' if within else f'noise {noise:.2g} is small beside {apart:.2g}')
-    return Wishes(scan.unit, scan.origin.tolist(), kept, flips=flips, steps=steps, within=within if steps else 0.0, seen=True)
+    return Wishes(scan.unit, scan.origin.tolist(), kept or None, flips=flips, steps=steps, within=within if steps else 0.0, seen=True)
 
 
 def colored(mesh: Finished, surface: Surface, cloud: Cloud) -> np.ndarray | None:
@@ -315,7 +315,7 @@ def parser() -> argparse.ArgumentParser:
     group.add_argument('--no-flips', action='store_true', help='leave edges as they are')
     group.add_argument('--steps', type=within(0, 1000), metavar='N', help='steps of smoothing')
     group.add_argument('--within', type=length, metavar='D', help='how far a vertex may go by smoothing')
-    group.add_argument('--patience', type=length, default=120.0, metavar='SECONDS', help='how long finishing may take (default: %(default)g)')
+    group.add_argument('--patience', type=length, default=120.0, metavar='SECONDS', help='how long smoothing may take (default: %(default)g)')
     group = top.add_argument_group('the run')
     group.add_argument('--sweep', type=within(2, 64), metavar='N', help='the page gets a slider over smooth=0 to N-1')
     group.add_argument('--no-check', action='store_true', help='do not run recon check')

@@ -14,7 +14,7 @@ from typing import Any, Sequence
 
 import numpy as np
 
-from helpers import RECON, InFolder, call, equal, head, refuses, write
+from helpers import RECON, RECON_MESH, InFolder, call, equal, head, refuses, write
 from recon.toolbox import flips, half_edges, smoothing, triangles
 from recon.toolbox.crossing import cross, orient
 from recon.toolbox.vectors import axes, normal
@@ -143,16 +143,6 @@ def best_edge(places: Sequence[Any], corners: list[int]) -> Any:
     return flipper, int(flipper.gains.argmax())
 
 
-TOUCHING = [(0, 0, 0), (0, 0, 10), (10, 0, 5), (0, 10, 5), (-10, 0, 5), (0, -10, 5)]
-
-
-def outward(places: Sequence[Any], faces: Sequence[Any]) -> list[Any]:
-    """Returns the faces of a tetrahedron, seen from outside."""
-    middle = [sum(places[k][axis] for k in set(flat(faces))) for axis in range(3)]
-    scaled = [tuple(4 * x for x in place) for place in places]
-    return [face if orient(*(scaled[k] for k in face), tuple(middle)) < 0 else face[::-1] for face in faces]
-
-
 SCAN_ROWS = [(100, 100, 100), (100, -100, -100), (-100, 100, -100), (-100, -100, 100)]
 
 
@@ -220,15 +210,7 @@ class Finish(InFolder):
         equal((again, flipper.cross_nothing(np.array([edge])).tolist()), (edge, [False]))
         equal(check_flips(places, faces) > 20, True)
 
-    def test_sheets_that_touch_are_told_apart(self) -> None:
-        one = outward(TOUCHING, [tuple((0, 1, 2, 3)[k] for k in face) for face in TETRAHEDRON])
-        other = outward(TOUCHING, [tuple((0, 1, 4, 5)[k] for k in face) for face in TETRAHEDRON])
-        corners = np.array(flat(one + other))
-        twins = half_edges.pair_edges(np.array(TOUCHING), corners)
-        equal(half_edges.pieces_of(twins).tolist(), [0] * 4 + [1] * 4)
-        fans, copies = half_edges.fans_of(corners, twins)
-        equal((sorted(copies), (fans[:12] == corners[:12]).all(), set(fans[12:])), ([0, 1], True, {4, 5, 6, 7}))
-
+    @unittest.skipUnless(RECON_MESH, 'recon-mesh is not built here')
     def test_what_is_written(self) -> None:
         write('in.ply', mesh_text(SCAN_ROWS, [(0, 1, 2), (0, 2, 3), (0, 3, 1), (1, 3, 2)]))
         columns = 'float x, float y, float z, uchar red, uchar green, uchar blue, float intensity'
@@ -280,6 +262,7 @@ class Finish(InFolder):
         with open('out-seen.ply', 'rb') as file:
             equal(b'element face %d\n' % (len(marks) - sum(marks)) in file.read(), True)
 
+    @unittest.skipUnless(RECON_MESH, 'recon-mesh is not built here')
     def test_the_unit_of_the_certificate(self) -> None:
         write('in.ply', mesh_text(SCAN_ROWS, [(0, 1, 2), (0, 2, 3), (0, 3, 1), (1, 3, 2)]))
         stamp = f'recon certificate 2\nscan {"0" * 64}\nunit 250\nscanner none\npoints 4\n'
@@ -297,6 +280,7 @@ class Finish(InFolder):
         write('in.txt', 'recon certificate 1\n')
         refuses('finish', 'states its unit', 'in.ply', 'out.ply', 'cert=in.txt')
 
+    @unittest.skipUnless(RECON_MESH, 'recon-mesh is not built here')
     def test_colors_of_points_with_lists_and_as_obj(self) -> None:
         write('in.ply', mesh_text(SCAN_ROWS, [(0, 1, 2), (0, 2, 3), (0, 3, 1), (1, 3, 2)]))
         columns = 'float x, float y, float z, uchar red, list uchar int scanner, uchar green, uchar blue'
@@ -308,11 +292,12 @@ class Finish(InFolder):
             rows = [line.split() for line in lines]
         equal((rows[2], rows[-1][0], len(rows)), (['v', '100', '-100', '-100', '0.003922', '0.2', '1'], 'f', 9))
 
+    @unittest.skipUnless(RECON_MESH, 'recon-mesh is not built here')
     def test_pieces_and_smoothing(self) -> None:
         places, faces = two_balls()
         write('in.ply', mesh_text(places, faces))
-        said = call('finish', 'in.ply', 'out.ply', 'pieces=1', 'by=volume', 'flips=no')[1]
-        equal('kept 1 of 2 pieces and left out 108 faces; ' in said, True)
+        said = call('finish', 'in.ply', 'out.ply', 'pieces=1', 'flips=no')[1]
+        equal('kept the 1 largest piece and left out 108 faces; ' in said, True)
         equal(said.endswith('wrote 56 vertices and 108 faces to out.ply\n'), True)
         places, faces = ball(6, 100000, 0.05)
         write('in.ply', mesh_text(places, faces))
@@ -350,18 +335,21 @@ class Finish(InFolder):
             got = triangles.crossing(np.array(places), rows[:, :3], rows[:, 3:])
             equal(got.tolist(), [cross(places, row[:3], row[3:]) for row in pairs])
 
-    @unittest.skipUnless(RECON, 'recon is not built here')
+    @unittest.skipUnless(RECON and RECON_MESH, 'recon and recon-mesh are not built here')
     def test_what_recon_builds_is_finished(self) -> None:
         equal(call('make_scan', 'statue', '600', '1', 'scan.ply')[0], 0)
         subprocess.run([RECON, 'build', 'scan.ply', 'mesh.ply', 'cert'], check=True, capture_output=True)
         status, said, error = call('finish', 'mesh.ply', 'out.ply', 'pieces=1', 'scan=scan.ply', 'manifold=yes')
         equal((status, error, 'brought back scanner of the scan' in said), (0, '', True))
+        status, said, error = call('finish', 'mesh.ply', 'out.ply', 'pieces=1', 'scan=scan.ply', 'manifold=yes', 'smooth=1', 'within=9')
+        equal((status, error, 'split off ' in said), (0, '', True))
 
+    @unittest.skipUnless(RECON_MESH, 'recon-mesh is not built here')
     def test_meshes_that_are_not_finished(self) -> None:
         tetrahedron = mesh_text(SCAN_ROWS, [(0, 1, 2), (0, 2, 3), (0, 3, 1), (1, 3, 2)])
         write('in.ply', tetrahedron)
         write('scan.ply', head(1, 'float x, float y, float z') + '100 100 100\n')
-        for words, part in ((('smooth=3',), 'stand together'), (('within=1',), 'stand together'), (('by=size',), 'by='),
+        for words, part in ((('smooth=3',), 'stand together'), (('within=1',), 'stand together'),
                             (('smooth=1', 'within=0'), 'within='), (('pieces=0',), 'pieces='), (('unit=0',), 'unit='),
                             (('scan=scan.ply',), '3 of 4 vertices are no points of scan.ply at unit=1')):
             refuses('finish', part, 'in.ply', 'out.ply', *words)

@@ -4,9 +4,7 @@ Half edge h is side h % 3 of face h // 3: it goes from `corners[h]` to the next 
 edge of the face across, which goes the other way. Where more than two faces meet in an edge, sheets of the surface only
 touch there, and the two faces that bound one wedge of the solid belong together.
 
-Names: mean_angle · after, before (half edges of the same face) · edge_keys (a number for each edge) · pair_edges (the twins) · pieces_of
-(which faces hang together by twins) · fans_of (a number for each corner, the same for corners that hang together around
-their vertex).
+Names: mean_angle · after, before (half edges of the same face) · edge_keys (a number for each edge) · pair_edges (the twins).
 """
 from __future__ import annotations
 
@@ -14,9 +12,6 @@ from functools import cmp_to_key
 from typing import Any
 
 import numpy as np
-from scipy.sparse import coo_matrix
-from scipy.sparse.csgraph import connected_components
-
 from recon.toolbox.crossing import Places, orient
 from recon.toolbox.ply_text import Refusal
 from recon.toolbox.vectors import Rows, Vector, across, angle, axes, dot, normal
@@ -132,33 +127,3 @@ def wedges(order: list[int], there: set[int]) -> list[tuple[int, int]]:
         elif open_ones:
             pairs.append((h, open_ones.pop()))
     return list(dict(pairs).items())
-
-
-def groups_of(count: int, one: np.ndarray, other: np.ndarray) -> np.ndarray:
-    """Returns the number of its group for each of `count` things that are joined in pairs, from 0 in the order of their first members."""
-    joins = coo_matrix((np.ones(len(one), np.int8), (one, other)), (count, count))
-    labels = connected_components(joins, directed=False)[1]
-    _, first, labels = np.unique(labels, return_index=True, return_inverse=True)
-    rank = np.empty(len(first), np.int64)
-    rank[np.argsort(first)] = np.arange(len(first))
-    return rank[labels]
-
-
-def pieces_of(twins: np.ndarray) -> np.ndarray:
-    """Returns the number of its piece for each face, from 0 in the order of their first faces."""
-    return groups_of(len(twins) // 3, np.arange(len(twins)) // 3, twins // 3)
-
-
-def fans_of(corners: np.ndarray, twins: np.ndarray) -> tuple[np.ndarray, np.ndarray]:
-    """For each corner the number of its vertex after vertices are split where sheets only touch: the first fan of triangles of a vertex
-    keeps its number, others follow the last. Also the vertex that each new one is a copy of."""
-    halves = np.arange(len(corners))
-    fan = groups_of(len(corners), halves, twins[before(halves)])
-    vertex_of = np.zeros(fan.max(initial=-1) + 1, np.int64)
-    vertex_of[fan] = corners
-    is_first = np.zeros(len(vertex_of), bool)
-    is_first[np.unique(vertex_of, return_index=True)[1]] = True
-    copies = vertex_of[~is_first]
-    number = vertex_of.copy()
-    number[~is_first] = corners.max(initial=-1) + 1 + np.arange(len(copies))
-    return number[fan], copies

@@ -1,6 +1,6 @@
 """Meshes read as `recon build` wrote them, and written as PLY, STL, GLB or OBJ.
 
-Names: read_mesh · Finished (a mesh to be written: coordinates, corners, and columns of values of vertices and faces) ·
+Names: read_mesh, write_whole · Finished (a mesh to be written: coordinates, corners, and columns of values of vertices and faces) ·
 write_mesh (by the ending of the name).
 """
 from __future__ import annotations
@@ -66,6 +66,19 @@ def numbers_of(data: bytes, count: int) -> np.ndarray:
     if len(values) != count:
         refuse(f'it has {len(values)} numbers where its header says {count}')
     return values
+
+
+def write_whole(path: str, places: np.ndarray, corners: np.ndarray) -> None:
+    """Writes a mesh of whole numbers as `recon build` does: places (n, 3) and the corners of all faces one after another."""
+    faces = corners.reshape(-1, 3)
+    turn = faces.argmin(axis=1)[:, None]
+    first = np.take_along_axis(faces, (np.arange(3) + turn) % 3, axis=1)
+    lines = ['ply', 'format ascii 1.0', f'element vertex {len(places)}', 'property int x', 'property int y', 'property int z',
+             f'element face {len(faces)}', 'property list uchar int vertex_indices', 'end_header', '']
+    with open(path, 'w', encoding='ascii') as file:
+        file.write('\n'.join(lines))
+        np.savetxt(file, places, '%d')
+        np.savetxt(file, first[np.lexsort(first.T[::-1])], '3 %d %d %d')
 
 
 @dataclass
