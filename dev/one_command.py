@@ -5,7 +5,7 @@
 
   RECON RECON_MESH   the built programs
   SCAN ..            scans, as of recon-make-scan
-  runs=N             runs of each, of which the least seconds count, part by part (default: 3)
+  runs=N             runs of each, the least seconds of each part count (default: 3)
 
 Seconds are of the processor (user and system): of `recon build`, of `recon check`, of `recon-mesh finish`, and of Python, which is all that
 recon-surface does itself. The ratio is that of recon-mesh and Python together to `build`.

@@ -41,7 +41,7 @@ from recon.toolbox.ply_text import IS_NUMBER, Refusal
 
 MOST, MOST_OF_A_TILE = 1_000_000, 800_000
 LOOK, WRONG = 0.1, 0.25
-# faces of which Python smooths a step in a second
+# faces that Python smooths in a second, for one step
 SMOOTHED_A_SECOND = 12_000
 ROOM = 0.8
 
