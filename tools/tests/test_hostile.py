@@ -198,3 +198,10 @@ class Hostile(InFolder):
         write('scan', (head(4, 'int x, int y, int z, uchar caf\xe9') + '\n'.join(rows) + '\n').encode('latin-1'))
         status, said, error = call('finish', 'mesh', 'out.ply', 'scan=scan', 'flips=no')
         equal((status, 'brought back caf_ of the scan' in said, error), (0, True, ''))
+
+    def test_normals_of_any_length(self) -> None:
+        rows = [f'{x} {y} 0 0 0 1' for x in range(4) for y in range(4)]
+        for words, kept in (('0 0 1e308', 16), ('1.7e308 1.7e308 1.7e308', 15), ('0 0 1e-320', 16), ('0 0 0', 15)):
+            write('in', '\n'.join([f'0 0 0 {words}', *rows[1:], '']))
+            status, said, error = call('scan', 'in', 'out.ply', 'normals=yes', 'far=0.5')
+            equal((words, status, f'wrote {kept} points' in said, error), (words, 0, True, ''))

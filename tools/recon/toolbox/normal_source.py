@@ -8,7 +8,7 @@ would stand in one cube and whose normals point the same way share one (recon.si
 from __future__ import annotations
 
 from array import array
-from math import isfinite
+from math import hypot, isfinite
 from typing import Any, Iterator, Sequence
 
 import numpy as np
@@ -104,8 +104,9 @@ class Cloud:
             self.add(numbers_of(row, [words[k] for k in source.columns]), mover)
 
     def add(self, values: list[float] | None, mover: Mover) -> None:
-        long = 0.0 if values is None else sum(x * x for x in values[3:]) ** 0.5
-        if values is None or not long:
+        long = 0.0 if values is None else hypot(*values[3:])
+        # a normal whose length, or whose part of it, leaves the range of floating point is none
+        if values is None or not isfinite(long) or not any(x / long for x in values[3:] if long):
             self.counts['not finite' if values is None else 'without a normal'] += 1
             self.is_kept.append(0)
             return
