@@ -14,8 +14,7 @@ pub fn three_terms_law()
 {}
 
 /// States the same of the planes of the two lifted tetrahedra over a place: they differ by the power of one apex at the other
-/// tetrahedron times the side of the facet on which the place lies. It compares the heights of two neighbors over a place, as a
-/// walk does.
+/// tetrahedron times the side of the facet on which the place lies. It compares the heights of two neighbors, as a walk does.
 pub fn three_lifts_law()
     ensures { ThreeLiftsLaw }
 {}
@@ -40,14 +39,12 @@ pub fn envelope_law()
 {}
 
 /// States when the envelope is strict: over a place, the plane of the cell that contains the place is above that of another
-/// cell if the first has a vertex that the other lacks and the place is not in the plane of the opposite facet. So a walk
-/// returns to no cell.
+/// cell if the first has a vertex that the other lacks and the place is not in the plane of the opposite facet. So walks end.
 pub fn strict_envelope_law()
     ensures { StrictEnvelopeLaw }
 {}
 
-/// States that each directed facet of a cell is on a wall of the box and has no adjacent cell, or is on no wall and has exactly
-/// one.
+/// States that each directed facet of a cell is on a wall of the box and has no adjacent cell, or is on none and has one.
 pub fn across_law()
     ensures { AcrossLaw }
 {}

@@ -33,8 +33,7 @@ pub fn rim_law()
 {}
 
 /// States that the facets between cells outside and inside are closed: if no cell with a corner is inside, each directed edge
-/// occurs in the facets of outside cells with an adjacent inside cell as often as its reverse. So the surface of any labels is
-/// closed.
+/// occurs in the facets of outside cells with an adjacent inside cell as often as its reverse. So each such surface is closed.
 pub fn closed_law()
     ensures { ClosedLaw }
 {}

@@ -30,14 +30,12 @@ pub fn scanner_law()
 {}
 
 /// States that for each data point that is in and each scanner exactly one cell at the point is towards the scanner, and
-/// exactly one is behind the sight: the cells that contain the places near the point. So a walk along a sight has one cell to
-/// start in.
+/// exactly one is behind the sight: the cells that contain the places near the point. So a walk has one cell to start in.
 pub fn vertex_sight_law()
     ensures { VertexSightLaw }
 {}
 
-/// States the same of rows: in the list of all cells exactly one row is the scanner's cell, one is towards it, and one is
-/// behind the sight.
+/// States the same of rows: in the list of all cells exactly one is the scanner's, one is towards it, one is behind the sight.
 pub fn row_sight_law()
     ensures { RowSightLaw }
 {}
@@ -49,8 +47,7 @@ pub fn sight_law()
 {}
 
 /// States that a sight has one path through linked cells, from the cell towards the scanner at its vertex to the scanner's
-/// cell. The crossings of the path are exactly the facets that the sight crosses, each once, and each is nearer the vertex than
-/// every later one.
+/// cell. Its crossings are exactly the facets that the sight crosses, each once, each nearer the vertex than every later one.
 pub fn path_law()
     ensures { PathLaw }
 {}

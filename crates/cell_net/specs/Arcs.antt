@@ -4,8 +4,7 @@
 --   neighbor_or_self slots j   the node that an arc enters: the neighbor, or on a wall the cell itself
 --   is_free fixed other        there is a neighbor, and it is free
 --   is_paired slots fixed j    it leads from a free cell to a free neighbor, so the way back is an arc too
---   capacity_of ..             the visibility weight for each crossing and the area weight, where the neighbor is there and
---                              free
+--   capacity_of ..             the visibility weight for each crossing and the area weight, if the neighbor exists and is free
 --   is_outside slots fixed v   the number has no cell, or a fixed one
 --   sink_of ..                 the visibility weight for each sight that the cell is behind
 --   IsShape slots ..           they are a network: counts for each number that can have a cell, nodes at both ends of each arc, and

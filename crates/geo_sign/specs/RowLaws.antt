@@ -1,5 +1,4 @@
--- The row of a tetrahedron: its sorted vertex tuple. Each positively oriented tetrahedron has one, and is what `written` makes
--- of it.
+-- The row of a tetrahedron: its sorted vertex tuple. Each positively oriented one has one, and is what `written` makes of it.
 --
 --   IsRowOf t row        the row's numbers rise, and are those of t, in an even order or with the last two exchanged
 --   IsOneRow t row       a row of t, and no other list is one

@@ -21,8 +21,7 @@ use std::alloc::Global;
 ///
 /// All but 4 occur only if no call of the host failed. Status 5 prints nothing, and each of 0, 2 and 3 prints exactly one line.
 /// No file is created before its text and the line stand in memory, and no part of the line is printed before all files are
-/// whole. No file but the command's outputs ever changes, and these only with status 0 or 4. At [`Command`] stands which files
-/// are read.
+/// whole. No file but the command's outputs ever changes, and these only with status 0 or 4. [`Command`] says which are read.
 pub fn run<H: Host>(alloc: Global, words: &[String], host: &mut H) -> u8
     requires { (H.state host.old).writing ≡ false }
     ensures { ExitsWith result (λ status. Outcome (command_of (map string_bytes words.now)) status (H.state host.old) (H.state host.new)) }

@@ -1,5 +1,4 @@
-//! The mesh of labels: the facets of outside cells with an inside adjacent cell. It depends on `network`'s arcs and on
-//! `mesh_ply`.
+//! The mesh of labels: the facets of outside cells with an inside adjacent cell. It depends on `network` and `mesh_ply`.
 
 ghost use Rattle.std.specs.Prelude.{◌≡◌, ◌<◌, ◌≤◌, ◌++◌, IfOk, AllPairs, length};
 ghost use Rattle.flow_net.specs.Flows.{IsAdmissible};

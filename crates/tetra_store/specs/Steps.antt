@@ -94,8 +94,7 @@ pub record AreFacing (a : Links) (fan : List Facet) : Type 0 where
 
 -- ---- edges
 
--- an edge of the cell over a boundary facet: that side of the new cell, opposite to vertex 0, 1 or 2, which another new cell
--- will share
+-- an edge of the cell over a boundary facet: the side of the new cell, opposite to vertex 0, 1 or 2, that another one will share
 pub record IsFanEdge (fan : List Facet) (ids : List ℕ) (x : Edge) : Type 0 where
   pub facet : ℕ
   pub opposite : ℕ
@@ -156,8 +155,7 @@ pub record CanGrow (a : Links) (fan : List Facet) : Type 0 where
       → e ≡ d
   pub ends : (i e : ℕ) → i < length fan → edge_start (fan_facet fan i) e ≢ edge_end (fan_facet fan i) e
 
--- side e of the new cell over boundary facet i names the new cell over that boundary facet which has the edge in the other
--- direction
+-- side e of the new cell over boundary facet i names the new cell over the facet that has the edge in the other direction
 pub record IsMated (b : Links) (fan : List Facet) (ids : List ℕ) (i e : ℕ) : Type 0 where
   pub mate : ℕ
   pub side : ℕ

@@ -3,8 +3,7 @@
 ghost use Rattle.std.specs.Prelude.{◌≡◌, ◌↔◌, IsTrue};
 ghost use Rattle.tetra_store.specs.Edges.{key_of_edge, IsReverse};
 
-/// A directed edge of the boundary, the new cell over its facet, and the side of that cell opposite to the facet's third
-/// vertex.
+/// A directed edge of the boundary, the new cell over its facet, and its side opposite to the facet's third vertex.
 #[derive(Clone, Copy)]
 pub(crate) struct Edge {
     pub(crate) start: u32,

@@ -71,8 +71,7 @@ fn is_opposite(f: [u32; 3], v: u32) -> bool
     (a != v) & (b != v) & (c != v)
 }
 
-/// The index of a vertex of a cell that a facet does not have. It is 4 if there is none. All four are compared, with no branch
-/// between.
+/// The index of a vertex of a cell that a facet does not have, or 4 if there is none. All four are compared, without a branch.
 fn opposite_index(v: [u32; 4], f: [u32; 3]) -> usize
     ensures { result < 4 → (slice_index f 0 ≢ slice_index v result) × (slice_index f 1 ≢ slice_index v result) × (slice_index f 2 ≢ slice_index v result) }
 {

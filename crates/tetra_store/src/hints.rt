@@ -2,9 +2,8 @@
 //!
 //! The vertices of a boundary are numbered as they come. So an edge has an entry in a square table: the row of its start and
 //! the column of its end. Each edge is entered there with its index in the list of edges, and its reverse finds it there. The
-//! caller checks each hint that it reads. So nothing is promised of a hint, and nothing has to be kept true of the table: what
-//! earlier boundaries entered stays, and if a boundary has too many vertices, a reverse is not found, which costs time and
-//! nothing else.
+//! caller checks each hint that it reads. So nothing has to be kept true of the table: what earlier boundaries entered stays,
+//! and if a boundary has too many vertices, a reverse is not found, which costs time and nothing else.
 
 use crate::Facet;
 use crate::edge::Edge;
@@ -45,8 +44,7 @@ impl Hints {
         Ok(())
     }
 
-    /// Enters the edges of a boundary, three for each facet: first those that start at its second, its third and its first
-    /// vertex.
+    /// Enters the edges of a boundary, three for each facet: those that start at its second, its third and its first vertex.
     pub(crate) fn enter(&mut self, fan: &[Facet]) {
         let mut count = 0u8;
         let mut at = 0u32;
@@ -72,8 +70,7 @@ impl Hints {
 }
 
 /// Returns the number of a vertex, which is the next one if it has none yet. Most vertices of a boundary come several times, in
-/// no predictable order. So there is no branch: the vertex is written down as the next one in any case, and counted only if it
-/// is new.
+/// no predictable order. So there is no branch: the vertex is noted as the next one in any case, and counted only if it is new.
 fn number_of(numbers: &mut [u8], vertices: &mut [u32; NUMBERS], count: &mut u8, v: u32) -> u8 {
     let Some(number) = numbers.get_mut(v as usize) else {
         return 0;

@@ -3,8 +3,7 @@
 //!
 //! It knows no geometry but the sign of an orientation and the walls of the box. Its type keeps that the cells are linked:
 //! which cell is adjacent at each facet, and that each facet is in one cell alone. It does not keep that the cells are
-//! Delaunay: its callers choose the cells that `replace` takes out, and state it. Only `with_box` states it of the cells that
-//! it makes.
+//! Delaunay: its callers choose the cells that `replace` takes out, and state it. Only `with_box` states it of its cells.
 //!
 //! A cell takes 40 bytes: 32 for its vertices and neighbors, 4 for hints of the mirror index of each neighbor, and 4 by which
 //! the slab marks a slot that is taken. A vertex takes 12 bytes for its point, 4 for its incident cell, one for whether it is

@@ -173,8 +173,7 @@ impl Tetra {
 
     /// Makes room for `cells` cells more than there are, so that the store is not copied while it grows by these. It gives
     /// `replace` no room: `reserve` does, and takes no more memory for cells then. Points, cells and what is inserted stay in
-    /// any case, and the room that `replace` has does not grow less. Out of memory is returned too if numbers of cells would
-    /// not fit 32 bits.
+    /// any case, and `spare` does not grow less. Out of memory is returned too if numbers of cells would not fit 32 bits.
     pub fn reserve_cells(&mut self, cells: usize) -> Result<(), NoMemory>
         ensures spare { OnOk result (self.old.spare ≤ self.new.spare) }
         ensures capacity { self.old.capacity ≤ self.new.capacity }

@@ -17,7 +17,8 @@ pub fn amounts_fit()
 {}
 
 /// A scene has one list of cells and one list of facets that have a capacity. Each of these facets is written with its smallest
-/// number first, since a cell's numbers rise. Use it to compare two lists of a scene's cells or facets.
+/// number first, since a cell's numbers ascend.
+/// Use it to compare two lists of a scene's cells or facets.
 pub fn facets_are_listed_once()
     ensures ordered { FacetsAreOrdered }
     ensures one { OneComplex }

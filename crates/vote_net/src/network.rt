@@ -105,8 +105,7 @@ fn network_over(
 }
 
 /// The network of a scene, whose cells are those of the store: nodes in the order of their cells' ascending numbers, and arcs
-/// in that of their facets from the least number on, which is the one order that does not depend on how the store numbers its
-/// cells.
+/// in that of their facets from the least number on, the one order that does not depend on how the store numbers its cells.
 ///
 /// Both lists are sorted, which takes longer than all else here. The only error is out of memory, which also stands for 2^32
 /// cells or facets and more.
