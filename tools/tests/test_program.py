@@ -355,9 +355,9 @@ class Program(InFolder):
         write('far', example('tetrahedron.ply').replace(b'1000 1000 1000', b'3000000 0 0'))
         write('unseen', example('tetrahedron.ply').replace(b'int scanner', b'int seen_by'))
         for words, line, part in ((('cells', 'other', 'out'), '1 not_ply', 'another format: '),
-                                  (('cells', 'far', 'out'), '14 out_of_range element 1 row 0 property 0', 'farther out than 2,097,151: '),
+                                  (('cells', 'far', 'out'), '14 out_of_range element 1 row 0 property 0', 'beyond 2,097,151: use a smaller '),
                                   (('cells', 'unseen', 'out'), '7 missing vertex_scanner', 'name the scanner of each point '),
-                                  (('ask', 'scan', 'other', 'out'), '26 query_cut tokens 1', 'there are n values, and three make a point')):
+                                  (('ask', 'scan', 'other', 'out'), '26 query_cut tokens 1', 'there are n values, and a point has three')):
             status, said, told_beside = told(*words)
             equal((status, said), (3, f'refused {line}\n'))
             equal((told_beside[:len(part) + 7], told_beside.count('\n')), ('recon: ' + part, 1))
@@ -421,17 +421,19 @@ class Program(InFolder):
         # The surface is against no sight, and each face costs smooth.
         for words in ((), ('smooth=0',), ('vote=16', 'smooth=2'), ('smooth=1', 'unit=1', 'vote=8')):
             equal(hints(*words), ['recon: 0.000 contradictions for each line of sight'])
-        # Points of a ball that are said to be seen from behind: a surface is there, and sights are against it.
+        # A ball with each fifth point seen from behind: a surface is there, and lines of sight contradict it.
         points = sphere(300)
-        write('scan', scan_of_ball(points * 1000, nearest(-points)))
+        seen_by, behind = nearest(points), nearest(-points)
+        seen_by[::5] = behind[::5]
+        write('scan', scan_of_ball(points * 1000, seen_by))
         status, said, _ = at_terminal('build', 'scan', 'mesh', 'cert')
         numbers = {name: int(number) for name, number in re.findall('([a-z]+) ([0-9]+)', said)}
         against = (numbers['cost'] - numbers['faces']) * 1000 // 8 // numbers['sights']
         look = ': over 0.1, so look at the positions of the scanners, or at the normals'
-        equal((status, against > 100, hints()), (0, True, [f'recon: {against // 1000}.{against % 1000:03} contradictions for each line '
+        equal((status, numbers['faces'] > 100, against > 100, hints()), (0, True, True, [f'recon: {against // 1000}.{against % 1000:03} contradictions for each line '
                                                            f'of sight{look}']))
         # Of points that become one at a unit it is said, too.
-        write('scan', scan_of_ball(points * 4, nearest(points)))
+        write('scan', scan_of_ball(points * 3, nearest(points)))
         status, said, _ = at_terminal('build', 'scan', 'mesh', 'cert')
         numbers = {name: int(number) for name, number in re.findall('([a-z]+) ([0-9]+)', said)}
         equal((status, 2 * numbers['points'] < numbers['sights'], numbers['sights']), (0, True, 300))
