@@ -21,10 +21,12 @@ from recon.toolbox.vectors import axes, normal
 
 
 def mesh_text(places: Sequence[Any], faces: Sequence[Any]) -> str:
-    """Returns a mesh as `recon build` writes it."""
+    """Returns a mesh as `recon build` writes it, the smallest index of each face first."""
     lines = ['ply', 'format ascii 1.0', f'element vertex {len(places)}', 'property int x', 'property int y', 'property int z',
              f'element face {len(faces)}', 'property list uchar int vertex_indices', 'end_header']
-    lines += [' '.join(map(str, place)) for place in places] + ['3 ' + ' '.join(map(str, face)) for face in faces]
+    first = [min(range(3), key=lambda k: face[k]) for face in faces]
+    rows = [(*face[k:], *face[:k]) for face, k in zip(faces, first)]
+    lines += [' '.join(map(str, place)) for place in places] + ['3 ' + ' '.join(map(str, row)) for row in rows]
     return '\n'.join(lines + [''])
 
 
@@ -163,8 +165,7 @@ def check_glb(name: str) -> None:
 def two_balls() -> Any:
     places, faces = ball(3, 1000)
     far = [(x // 4 + 5000, y // 4, z // 4) for x, y, z in places]
-    return places + far, faces + [tuple(k + len(places) for k in face) for face in faces[:-2]] + \
-        [tuple(k + len(places) for k in face) for face in faces[-2:]]
+    return places + far, faces + [tuple(k + len(places) for k in face) for face in faces]
 
 
 class Finish(InFolder):
