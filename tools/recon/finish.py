@@ -1,30 +1,28 @@
-"""A mesh as `recon build` wrote it becomes one to view, print and exchange: in the numbers of the scan, less rough,
-without pieces that float, with the colors of its points. What comes out is no longer the surface that `recon check` confirms.
+"""Converts a mesh of `recon build` for viewing, printing and exchange: in the coordinates of the scan, smoother, without floating
+components, with the colors of its points. The result is no longer the mesh that `recon check` confirms.
 
   recon-finish MESH OUT [unit=U] [origin=X,Y,Z] [pieces=N] [flips=no] [smooth=N within=D] [manifold=yes]
                [seen=yes] [scan=SCAN] [cert=CERT]
 
-  OUT                the mesh as binary PLY, STL, GLB or OBJ: its name ends in .ply, .stl, .glb or .obj
-  unit=U             the scale with which the mesh was built. Without it that of cert=, or of the one certificate (.cert, .cert.gz)
-                     in the folder of MESH, which is said then; else 1
-  cert=CERT          the certificate of the mesh, which states its scale
-  origin=X,Y,Z       the place that was taken off the scan. Without it 0,0,0
-  pieces=N           keep the N largest pieces of those that hang together by edges, and leave the others out. Without it all
-  flips=no           leave all edges as they are. Without it an edge between two faces takes the other diagonal wherever the
-                     angles between the faces fall by that. No vertex moves, and no two faces cross that did not
-  smooth=N           N steps of smoothing, each with flips after it. Vertices are no points of the scan then
-  within=D           how far a vertex may go by smoothing, in the numbers of the scan: twice the scanner's error, for one
-  manifold=yes       split vertices and edges where sheets of the surface only touch, so that each edge has two faces
-  seen=yes           write a second mesh, OUT with -seen in its name, without the faces that span space that no scanner saw: those
-                     with an edge over 8 times the spacing around its corners. It is open. In a PLY each face of OUT has the
-                     property `unseen`, 1 or 0
-  scan=SCAN          the scan that the mesh was built from: its colors and other properties are brought back to the vertices,
-                     of several points at one place those of the first. STL keeps none of them, GLB and OBJ red, green
-                     and blue
+  OUT                binary PLY, STL, GLB or OBJ, by the ending of its name: .ply, .stl, .glb or .obj
+  unit=U             divide coordinates by U (default: that of cert=, else of the only certificate (.cert, .cert.gz) in the folder
+                     of MESH, which is then printed; else 1)
+  cert=CERT          read unit from the certificate of the mesh
+  origin=X,Y,Z       add the origin that was subtracted from the scan (default: 0,0,0)
+  pieces=N           keep the N largest components, connected by edges (default: all)
+  flips=no           do not flip edges (default: flip an edge if that reduces the angles between faces; no vertex moves, and no
+                     two faces intersect that did not before)
+  smooth=N           smooth in N steps, each followed by flips (default: 0)
+  within=D           move no vertex farther than D, in coordinates of the scan; required with smooth=. Twice the noise is usual
+  manifold=yes       split vertices and edges at which sheets only touch, so that each edge has two faces
+  seen=yes           also write OUT with -seen in its name: the mesh without faces that span space that no scanner saw, which have
+                     an edge over 8 times the spacing at its corners. It is open. Faces of a PLY get the property `unseen`, 1 or 0
+  scan=SCAN          copy colors and other properties of the scan to the vertices; of several points at one position those of the
+                     first. STL stores none, GLB and OBJ store red, green and blue
 
 Each option may also be written as --unit 1000, --seen or --no-flips. The program `recon-mesh` keeps pieces, flips edges and splits
-vertices; it is found beside this program, on the PATH, or by the variable RECON_MESH. A step of smoothing takes some ten seconds for
-200,000 faces.
+vertices; it is searched beside this program, on the PATH, and in the variable RECON_MESH. A step of smoothing takes about ten seconds
+for 200,000 faces.
 """
 from __future__ import annotations
 

@@ -1,59 +1,56 @@
-"""A scan that `recon` reads, of what scanners and other programs write: a text PLY of points and of the places that they were seen
-from.
+"""Converts point clouds to the scan format of `recon`: a text PLY with points and sensor positions.
 
-  recon-scan FILE OUT [index=NAME] [positions=TABLE]        a PLY, PCD, LAS or E57
+  recon-scan FILE OUT [index=NAME] [positions=TABLE]        PLY, PCD, LAS or E57
   recon-scan FILE OUT [position=header|matrix]              Leica's PTX
-  recon-scan FILE=X,Y,Z [FILE=X,Y,Z ..] OUT                 files that are one a station, each with the place of its scanner
-  recon-scan OUT table=TABLE                                the same, by a text of lines `X Y Z FILE`
+  recon-scan FILE=X,Y,Z [FILE=X,Y,Z ..] OUT                 one file for each station, with its scanner position
+  recon-scan OUT table=TABLE                                the same, by a text file with lines `X Y Z FILE`
   recon-scan FILE OUT normals=yes [far=D]                   points with normals, without scanners
   recon-scan FUSED OUT images=IMAGES                        COLMAP's fused.ply with fused.ply.vis beside it, and images.bin or .txt
   recon-scan MODEL OUT [images=IMAGES]                      COLMAP's sparse points: points3D.bin or .txt, or the folder that has it
-  recon-scan FILE OUT flight=TABLE                          an airborne LAS, by a table of lines TIME X Y Z
+  recon-scan FILE OUT flight=TABLE                          airborne LAS, with a table of lines TIME X Y Z
   recon-scan FILE .. OUT above=yes                          airborne scans without positions
 
-Formats are recognised by the first bytes of a file. A FILE with a place may also be a PTS or a list of numbers, X, Y and Z first in each line.
-With each of these:
+The first bytes of a file decide its format. A FILE with a position may also be PTS or a list of numbers, X, Y and Z first in each line.
+Options with all formats:
 
-  from=X,Y,Z to=X,Y,Z   keep the points in this box alone, those on its faces too; with outside=yes those outside
-  side=S                keep one point in each cube of this side, the first. No point may be over 1,048,575 sides from the
-                        first one on an axis
-  origin=X,Y,Z          take this place off every point and every scanner. The other options are in numbers as they were before
-  divide=N              divide all coordinates by N, a power of ten, as 1000 for micrometers: after the origin was taken off
-  surround=D            put eight points around a scan that was made from inside, as of a room, so that its walls become solid:
-                        the corners of a box that stands so far off the points, each seen by a scanner as far off the box
-  open_end=yes          take a text file whose last line has no end (else it counts as cut)
+  from=X,Y,Z to=X,Y,Z   keep only points in this box, its boundary included; with outside=yes only points outside
+  side=S                keep the first point in each cube of this side. On each axis points are at most 1,048,575 sides from the
+                        first point
+  origin=X,Y,Z          subtract this offset from all points and scanners. Other options are in the original coordinates
+  divide=N              divide all coordinates by N, a power of ten (1000 for micrometers), after subtracting the origin
+  surround=D            add eight points around a scan made from inside, such as a room, so that its walls become solid: the
+                        corners of a box at distance D from the points, each seen by a scanner at distance D from the box
+  open_end=yes          accept a missing final newline of a text file (default: treated as truncated)
 
-A PLY, PCD, LAS or E57 that is named without a place keeps all its properties:
+Options for a PLY, PCD, LAS or E57 without a position; all its properties are kept:
 
-  index=NAME            the property that numbers the scanner of a point, from 0. It is written as `scanner`, and 3.000000 as 3;
-                        another property `scanner` is kept as `scanner_before`. Without it `scanner` or else `scalar_scanner`
-                        is taken, if there is one
-  positions=TABLE       a text file of lines X Y Z, one a scanner in the order of its numbers, for a file without an element
-                        `scanner`. Where it is one line and no property numbers the scanners, it saw all points
+  index=NAME            the property with the scanner index of each point, from 0. It is written as `scanner`, and 3.000000 as 3;
+                        another property `scanner` is kept as `scanner_before` (default: `scanner`, else `scalar_scanner`)
+  positions=TABLE       a text file of lines X Y Z, one for each scanner in the order of its index, for a file without an element
+                        `scanner`. With one line and no index property, that scanner saw all points
 
-Of a PLY whose points name lists of scanners all properties but other lists are kept. Of stations coordinates alone are kept; a PCD
-says by its VIEWPOINT, or by vp_x, vp_y and vp_z of each point, where its scanner stood, and an E57 of one station by its pose: then
-FILE alone will do. FILE in a table is sought from the table's folder on, and `#` begins a comment. Of a PTX the position in a
-station's header and the last row of its matrix have to agree within 0.001, or one of them be 0 0 0; else position= chooses.
+If points of a PLY have lists of scanners, all properties except other lists are kept. For several stations only coordinates are kept. A
+PCD states its scanner by VIEWPOINT, or by vp_x, vp_y and vp_z of each point, and an E57 of one station by its pose: then FILE is enough.
+FILE in a table is relative to the table's folder, and `#` starts a comment. The position in a station's header of a PTX and the last row
+of its matrix have to agree within 0.001, or one of them has to be 0 0 0; otherwise position= chooses.
 
-  normals=yes           nx, ny and nz (of a PCD normal_x and so on), or the fourth to sixth number of a list, point out of the
-                        solid: each point is seen by a scanner of its own a little way off along its normal
-  far=D                 how far off. Without it one spacing: the median distance of a point to its six nearest. Over 65,536
-                        points share positions, those near each other whose normals point the same way
+  normals=yes           nx, ny and nz (in a PCD normal_x and so on), or the fourth to sixth number of a list, point outward: each
+                        point gets a scanner of its own at a distance along its normal
+  far=D                 that distance (default: the spacing, which is the median distance of a point to its six nearest). Over
+                        65,536 points share positions, if they are near each other and have similar normals
 
-  flight=TABLE          where the scanner was at which time, in the numbers of the points' gpstime, times ascending. Between two
-                        lines it flew straight. Points before and after the flight are left out
-  above=yes             all points are seen from one position that is made up: three widths above their middle. Roofs and ground
-                        become right, walls that no pulse met are made up too
+  flight=TABLE          positions of the scanner by time, in the numbers of the points' gpstime, ascending. Between two lines it
+                        flew straight. Points before and after the flight are left out
+  above=yes             one synthesised position for all points: three widths above their middle. Roofs and ground are right,
+                        walls that no pulse met are synthesised too
 
-LAZ is read where the Python packages laspy and lazrs are installed, and E57 of spherical coordinates where pye57 is.
+LAZ is read if the Python packages laspy and lazrs are installed, and E57 with spherical coordinates if pye57 is.
 
-Normals are not checked. The cost of the surface shows how many are wrong: the cost that `recon build` prints, less `smooth` for
-each face, divided by `vote`, is the weight of the sights that are against the surface. If it is a tenth of the sights or more,
-look at the normals.
+Normals are not checked. The cost of the mesh shows the fraction of wrong ones: `(cost - smooth * faces) / vote / sights`. If it is 0.1 or
+more, look at the normals.
 
-Left out are points with a coordinate or a scanner that is nan or infinite, empty returns of a PTX, points without a normal, and
-all elements of a PLY but `vertex` and `scanner`. Names of properties that are no printable ASCII, or stand twice, are changed.
+Left out: points with a coordinate or a scanner that is nan or infinite, empty returns of a PTX, points without a normal, and all
+elements of a PLY except `vertex` and `scanner`. Property names that are not printable ASCII, or occur twice, are changed.
 """
 from __future__ import annotations
 
