@@ -1,16 +1,14 @@
-"""A slice of `recon` in the numbers of the scan: as a drawing, which browsers and drawing programs open, or as a table for
-spreadsheets and other programs.
+"""Converts a slice of `recon` to an SVG drawing or a CSV table, in coordinates of the scan.
 
   recon-contours SLICE OUT [unit=U] [origin=X,Y,Z]
 
-  OUT                its name ends in .svg or .csv
-  unit=U             the scale with which the mesh was built (default: 1)
-  origin=X,Y,Z       the place that was taken off the scan. Without it 0,0,0
+  OUT                SVG or CSV, by the ending of its name: .svg or .csv
+  unit=U             divide coordinates by U (default: 1)
+  origin=X,Y,Z       add the origin that was subtracted from the scan (default: 0,0,0)
 
-One unit of the drawing is one of the scan. x goes to the right and y up, and what is inside is filled: a place is inside where
-the loops go round it an odd number of times. A row of the table has the number of its loop, from 0, the number of the face, and
-the point's x and y. Each loop is closed: its first point follows its last. Coordinates are decimals of up to 30 digits, the
-last one rounded.
+In the drawing x points right and y up, and the inside is filled by the even-odd rule. A row of the table has the index of its loop, from
+0, the number of the face, and the point's x and y. Each loop is closed: its first point follows its last. Coordinates are decimals
+of up to 30 digits, the last one rounded.
 """
 from __future__ import annotations
 

@@ -1,17 +1,16 @@
-"""How much of a box is inside of a surface: a grid of points for `recon ask`, and the volume by its answers.
+"""Measures how much of a box is inside a surface, by a grid of points for `recon ask`.
 
   recon-grid points OUT from=X,Y,Z to=X,Y,Z side=S
   recon-grid volume ANSWERS side=S
 
-`points` writes the middles of the cubes of a given side that fill a box, in rows along x, rows in layers along y, and layers one
-behind another along z.
+`points` writes the centers of the cubes that fill a box: rows along x, layers of rows along y, and layers along z.
 
-  from=X,Y,Z         the corner of the box with the least coordinates, in the numbers of the scan
-  to=X,Y,Z           the corner with the greatest. The last cubes may reach over it
-  side=S             the side of a cube. There may be 1,048,576 cubes at most
+  from=X,Y,Z         the corner of the box with the least coordinates, in coordinates of the scan
+  to=X,Y,Z           the corner with the greatest; the last cubes may extend beyond it
+  side=S             the side of a cube; at most 1,048,576 cubes
 
-`volume` counts each cube whose middle is inside whole. The error falls with the side of a cube, and comes from the cubes that the
-surface goes through.
+`volume` adds up the cubes whose center is inside. The error comes from the cubes that the surface crosses, and decreases with their
+side.
 """
 from __future__ import annotations
 

@@ -1,21 +1,19 @@
-"""Makes a scan of a shape, in whole numbers, to try `recon` on. The same arguments make the same file.
+"""Simulates a scan of a shape, in integer coordinates. The same arguments make the same file.
 
   recon-make-scan SHAPE COUNT SEED OUT [scale=S] [noise=F] [stray=F]
 
-  SHAPE              torus, statue (a figure of balls), cube or sphere, seen from 8 places around it; or room (a room with
-                     furniture and two pillars, seen from 4 places in it). And three whose sights cross as many cells as may
-                     be, to time the worst: `tube` (a thin tube, seen from one point beyond each end), `crowd` (points in a ball,
-                     each seen by 20 of 65,536 scanners in it, a row for each sight) and paraboloid (seen from 4 places over
-                     it). These three have no errors and no wrong points
+  SHAPE              torus, statue (a figure of balls), cube or sphere, seen from 8 positions around it; room (with furniture and two
+                     pillars, seen from 4 positions inside); or one of three that time the worst case, whose lines of sight cross as
+                     many cells as possible: `tube` (a thin tube, seen from one point beyond each end), `crowd` (points in a ball, each
+                     seen by 20 of 65,536 scanners in it, one row for each line of sight) and paraboloid (seen from 4 positions over
+                     it). These three have no noise and no outliers
   COUNT, SEED        the number of rows, and the seed of the generator
-  scale=S            units for the length 1; the shapes reach from about -1 to 1, their scanners to 2.4. Without it 500000. A
-                     coordinate that would pass 2,097,151 stays there
-  noise=F            the standard deviation of the error of a point along its sight, where S units have the length 1
-                     (default: 0.0015)
-  stray=F            which part of the points is wrong: half of them too short on their sight, half anywhere. Without it 0.02
+  scale=S            steps for the length 1; shapes reach from about -1 to 1, their scanners to 2.4 (default: 500000). Coordinates are
+                     clamped to 2,097,151
+  noise=F            the standard deviation of a point along its line of sight, as a fraction of the length 1 (default: 0.0015)
+  stray=F            the fraction of outliers: half of them too short on their line of sight, half anywhere (default: 0.02)
 
-A point is drawn evenly on the surface together with a scanner, and kept where that scanner sees it, and not at a grazing
-angle.
+A point is drawn uniformly on the surface together with a scanner, and kept if that scanner sees it, not at a grazing angle.
 """
 from __future__ import annotations
 

@@ -1,12 +1,11 @@
-"""A mesh of `recon` in the numbers of the file that was scanned, for programs that want them so: MeshLab, for one, reads no
-PLY with whole-number coordinates. Coordinates are divided by the scale, and the origin that was taken off is added.
+"""Converts a mesh of `recon` to coordinates of the scan, for programs that read no PLY with integer coordinates, such as MeshLab.
 
   recon-mesh-to-floats IN OUT [unit=U] [origin=X,Y,Z]
 
-  unit=U             the scale with which the mesh was built (default: 1)
-  origin=X,Y,Z       the place that was taken off the scan. Without it 0,0,0
+  unit=U             divide coordinates by U (default: 1)
+  origin=X,Y,Z       add the origin that was subtracted from the scan (default: 0,0,0)
 
-Coordinates are exact decimals, rounded only where they have over 30 digits. The faces stay as they are.
+Coordinates are exact decimals, rounded only beyond 30 digits. Faces are unchanged.
 """
 from __future__ import annotations
 

@@ -1,30 +1,28 @@
-"""A scan of any size cut into tiles that `recon` takes, and the tiles' surfaces put together.
+"""Splits a scan of any size into tiles for `recon`, and joins the meshes of the tiles.
 
   recon-tiles split FILE .. FOLDER [points=N] [overlap=D | spacings=K] [through=N] [unit=U] [vote=V] [smooth=L] [how it is read]
   recon-tiles join FOLDER OUT [fill=yes] [report=FILE]
 
-`split` halves space by planes along the axes until each box, its tile's *core*, has at most a given number of points in it and within
-the overlap around it. It writes a new FOLDER: a scan for each tile, with the scanners that its points name; `tiles.json`, which
-says what each is; and jobs that build and check each tile's surface, as `jobs.txt`, a command a line, and as `Makefile`.
+`split` halves space by planes along the axes until each box, the *core* of its tile, has at most a given number of points, including those
+within the overlap around it. It writes a new FOLDER: a scan for each tile, with the scanners of its points; `tiles.json`, which describes
+the tiles; and the commands that build and check each tile, as `jobs.txt`, one command for each line, and as `Makefile`.
 
-  points=N           the most points of a tile. Without it 800000, and at most 1048576
-  overlap=D          how far a tile reaches beyond its core, in the file's own numbers
-  spacings=K         the same in mean spacings of the points, which a sample tells. Without either 20
-  through=N          how many points from outside a tile are passed to it at most, whose sights enter its box. Without it a
-                     tenth of points=
+  points=N           the most points of a tile (default: 800000; at most 1048576)
+  overlap=D          how far a tile extends beyond its core, in coordinates of the file
+  spacings=K         the same in mean spacings of the points, estimated from a sample (default: 20)
+  through=N          the most halo points of a tile, whose lines of sight enter its box (default: a tenth of points=)
   unit=, vote=, smooth=   options of `recon` for the jobs
-  index=, positions=, position=, table=, images=, normals=, far=, above=, origin=, open_end=   how the scan is read, with the meaning
-                     that they have for recon-scan
+  index=, positions=, position=, table=, images=, normals=, far=, above=, origin=, open_end=   how the scan is read, as in recon-scan
 
-FILE .. is all that recon-scan reads, with the same arguments. What `recon` does not read is left out.
+FILE .. are all files that recon-scan reads, with the same arguments. Properties that `recon` does not read are left out.
 
-`join` takes, when all jobs are done, of each tile's surface the faces whose middle lies in its core, and makes one vertex of
-what is one scanned point. It says of each two tiles that meet how many edges at their seam are not there one way as often as the
-other: open ones, of one face or two, and crowded ones, where three or more meet. `recon check` knows nothing of what it writes.
+`join`, after all jobs, takes the faces of each tile's mesh whose centroid is in its core, and makes one vertex of each scanned point. For
+each two adjacent tiles it prints the number of edges at their seam that do not occur equally often in both directions: open ones, of one
+or two faces, and crowded ones, of three or more. `recon check` does not apply to the result.
 
-  fill=yes           fill the gaps by triangles that no tile has, so that the surface is closed: each directed edge is met by
-                     its reverse equally often
-  report=FILE        a text of a line for each such edge: the two tiles, `open` or `crowded`, and the edge's two ends
+  fill=yes           fill the gaps with triangles that no tile has, so that the mesh is closed: each directed edge occurs as often
+                     as its reverse
+  report=FILE        a text file with a line for each such edge: the two tiles, `open` or `crowded`, and both ends of the edge
 """
 from __future__ import annotations
 
