@@ -49,6 +49,11 @@ class Tools:
         self.folder = os.path.join(self.place, 'tools')
         shutil.copytree(TOOLS, self.folder, ignore=shutil.ignore_patterns('__pycache__', 'tests'))
         sys.path.insert(0, self.folder)
+        # The copy does not find the program that was built beside the tools.
+        for place in ('recon-mesh', 'crates/mesh_main/out/mesh_main'):
+            path = os.path.join(os.path.dirname(TOOLS), place)
+            if os.access(path, os.X_OK):
+                os.environ.setdefault('RECON_MESH', path)
         self.is_package = os.path.exists(os.path.join(self.folder, 'recon', '__main__.py'))
         package = 'recon.toolbox' if self.is_package else 'toolbox'
         folder = os.path.join(self.folder, *package.split('.'))
@@ -172,7 +177,7 @@ class Part:
         return None if is_read else ('recon does not read it', str(done))
 
     def run(self) -> None:
-        todo = jobs()
+        todo = [job for job in jobs() if job.tool != 'finish' or 'RECON_MESH' in os.environ]
         for job in self.context.share(todo):
             done = self.judge(job, 'good')
             if done.status not in (0, 3):
