@@ -1,2 +1,16 @@
 pub mod Turns
 pub mod Facts
+pub mod CellRows
+pub mod CellSides
+pub mod Lists
+pub mod Entries
+pub mod Stored
+pub mod KeyOrders
+pub mod Nodes
+pub mod Sorting
+pub mod StoredListings
+pub mod CellCounts
+pub mod CutOrder
+pub mod SlotSums
+pub mod SceneNetwork
+pub mod StoreLaws

@@ -1,2 +1,12 @@
 pub mod Arcs
 pub mod Shape
+pub mod CellRows
+pub mod Parts
+pub mod Gathered
+pub mod Counts
+pub mod CountLaws
+pub mod StoredCells
+pub mod StoredComplexes
+pub mod CutSides
+pub mod ByNumber
+pub mod StoreLaws

@@ -26,8 +26,8 @@ use Rattle.visibility.specs.Scenes.{Scene}
 use Rattle.visibility.proofs.Indices.{once_permuted}
 use Rattle.visibility.proofs.Listings.{cells_once, facets_once, facet_back, rising_cell}
 use Rattle.visibility.proofs.Ordered.{facets_are_ordered}
-use Rattle.vote_net.specs.Gathered.{row_key, facet_key}
-use Rattle.vote_net.proofs.KeyOrders.{AreSmall, rows_before, facets_before}
+use Rattle.cell_net.specs.Gathered.{row_key, facet_key}
+use Rattle.cell_net.proofs.KeyOrders.{AreSmall, rows_before, facets_before}
 use Rattle.recon_build.specs.RowKeys.{key_of_flow, key_of_sink}
 
 -- of two the one that has no larger number is before the other, or they are equal

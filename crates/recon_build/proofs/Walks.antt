@@ -16,14 +16,14 @@ use Rattle.tetra_store.specs.declared.link.Cell.{Cell}
 use Rattle.tetra_store.specs.Links.{links_of, slot_at, next_in, vertices_in, tetrahedron_from}
 use Rattle.tetra_store.proofs.Observed.{slot_in}
 use Rattle.cell_net.specs.Arcs.{is_free}
-use Rattle.vote_net.specs.ByNumber.{SaysOfCells, SaysOfSides, IsZeroElsewhere}
-use Rattle.vote_net.specs.CellRows.{facet_row, risen, row_from}
-use Rattle.vote_net.specs.Counts.{row_of}
-use Rattle.vote_net.specs.Gathered.{row_at, side_at, side_if_open, open_at}
-use Rattle.vote_net.specs.StoredComplexes.{stored_cells, stored_facets}
-use Rattle.vote_net.specs.Tables.{cell_of_row, facet_of_side}
-use Rattle.vote_net.specs.declared.sides.Side.{Side}
-use Rattle.vote_net.proofs.Entries.{entry_slot}
+use Rattle.cell_net.specs.ByNumber.{SaysOfCells, SaysOfSides, IsZeroElsewhere}
+use Rattle.cell_net.specs.CellRows.{facet_row, risen, row_from}
+use Rattle.cell_net.specs.Counts.{row_of}
+use Rattle.cell_net.specs.Gathered.{row_at, side_at, side_if_open, open_at}
+use Rattle.cell_net.specs.StoredComplexes.{stored_cells, stored_facets}
+use Rattle.cell_net.specs.Parts.{cell_of_row, facet_of_side}
+use Rattle.cell_net.specs.declared.sides.Side.{Side}
+use Rattle.cell_net.proofs.Entries.{entry_slot}
 use Rattle.recon_build.specs.Walks.{row_if_inside, flow_if_any, flows_if_any, sink_if_any, all_inside, all_flows, all_sinks}
 
 -- the number of a live cell is below that of slots

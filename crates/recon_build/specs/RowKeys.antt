@@ -8,9 +8,9 @@ use Rattle.cert_text.specs.declared.certificate.FlowRow.{FlowRow}
 use Rattle.cert_text.specs.declared.certificate.SinkRow.{SinkRow}
 use Rattle.solution.specs.Solutions.{flow_rows}
 use Rattle.tetra_store.specs.declared.link.Cell.{Cell}
-use Rattle.vote_net.specs.ByNumber.{SaysOfSides, IsZeroElsewhere}
-use Rattle.vote_net.specs.Gathered.{row_key, facet_key}
-use Rattle.vote_net.specs.StoredComplexes.{stored_facets}
+use Rattle.cell_net.specs.ByNumber.{SaysOfSides, IsZeroElsewhere}
+use Rattle.cell_net.specs.Gathered.{row_key, facet_key}
+use Rattle.cell_net.specs.StoredComplexes.{stored_facets}
 
 abbrev pub key_of_flow : FlowRow → ℕ
 key_of_flow row = facet_key row.facet

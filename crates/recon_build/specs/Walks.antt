@@ -14,7 +14,7 @@ use Rattle.flow_net.specs.Nets.{flag_at}
 use Rattle.solution.specs.Solutions.{flow_row, sink_row}
 use Rattle.tetra_store.specs.declared.link.Cell.{Cell}
 use Rattle.tetra_store.specs.Links.{tetrahedron_from}
-use Rattle.vote_net.specs.CellRows.{facet_row, risen, row_from}
+use Rattle.cell_net.specs.CellRows.{facet_row, risen, row_from}
 
 -- its vertices in ascending order
 unfoldable pub row_if_inside : List Bool → ℕ × Cell → List (List ℕ)

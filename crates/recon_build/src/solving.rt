@@ -6,7 +6,7 @@ ghost use Rattle.cert_text.specs.Certificates.{Claim, claim_of, stamp_view, IsWe
 ghost use Rattle.geo_sign.specs.Vertices.{corners};
 ghost use Rattle.mesh_ply.specs.Meshes.{IsMesh, Surface};
 ghost use Rattle.scan.specs.Views.{shown_of};
-ghost use Rattle.vote_net.specs.Counts.{AreCellsOf};
+ghost use Rattle.cell_net.specs.Counts.{AreCellsOf};
 ghost use Rattle.solution.specs.Laws.{IsSame};
 ghost use Rattle.solution.specs.Scans.{points_of, scene_of_scan};
 ghost use Rattle.recon_build.specs.Certified.{CertifiesCut};

@@ -20,9 +20,9 @@ use Rattle.visibility.specs.Cuts.{cost}
 use Rattle.visibility.specs.Listings.{IsListingOf}
 use Rattle.visibility.specs.Scenes.{Scene}
 use Rattle.visibility.specs.Votes.{IsComplexOf}
-use Rattle.vote_net.specs.ByNumber.{SaysOfCells}
-use Rattle.vote_net.specs.Counts.{AreCellsOf, AreCountsOf}
-use Rattle.vote_net.specs.StoredComplexes.{stored_complex}
+use Rattle.cell_net.specs.ByNumber.{SaysOfCells}
+use Rattle.cell_net.specs.Counts.{AreCellsOf, AreCountsOf}
+use Rattle.cell_net.specs.StoredComplexes.{stored_complex}
 use Rattle.scan_cut.proofs.Counted.{counts_are}
 use Rattle.recon_check.specs.Claims.{is_inside, AreThere}
 use Rattle.recon_check.specs.Faults.{IsBest}

@@ -47,12 +47,12 @@ use Rattle.visibility.specs.Listings.{IsListingOf}
 use Rattle.visibility.specs.Votes.{HasCapacity}
 use Rattle.visibility.proofs.Indices.{at_index, index_has, not_before_itself}
 use Rattle.visibility.proofs.Ordered.{one_complex}
-use Rattle.vote_net.specs.CellRows.{risen}
-use Rattle.vote_net.specs.Counts.{row_of}
-use Rattle.vote_net.specs.Gathered.{row_key}
-use Rattle.vote_net.specs.StoredComplexes.{stored_complex}
-use Rattle.vote_net.proofs.KeyOrders.{AreSmall, rows_before}
-use Rattle.vote_net.proofs.SceneNetwork as scene
+use Rattle.cell_net.specs.CellRows.{risen}
+use Rattle.cell_net.specs.Counts.{row_of}
+use Rattle.cell_net.specs.Gathered.{row_key}
+use Rattle.cell_net.specs.StoredComplexes.{stored_complex}
+use Rattle.cell_net.proofs.KeyOrders.{AreSmall, rows_before}
+use Rattle.cell_net.proofs.SceneNetwork as scene
 use Rattle.surface.proofs.Listed as listed
 use Rattle.recon_check.specs.ByRows.{numbers, IsFixedAt, IsOverAt, IsOverSinkAt, IsOutsideAt, IsLeastUnbalance}
 use Rattle.recon_check.specs.ByRows.{IsUnbalanced as IsUnbalancedAt}

@@ -7,8 +7,8 @@ use Rattle.std.proofs.Common.{below_more, ℕ, ◌≡◌, ◌<◌, ◌≤◌, �
 use Rattle.cell_net.specs.declared.network.CellNetwork.{CellNetwork}
 use Rattle.flow_net.specs.Firsts.{NoneBelow}
 use Rattle.flow_net.specs.declared.Flow.{Flow}
-use Rattle.vote_net.specs.Counts.{row_of}
-use Rattle.vote_net.specs.Gathered.{row_key}
+use Rattle.cell_net.specs.Counts.{row_of}
+use Rattle.cell_net.specs.Gathered.{row_key}
 use Rattle.recon_check.specs.ByRows.{IsUnbalanced, IsUnbalanceAt}
 use Rattle.recon_check.specs.declared.balance.Unbalance.{Unbalance}
 

@@ -31,17 +31,17 @@ use Rattle.visibility.specs.Votes.{IsComplexOf}
 use Rattle.visibility.proofs.Indices.{index_has, once_rising, same_index}
 use Rattle.visibility.proofs.Listings.{facet_back}
 use Rattle.visibility.proofs.Ordered.{one_complex}
-use Rattle.vote_net.specs.CellRows.{facet_row, least_first}
-use Rattle.vote_net.specs.Counts.{AreCountsOf, row_of}
-use Rattle.vote_net.specs.Gathered.{all_rows, all_open}
-use Rattle.vote_net.specs.StoredComplexes.{stored_complex}
-use Rattle.vote_net.specs.Tables.{facet_of_side}
-use Rattle.vote_net.specs.declared.sides.Side.{Side}
-use Rattle.vote_net.proofs.Assembled.{listing_is}
-use Rattle.vote_net.proofs.CellSides.{one_cell, one_side_of}
-use Rattle.vote_net.proofs.Entries.{map_has, map_gets, side_is, side_there}
-use Rattle.vote_net.proofs.Nodes.{one_id}
-use Rattle.vote_net.proofs.Stored.{listed}
+use Rattle.cell_net.specs.CellRows.{facet_row, least_first}
+use Rattle.cell_net.specs.Counts.{AreCountsOf, row_of}
+use Rattle.cell_net.specs.Gathered.{all_rows, all_open}
+use Rattle.cell_net.specs.StoredComplexes.{stored_complex}
+use Rattle.cell_net.specs.Parts.{facet_of_side}
+use Rattle.cell_net.specs.declared.sides.Side.{Side}
+use Rattle.cell_net.proofs.StoredListings.{listing_is}
+use Rattle.cell_net.proofs.CellSides.{one_cell, one_side_of}
+use Rattle.cell_net.proofs.Entries.{map_has, map_gets, side_is, side_there}
+use Rattle.cell_net.proofs.Nodes.{one_id}
+use Rattle.cell_net.proofs.Stored.{listed}
 use Rattle.surface.proofs.Listed.{cell_with, row_in}
 use Rattle.recon_check.specs.Claims.{is_among_rows, is_inside, flow_facets, sink_cells, IsStray}
 use Rattle.recon_check.specs.Lookups.{is_open_side, side_facet, AreNumbersApart, AreNumbersOf, AreFound}

@@ -19,8 +19,8 @@ use Rattle.flow_net.specs.Networks.{amount_in}
 use Rattle.flow_net.specs.Numbered.{NumberedNetwork, network_by}
 use Rattle.flow_net.specs.declared.Flow.{Flow}
 use Rattle.tetra_store.specs.Links.{links_of, IsLive}
-use Rattle.vote_net.specs.Counts.{row_of}
-use Rattle.vote_net.specs.Gathered.{row_key}
+use Rattle.cell_net.specs.Counts.{row_of}
+use Rattle.cell_net.specs.Gathered.{row_key}
 use Rattle.recon_check.specs.declared.balance.Unbalance.{Unbalance}
 
 -- the node at an index is fixed

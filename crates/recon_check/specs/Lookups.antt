@@ -15,8 +15,8 @@ use Rattle.std.specs.Prelude.{ℕ, ◌≡◌, ◌≢◌, ◌<◌, ◌≤◌, ◌
 use Rattle.cell_net.specs.Arcs.{across, is_free}
 use Rattle.tetra_store.specs.Links.{links_of}
 use Rattle.tetra_store.specs.declared.link.Cell.{Cell}
-use Rattle.vote_net.specs.CellRows.{facet_row}
-use Rattle.vote_net.specs.Counts.{row_of}
+use Rattle.cell_net.specs.CellRows.{facet_row}
+use Rattle.cell_net.specs.Counts.{row_of}
 
 -- 0 where there is none
 abbrev pub least_number : List ℕ → ℕ

@@ -16,7 +16,7 @@ use Rattle.visibility.specs.Complexes.{Complex}
 use Rattle.visibility.specs.Cuts.{IsAdmissible}
 use Rattle.visibility.specs.Flows.{IsValidFlow}
 use Rattle.visibility.specs.Votes.{IsComplexOf}
-use Rattle.vote_net.specs.Counts.{AreCountsOf}
+use Rattle.cell_net.specs.Counts.{AreCountsOf}
 use Rattle.recon_check.specs.Answers.{IsReason}
 use Rattle.recon_check.specs.Claims.{is_inside, AreThere}
 use Rattle.recon_check.specs.Stated.{IsFlaggedFor, IsStatedBy}

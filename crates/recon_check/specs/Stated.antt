@@ -12,7 +12,7 @@ use Rattle.solution.specs.Solutions.{flow_on, sink_at}
 use Rattle.tetra_store.specs.Links.{links_of}
 use Rattle.tetra_store.specs.declared.link.Cell.{Cell}
 use Rattle.visibility.specs.Scenes.{Scene}
-use Rattle.vote_net.specs.Counts.{AreCountsOf, row_of}
+use Rattle.cell_net.specs.Counts.{AreCountsOf, row_of}
 use Rattle.recon_check.specs.Claims.{is_inside, flow_facets, sink_cells}
 use Rattle.recon_check.specs.Lookups.{is_open_side, side_facet, AreNumbersOf}
 use Rattle.recon_check.specs.declared.stated.Stated.{Stated}

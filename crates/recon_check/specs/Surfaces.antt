@@ -18,7 +18,7 @@ use Rattle.tetra_store.specs.declared.link.Cell.{Cell}
 use Rattle.visibility.specs.Complexes.{Complex}
 use Rattle.visibility.specs.Cuts.{cost}
 use Rattle.visibility.specs.Votes.{IsComplexOf}
-use Rattle.vote_net.specs.ByNumber.{SaysOfCells}
+use Rattle.cell_net.specs.ByNumber.{SaysOfCells}
 use Rattle.recon_check.specs.Answers.{best_surface}
 use Rattle.recon_check.specs.Claims.{is_inside}
 use Rattle.recon_check.specs.Faults.{IsBest}

@@ -3,16 +3,15 @@
 ghost use Rattle.std.specs.Prelude.{◌≡◌, ◌<◌, ◌≤◌, ◌⊎◌, Some, IfOk, IfSome, IfNone, length};
 ghost use Rattle.flow_net.specs.Firsts.{NoneBelow};
 ghost use Rattle.flow_valid.specs.Totals.{AreTotals};
-ghost use Rattle.vote_net.specs.Gathered.{row_key};
+ghost use Rattle.cell_net.specs.Gathered.{row_key};
 ghost use Rattle.recon_check.specs.ByRows.{numbers, IsUnbalanced, IsUnbalanceAt, IsLeastUnbalance};
 
 use crate::NoMemory;
-use cell_net::CellNetwork;
+use cell_net::{CellNetwork, cell_key, cell_row};
 use flow_net::{Flow, FlowNetwork};
 use flow_valid::{Totals, add_up};
 use std::alloc::Global;
 use tetra_store::Tetra;
-use vote_net::{cell_key, cell_row};
 
 /// A free cell at which a flow is not conserved.
 #[derive(Clone, Copy, Debug)]

@@ -10,7 +10,7 @@ ghost use Rattle.solution.specs.Solutions.{surface_of, HasCounts};
 ghost use Rattle.scan.specs.Shown.{Shown};
 ghost use Rattle.scan.specs.Views.{shown_of};
 ghost use Rattle.scan_cut.specs.Stored.{IsStoreOf};
-ghost use Rattle.vote_net.specs.Counts.{AreCountsOf};
+ghost use Rattle.cell_net.specs.Counts.{AreCountsOf};
 ghost use Rattle.recon_check.specs.Answers.{IsFault, IsSolvedWith, IsAccepted, IsYes, IsYesWhereSolved, IsAnswer};
 ghost use Rattle.recon_check.specs.Surfaces.{AreShownLabels, IsBestSurface};
 ghost use Rattle.recon_check.specs.Stops.{StopsFor};
@@ -27,12 +27,11 @@ use cert_text::{CertRefusal, Certificate, Stamp, read_cert};
 use flow_net::{Labels, Settings, cost};
 use mesh_ply::{Mesh, push_mesh};
 use scan::Scan;
-use scan_cut::counted_cells_with;
+use scan_cut::{Votes, counted_cells_with};
 use solution::seen_in;
 use std::alloc::{AllocError, Global};
 use surface::facets_by_number;
 use tetra_store::Tetra;
-use votes::Votes;
 use watch::{Silent, Watch};
 
 /// The numbers of a surface that the certificate shows best and whose text is the mesh.

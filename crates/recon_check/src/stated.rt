@@ -1,5 +1,5 @@
 //! What a certificate states about linked cells, by the numbers of cells and sides. It depends on the search for rows, on the cells of
-//! `tetra_store` and on the rows and facets of `vote_net`.
+//! `tetra_store` and on the rows and facets of `cell_net`.
 //!
 //! A loop over all cell numbers looks each cell up among the rows and writes its number at the row that names it. A row without a number
 //! names no cell of the scan; the numbers of the others are the indices of labels and amounts.
@@ -22,11 +22,11 @@ ghost use Rattle.recon_check.specs.Stops.{StopsFor};
 use crate::lookup::{find, starts_of};
 use crate::stop::Stop;
 use crate::{NoMemory, Reason};
+use cell_net::{cell_row, facet_row, flag};
 use cert_text::{Certificate, FlowRow, Row, SinkRow};
 use flow_net::{Flow, Labels, Sequence};
 use std::alloc::Global;
 use tetra_store::Tetra;
-use vote_net::{cell_row, facet_row, flag};
 
 /// What a certificate states about cells and sides, by their numbers in the store: side k of a cell has number 4 * id + k.
 #[derive(Drop)]

@@ -17,11 +17,11 @@ use Rattle.tetra_store.specs.declared.link.Cell.{Cell}
 use Rattle.visibility.specs.Listings.{AgreeInAnyOrder}
 use Rattle.visibility.specs.Scenes.{Scene}
 use Rattle.visibility.proofs.ListingAgreements.{with_rising}
-use Rattle.vote_net.specs.Counts.{AreCountsOf}
-use Rattle.vote_net.specs.StoreLaws.{IsStoreNetwork}
-use Rattle.vote_net.specs.StoredComplexes.{stored_complex}
-use Rattle.vote_net.proofs.StoreLaws.{store_network_law}
-use Rattle.vote_net.proofs.SceneNetwork.{back, side_of, says_of_cells, says_of_sides}
+use Rattle.cell_net.specs.Counts.{AreCountsOf}
+use Rattle.cell_net.specs.StoreLaws.{IsStoreNetwork}
+use Rattle.cell_net.specs.StoredComplexes.{stored_complex}
+use Rattle.cell_net.proofs.StoreLaws.{store_network_law}
+use Rattle.cell_net.proofs.SceneNetwork.{back, side_of, says_of_cells, says_of_sides}
 use Rattle.scan_cut.specs.MinimumCuts.{IsCutOf}
 use Rattle.scan_cut.specs.declared.cutting.MinimumCut.{MinimumCut}
 

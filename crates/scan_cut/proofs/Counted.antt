@@ -2,7 +2,7 @@
 use Rattle.std.proofs.Common.{ℕ, ◌≡◌, sym, subst, Bool, List}
 use Rattle.tetra_store.specs.Store.{Store}
 use Rattle.visibility.specs.Scenes.{Scene}
-use Rattle.vote_net.specs.Counts.{AreCountsOf}
+use Rattle.cell_net.specs.Counts.{AreCountsOf}
 
 pub counts_are : (s : Scene) (store given : Store) (crossed behind xs ys : List ℕ) (fixed flags : List Bool)
     → AreCountsOf s store.slots crossed behind fixed → given ≡ store → xs ≡ crossed → ys ≡ behind → flags ≡ fixed

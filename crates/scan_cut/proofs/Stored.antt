@@ -14,8 +14,8 @@ use Rattle.solution.specs.Scans.{points_of, scene_of_scan}
 use Rattle.tetra_store.specs.Delaunay.{IsDelaunay}
 use Rattle.tetra_store.specs.Links.{links_of}
 use Rattle.tetra_store.specs.Store.{Store}
-use Rattle.vote_net.specs.Counts.{AreCellsOf}
-use Rattle.vote_net.proofs.Stored.{listed, live}
+use Rattle.cell_net.specs.Counts.{AreCellsOf}
+use Rattle.cell_net.proofs.Stored.{listed, live}
 use Rattle.scan_cut.specs.Stored.{IsStoreOf}
 
 -- there are eight corners before the points

@@ -1,2 +1,5 @@
+pub mod Counts
+pub mod Lines
+pub mod Ordering
 pub mod Stored
 pub mod MinimumCuts

@@ -9,8 +9,8 @@ use Rattle.visibility.specs.Cuts.{cost as cost_over, IsLeastInside}
 use Rattle.visibility.specs.Flows.{value, IsValidFlow}
 use Rattle.visibility.specs.Listings.{IsListingOf}
 use Rattle.visibility.specs.Scenes.{Scene}
-use Rattle.vote_net.specs.ByNumber.{SaysOfCells, SaysOfSides, IsZeroElsewhere}
-use Rattle.vote_net.specs.StoredComplexes.{stored_complex}
+use Rattle.cell_net.specs.ByNumber.{SaysOfCells, SaysOfSides, IsZeroElsewhere}
+use Rattle.cell_net.specs.StoredComplexes.{stored_complex}
 use Rattle.scan_cut.specs.declared.cutting.MinimumCut.{MinimumCut}
 
 -- no labels cost less than the value of the flow; labels and amounts agree with these functions of cells and facets

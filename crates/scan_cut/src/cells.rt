@@ -1,5 +1,5 @@
 //! The linked cells of a scan and the counts from which the network over them is made. Depends on `delaunay`, which makes the
-//! cells, and on `votes`, which accumulates the visibility weights.
+//! cells.
 
 ghost use Rattle.std.specs.Prelude.{◌≡◌, ◌<◌, ◌^◌, IfOk, length};
 ghost use Rattle.scan.specs.Views.{shown_of};
@@ -7,17 +7,17 @@ ghost use Rattle.solution.specs.Scans.{points_of, scene_of_scan, sights_of};
 ghost use Rattle.tetra_store.specs.Delaunay.{IsDelaunay};
 ghost use Rattle.tetra_store.specs.Links.{links_of};
 ghost use Rattle.tetra_store.specs.Store.{vertices_of};
-ghost use Rattle.vote_net.specs.Counts.{AreCountsOf};
+ghost use Rattle.cell_net.specs.Counts.{AreCountsOf};
 ghost use Rattle.scan_cut.specs.Stored.{IsStoreOf};
 
 use crate::NoMemory;
+use crate::counting::{Votes, counted};
 use delaunay::build_watched;
 use flow_net::Settings;
 use scan::Scan;
 use solution::{SeenPoints, seen_in};
 use std::alloc::Global;
 use tetra_store::Tetra;
-use votes::{Votes, counted};
 use watch::Watch;
 
 /// Returns the linked Delaunay cells of a scan's points, and the accumulated visibility weights of its sights. Reports both

@@ -3,17 +3,17 @@
 ghost use Rattle.std.specs.Prelude.{◌<◌, ◌^◌, IfOk, length};
 ghost use Rattle.scan.specs.Views.{shown_of};
 ghost use Rattle.solution.specs.Scans.{scene_of_scan};
-ghost use Rattle.vote_net.specs.Counts.{AreCountsOf};
+ghost use Rattle.cell_net.specs.Counts.{AreCountsOf};
 ghost use Rattle.scan_cut.specs.MinimumCuts.{IsCutOf};
 
 use crate::NoMemory;
+use crate::counting::Votes;
 use cell_net::CellNetwork;
 use flow_net::{Flow, Labels, Settings, cost};
 use max_flow::minimum_cut_watched;
 use scan::Scan;
 use std::alloc::Global;
 use tetra_store::Tetra;
-use votes::Votes;
 use watch::Watch;
 
 /// The minimum cut of a scan's cells, by the numbers of cells and sides in the store: label v is that of the cell with number

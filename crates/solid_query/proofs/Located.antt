@@ -24,9 +24,9 @@ use Rattle.solution.specs.Scans.{points_of, scene_of_scan}
 use Rattle.surface.proofs.Listed.{row_in}
 use Rattle.tetra_store.specs.Links.{links_of}
 use Rattle.tetra_store.specs.Store.{Store, vertices_at, vertices_of}
-use Rattle.vote_net.proofs.CellRows.{risen_written}
-use Rattle.vote_net.proofs.Stored.{listed}
-use Rattle.vote_net.specs.Counts.{row_of}
+use Rattle.cell_net.proofs.CellRows.{risen_written}
+use Rattle.cell_net.proofs.Stored.{listed}
+use Rattle.cell_net.specs.Counts.{row_of}
 use Rattle.solid_query.specs.Labels.{IsLabelOf, AreLabels}
 use Rattle.solid_query.specs.Solids.{IsSolid, IsFlaggedAs, AreFlagged}
 

@@ -18,7 +18,7 @@ use Rattle.tetra_store.specs.Store.{Store, vertices_of}
 use Rattle.visibility.specs.Complexes.{Complex}
 use Rattle.visibility.specs.Cuts.{IsLeastInside}
 use Rattle.visibility.specs.Votes.{IsComplexOf}
-use Rattle.vote_net.specs.Counts.{AreCellsOf, row_of}
+use Rattle.cell_net.specs.Counts.{AreCellsOf, row_of}
 
 -- the Delaunay cells of the box's corners and the scan's distinct points, and for each by its number whether it is in the
 -- minimum cut with the smallest inside

@@ -25,14 +25,14 @@ use Rattle.visibility.specs.Votes.{has_corner}
 use Rattle.tetra_store.specs.declared.link.Cell.{Cell}
 use Rattle.tetra_store.specs.Links.{links_of, IsLinked, IsLive}
 use Rattle.tetra_store.specs.Stored.{live_of}
-use Rattle.vote_net.specs.declared.sides.Side.{Side}
-use Rattle.vote_net.specs.CellRows.{least_first}
-use Rattle.vote_net.specs.CutSides.{AreCutSides, IsCutSide}
-use Rattle.vote_net.specs.Tables.{facet_of_side}
-use Rattle.vote_net.proofs.CellRows.{least_rotated}
-use Rattle.vote_net.proofs.Entries.{map_has, map_gets}
-use Rattle.vote_net.proofs.Nodes.{no_side}
-use Rattle.vote_net.proofs.Stored as stored
+use Rattle.cell_net.specs.declared.sides.Side.{Side}
+use Rattle.cell_net.specs.CellRows.{least_first}
+use Rattle.cell_net.specs.CutSides.{AreCutSides, IsCutSide}
+use Rattle.cell_net.specs.Parts.{facet_of_side}
+use Rattle.cell_net.proofs.CellRows.{least_rotated}
+use Rattle.cell_net.proofs.Entries.{map_has, map_gets}
+use Rattle.cell_net.proofs.Nodes.{no_side}
+use Rattle.cell_net.proofs.Stored as stored
 use Rattle.surface.specs.Closed.{IsClosed}
 use Rattle.surface.specs.Labelled.{NoneHasCorner}
 use Rattle.surface.proofs.StoreCut.{one_of_facet}

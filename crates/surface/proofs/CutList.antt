@@ -25,12 +25,12 @@ use Rattle.visibility.proofs.Indices.{first_within}
 use Rattle.tetra_store.specs.declared.link.Cell.{Cell}
 use Rattle.tetra_store.specs.Links.{links_of}
 use Rattle.tetra_store.specs.Stored.{live_of}
-use Rattle.vote_net.specs.ByNumber.{SaysOfCells}
-use Rattle.vote_net.specs.CellRows.{least_first}
-use Rattle.vote_net.specs.Counts.{AreCellsOf, row_of}
-use Rattle.vote_net.proofs.CellRows.{IsSideOf, row_has_side}
-use Rattle.vote_net.proofs.CellSides.{across_has, has_across, has_is}
-use Rattle.vote_net.proofs.Stored.{listed, live}
+use Rattle.cell_net.specs.ByNumber.{SaysOfCells}
+use Rattle.cell_net.specs.CellRows.{least_first}
+use Rattle.cell_net.specs.Counts.{AreCellsOf, row_of}
+use Rattle.cell_net.proofs.CellRows.{IsSideOf, row_has_side}
+use Rattle.cell_net.proofs.CellSides.{across_has, has_across, has_is}
+use Rattle.cell_net.proofs.Stored.{listed, live}
 use Rattle.surface.specs.Labelled.{AreCutFacets, AreLabelsOver, IsCutFacet, NoneHasCorner}
 use Rattle.surface.proofs.Listed as rows
 

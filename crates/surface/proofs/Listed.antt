@@ -21,11 +21,11 @@ use Rattle.visibility.proofs.Indices.{once_rising, once_permuted, row_index_at}
 use Rattle.tetra_store.specs.declared.link.Cell.{Cell}
 use Rattle.tetra_store.specs.Links.{links_of, IsLive}
 use Rattle.tetra_store.specs.Stored.{live_of}
-use Rattle.vote_net.specs.ByNumber.{SaysOfCells}
-use Rattle.vote_net.specs.Counts.{AreCellsOf, AreIdsOf, row_of}
-use Rattle.vote_net.proofs.CellCounts.{cell_count_law}
-use Rattle.vote_net.proofs.CellRows.{risen_row}
-use Rattle.vote_net.proofs.Stored.{listed, live}
+use Rattle.cell_net.specs.ByNumber.{SaysOfCells}
+use Rattle.cell_net.specs.Counts.{AreCellsOf, AreIdsOf, row_of}
+use Rattle.cell_net.proofs.CellCounts.{cell_count_law}
+use Rattle.cell_net.proofs.CellRows.{risen_row}
+use Rattle.cell_net.proofs.Stored.{listed, live}
 use Rattle.surface.specs.Labelled.{NoneHasCorner}
 
 module _ (s : Scene) (slots : List (Option Cell)) (cells : AreCellsOf s slots) (complex : Complex)

@@ -16,8 +16,8 @@ use Rattle.visibility.specs.Votes.{IsComplexOf}
 use Rattle.visibility.proofs.ListingAgreements.{with_rising}
 use Rattle.visibility.proofs.Indices.{once_rising, same_index}
 use Rattle.tetra_store.specs.declared.link.Cell.{Cell}
-use Rattle.vote_net.specs.ByNumber.{SaysOfCells}
-use Rattle.vote_net.specs.Counts.{AreCellsOf, AreIdsOf, row_of}
+use Rattle.cell_net.specs.ByNumber.{SaysOfCells}
+use Rattle.cell_net.specs.Counts.{AreCellsOf, AreIdsOf, row_of}
 use Rattle.surface.specs.Labelled.{AreAllLive, AreDistinctNumbers, AreLabelsOver, listed_label}
 use Rattle.surface.proofs.Listed.{index_of, says_by_number}
 

@@ -16,15 +16,15 @@ use Rattle.cell_laws.proofs.OneFacet.{one_side}
 use Rattle.mesh_ply.specs.Meshes.{IsFace, IsFaceList}
 use Rattle.tetra_store.specs.declared.link.Cell.{Cell}
 use Rattle.tetra_store.specs.Links.{links_of, IsLinked, IsLive}
-use Rattle.vote_net.specs.declared.sides.Side.{Side}
-use Rattle.vote_net.specs.CellRows.{least_first, facet_row}
-use Rattle.vote_net.specs.CutSides.{IsCutSide}
-use Rattle.vote_net.specs.Gathered.{facet_key}
-use Rattle.vote_net.specs.Tables.{facet_of_side}
-use Rattle.vote_net.proofs.CellRows.{least_rotated, side_least}
-use Rattle.vote_net.proofs.Entries.{map_has, map_gets}
-use Rattle.vote_net.proofs.KeyOrders.{AreSmallOf, facets_before}
-use Rattle.vote_net.proofs.Nodes.{no_side}
+use Rattle.cell_net.specs.declared.sides.Side.{Side}
+use Rattle.cell_net.specs.CellRows.{least_first, facet_row}
+use Rattle.cell_net.specs.CutSides.{IsCutSide}
+use Rattle.cell_net.specs.Gathered.{facet_key}
+use Rattle.cell_net.specs.Parts.{facet_of_side}
+use Rattle.cell_net.proofs.CellRows.{least_rotated, side_least}
+use Rattle.cell_net.proofs.Entries.{map_has, map_gets}
+use Rattle.cell_net.proofs.KeyOrders.{AreSmallOf, facets_before}
+use Rattle.cell_net.proofs.Nodes.{no_side}
 use Rattle.surface.specs.Labelled.{AreCutFacets, IsCutFacet, IsSortedCut}
 
 -- ---- three distinct vertices below a limit

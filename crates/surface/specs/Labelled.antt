@@ -28,13 +28,13 @@ use Rattle.visibility.specs.Cuts.{IsAdmissible, cut_facets}
 use Rattle.visibility.specs.Votes.{has_corner, IsComplexOf}
 use Rattle.tetra_store.specs.declared.link.Cell.{Cell}
 use Rattle.tetra_store.specs.Links.{links_of, IsLive}
-use Rattle.vote_net.specs.declared.sides.Side.{Side}
-use Rattle.vote_net.specs.ByNumber.{SaysOfCells}
-use Rattle.vote_net.specs.CellRows.{facet_row}
-use Rattle.vote_net.specs.Counts.{AreCellsOf}
-use Rattle.vote_net.specs.CutSides.{AreCutSides}
-use Rattle.vote_net.specs.Gathered.{key_of_side}
-use Rattle.vote_net.specs.Tables.{facet_of_side}
+use Rattle.cell_net.specs.declared.sides.Side.{Side}
+use Rattle.cell_net.specs.ByNumber.{SaysOfCells}
+use Rattle.cell_net.specs.CellRows.{facet_row}
+use Rattle.cell_net.specs.Counts.{AreCellsOf}
+use Rattle.cell_net.specs.CutSides.{AreCutSides}
+use Rattle.cell_net.specs.Gathered.{key_of_side}
+use Rattle.cell_net.specs.Parts.{facet_of_side}
 
 -- equal numbers have the same index
 abbrev pub AreDistinctNumbers : List ℕ → Type 0

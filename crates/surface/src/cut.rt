@@ -2,13 +2,13 @@
 
 ghost use Rattle.std.specs.Prelude.{◌≡◌, ◌<◌, ℕ, IfOk, not, map};
 ghost use Rattle.flow_net.specs.Nets.{flag_at};
-ghost use Rattle.vote_net.specs.Tables.{facet_of_side};
+ghost use Rattle.cell_net.specs.Parts.{facet_of_side};
 ghost use Rattle.surface.specs.Labelled.{IsSortedCut};
 
 use crate::NoMemory;
+use cell_net::{Side, sorted_cut};
 use std::alloc::Global;
 use tetra_store::Tetra;
-use vote_net::{Side, sorted_cut};
 
 /// Returns which cells are outside, by their numbers in the store, which are below `limit`.
 pub(crate) fn outside_flags(

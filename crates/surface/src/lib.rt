@@ -4,7 +4,7 @@
 //! `cut` finds the facets in one pass over the cells, and sorts only these. `mesh` makes the mesh of them.
 //!
 //! The labels are passed in, in the order of a list of all cells (`facets`) or at the cells' numbers (`facets_by_number`);
-//! `numbered` converts the former to the latter. The crate depends on `tetra_store` (linked cells), `vote_net` (their sides),
+//! `numbered` converts the former to the latter. The crate depends on `tetra_store` (linked cells), `cell_net` (their sides),
 //! `mesh_ply` (the mesh of a list of facets), and the theorems of `cell_laws` by which the facets are closed.
 #![tactic(auto)]
 

@@ -20,7 +20,7 @@ use Rattle.tetra_store.specs.Links.{links_of}
 use Rattle.tetra_store.specs.Store.{Store}
 use Rattle.tetra_store.specs.declared.link.Cell.{Cell}
 use Rattle.visibility.specs.Scenes.{Scene, scene_of}
-use Rattle.vote_net.specs.Counts.{AreCountsOf}
+use Rattle.cell_net.specs.Counts.{AreCountsOf}
 use Rattle.sweep.specs.Entries.{CostsLeast}
 use Rattle.sweep.specs.Swept.{HasLargest, IsKept}
 use Rattle.sweep.proofs.Scenes.{counts_to, scene_kept}

@@ -8,7 +8,7 @@ use Rattle.solution.specs.Scans.{points_of, scene_of_scan, sights_of}
 use Rattle.tetra_store.specs.declared.link.Cell.{Cell}
 use Rattle.visibility.specs.Scenes.{scene_of}
 use Rattle.visibility.specs.Votes.{crossings, sights_before}
-use Rattle.vote_net.specs.Counts.{AreCountsOf}
+use Rattle.cell_net.specs.Counts.{AreCountsOf}
 
 -- the scene of a scan whose points, scanners and sights these are
 pub scene_kept : (scan : Shown) (points scanners : List Point) (sights : List Sight) (settings : Settings)

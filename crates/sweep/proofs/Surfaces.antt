@@ -24,7 +24,7 @@ use Rattle.visibility.specs.Cuts.{cut_facets}
 use Rattle.visibility.specs.Listings.{AgreeInAnyOrder}
 use Rattle.visibility.specs.Scenes.{Scene, scene_of}
 use Rattle.visibility.proofs.ListingAgreements.{with_rising}
-use Rattle.vote_net.specs.StoredComplexes.{stored_complex}
+use Rattle.cell_net.specs.StoredComplexes.{stored_complex}
 use Rattle.sweep.specs.Entries.{CostsLeast, AreBestLabels, IsSurfaceOf}
 use Rattle.sweep.specs.Swept.{IsKept}
 use Rattle.sweep.proofs.Scenes.{scene_kept}

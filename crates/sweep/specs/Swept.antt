@@ -23,7 +23,7 @@ use Rattle.solution.specs.Scans.{points_of, sights_of}
 use Rattle.tetra_store.specs.Store.{Store}
 use Rattle.tetra_store.specs.declared.link.Cell.{Cell}
 use Rattle.visibility.specs.Scenes.{Scene, scene_of}
-use Rattle.vote_net.specs.Counts.{AreCountsOf}
+use Rattle.cell_net.specs.Counts.{AreCountsOf}
 use Rattle.sweep.specs.Entries.{CostsLeast, Given, given_scene}
 
 -- the distinct points, the scanners, the sights, the weights, the cell at each number, and an amount for each side and for each

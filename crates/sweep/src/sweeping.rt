@@ -17,13 +17,12 @@ use geo_sign::Point;
 use max_flow::{KeptPreflow, minimum_cut_above, minimum_cut_and_preflow_watched};
 use mesh_ply::Mesh;
 use scan::Scan;
-use scan_cut::counted_cells_with;
+use scan_cut::{Votes, counted_cells_with};
 use solution::{SeenPoints, seen_in};
 use std::alloc::Global;
 use std::marker::Model;
 use surface::facets_by_number;
 use tetra_store::Tetra;
-use votes::Votes;
 use watch::{Silent, Watch};
 
 /// The best surface of a scan at one area weight, with a maximum flow, which is kept when the weight is raised.

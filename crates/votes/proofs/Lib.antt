@@ -1,4 +1,3 @@
-pub mod WalkCounts
-pub mod Tallies
-pub mod Flags
-pub mod Scenes
+mod NumberedTables
+mod SideArcs
+mod Assembled

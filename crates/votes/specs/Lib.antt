@@ -1,3 +1,1 @@
-pub mod Counts
-pub mod Lines
-pub mod Ordering
+pub mod Tables

@@ -1,25 +1,24 @@
-//! Accumulates the visibility weights of a scan's sights over the linked Delaunay cells of its points.
+//! The network of linked Delaunay cells as lists, from the sights of a scan: a node for each cell, an arc for each directed facet
+//! with a free adjacent cell, both in ascending order.
 //!
-//! `counted` walks along each sight once, from its point to its scanner, and adds its weight to each directed facet that it
-//! crosses and to the cell behind its point, by the numbers of cells in the store. Run time is proportional to the number of
-//! crossings. The program uses these lists directly: `cell_net` combines them with the store to an implicit network.
-//! `count_votes` returns the network as lists of nodes and arcs in ascending order (`assemble` of `vote_net`). It is for users
-//! of the crate and for tests; the program does not call it.
+//! It is for users of the crates and for tests. The program works on cells and counts (`cell_net`, `scan_cut`), and no crate on
+//! its path depends on this one.
 //!
-//! `fixing` finds the cells of the scanners and the cells fixed outside, `ordering` sorts the sights so that successive ones
-//! cross much the same cells, `tally` counts along them, two at a time, and `counting` has the two calls. The crate depends on
-//! `tetra_store` (linked cells), `tetra_walk` and `sight` (the walks), `visibility` (scenes and their networks), `cell_net` and
-//! `vote_net`.
+//! `counting` has the call (`count_votes`), which counts with `scan_cut`. `network` makes of what is counted the network as lists
+//! (`assemble`): `sides` sorts the directed facets that have a capacity, `tables` finds the indices of nodes and arcs, and `arcs`
+//! makes the arcs. The crate depends on `scan_cut` (the counts), `cell_net` (cells and sides as sorted lists), `visibility`
+//! (scenes and their networks) and `flow_net` (networks as lists).
 #![tactic(auto)]
 
+mod arcs;
 mod counting;
-mod fixing;
-mod ordering;
-mod tally;
+mod network;
+mod sides;
+mod tables;
 
-pub use counting::{Votes, count_votes, counted};
+pub use counting::count_votes;
+pub use network::Counted;
 use std::alloc::AllocError;
-pub use vote_net::Counted;
 
 /// Out of memory: the one error that any input may cause.
 pub type NoMemory = AllocError;

@@ -1,5 +1,5 @@
 //! `cells IN OUT`, its arguments, answer and lines: the Delaunay cells of a scan's points and the box's corners. Depends on
-//! `merge`, which finds the distinct points, on `delaunay`, which links their cells, and on `vote_net`, which lists these.
+//! `merge`, which finds the distinct points, on `delaunay`, which links their cells, and on `cell_net`, which lists these.
 ghost use Rattle.std.specs.List.{flat_map};
 ghost use Rattle.std.specs.Prelude.{map, string_bytes, ◌≡◌, false, IfOk, ◌++◌, OnOk};
 ghost use Rattle.geo_sign.specs.Cells.{IsCellList};
@@ -21,6 +21,7 @@ use crate::options::{Key, Options};
 use crate::reply::{Line, Reply, Stop, Text, refusal};
 use crate::status::Status;
 use crate::whole_run::{Reading, read_input};
+use cell_net::rising_cells;
 use delaunay::build_watched;
 use geo_sign::Point;
 use host::Host;
@@ -28,7 +29,6 @@ use merge::merge;
 use num_text::{push_ended, push_whole};
 use scan::Scan;
 use std::alloc::Global;
-use vote_net::rising_cells;
 use watch::Watch;
 
 /// The options of `cells`.

@@ -1,6 +1,6 @@
 use Rattle.std.proofs.lemmas.List.Sorted.{IsNonDecreasingBy-from_sort, answers_always}
 use Rattle.std.proofs.Common.{rules}
-use Rattle.vote_net.specs.Gathered.{row_key}
+use Rattle.cell_net.specs.Gathered.{row_key}
 use Rattle.recon_build.proofs.rows.sort_cells.Goals as goal
 
 pub returns-clause-sorted : goal.returns-clause-sorted

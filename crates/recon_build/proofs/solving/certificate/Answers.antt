@@ -12,9 +12,9 @@ use Rattle.scan.proofs.ShownLemmas.{scan_is_shown}
 use Rattle.scan.specs.Views.{shown_of}
 use Rattle.tetra_store.specs.declared.link.Cell.{Cell}
 use Rattle.visibility.specs.Scenes.{Scene}
-use Rattle.vote_net.specs.ByNumber.{SaysOfCells, SaysOfSides, IsZeroElsewhere}
-use Rattle.vote_net.specs.StoredComplexes.{stored_cells, stored_facets}
-use Rattle.vote_net.specs.StoredComplexes.{stored_complex}
+use Rattle.cell_net.specs.ByNumber.{SaysOfCells, SaysOfSides, IsZeroElsewhere}
+use Rattle.cell_net.specs.StoredComplexes.{stored_cells, stored_facets}
+use Rattle.cell_net.specs.StoredComplexes.{stored_complex}
 use Rattle.solution.specs.Scans.{points_of, scene_of_scan}
 use Rattle.solution.specs.Solutions.{flow_rows, sink_rows}
 use Rattle.solution.proofs.Certificates.{certificate_is}

@@ -15,8 +15,8 @@ use Rattle.surface.proofs.ListedLabels.{labels_over}
 use Rattle.tetra_store.specs.Store.{Store}
 use Rattle.visibility.specs.Scenes.{Scene}
 use Rattle.visibility.proofs.ListingAgreements.{with_rising}
-use Rattle.vote_net.specs.Counts.{AreCellsOf}
-use Rattle.vote_net.specs.StoredComplexes.{stored_complex}
+use Rattle.cell_net.specs.Counts.{AreCellsOf}
+use Rattle.cell_net.specs.StoredComplexes.{stored_complex}
 use Rattle.scan_cut.specs.MinimumCuts.{IsCutOf}
 use Rattle.scan_cut.specs.declared.cutting.MinimumCut.{MinimumCut}
 use Rattle.recon_build.proofs.solving.solve_over.Goals as goal

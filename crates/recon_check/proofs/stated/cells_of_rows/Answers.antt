@@ -2,8 +2,8 @@ use Rattle.std.proofs.Common.{ℕ, ◌+◌, ◌∙◌, List, Vec, Global, map, a
 use Rattle.std.proofs.lemmas.List.{with_items_is}
 use Rattle.geo_sign.specs.Tetrahedron.{Tetrahedron}
 use Rattle.tetra_store.specs.Links.{links_of, IsLive}
-use Rattle.vote_net.specs.CellRows.{risen, row_from}
-use Rattle.vote_net.specs.Counts.{row_of}
+use Rattle.cell_net.specs.CellRows.{risen, row_from}
+use Rattle.cell_net.specs.Counts.{row_of}
 use Rattle.recon_check.specs.Lookups.{AreCellsFound, IsNoted}
 use Rattle.recon_check.proofs.Lookups.{found_missed, found_more}
 use Rattle.recon_check.proofs.stated.cells_of_rows.Goals as goal

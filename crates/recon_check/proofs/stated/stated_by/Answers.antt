@@ -10,7 +10,7 @@ use Rattle.cert_text.specs.declared.certificate.SinkRow.{SinkRow}
 use Rattle.flow_net.specs.Firsts.{IsFirst}
 use Rattle.flow_net.specs.Nets.{flag_at}
 use Rattle.tetra_store.specs.Links.{links_of}
-use Rattle.vote_net.specs.Counts.{row_of}
+use Rattle.cell_net.specs.Counts.{row_of}
 use Rattle.recon_check.specs.Claims.{flow_facets, sink_cells}
 use Rattle.recon_check.specs.Lookups.{is_open_side, side_facet, AreNumbersApart, AreFound}
 use Rattle.recon_check.proofs.StatedRows.{AreAllFound, AreBelow, ArePlacedAt, all_there, cells_covered, is_stated}

@@ -3,7 +3,7 @@ use Rattle.geo_sign.specs.Point.{origin}
 use Rattle.scan.proofs.ShownLemmas.{scan_is_shown}
 use Rattle.scan.specs.Views.{shown_of}
 use Rattle.visibility.specs.Scenes.{Scene}
-use Rattle.vote_net.specs.Counts.{AreCountsOf}
+use Rattle.cell_net.specs.Counts.{AreCountsOf}
 use Rattle.solution.proofs.ScanScenes.{points_within, points_apart}
 use Rattle.solution.proofs.SightLists.{few_points}
 use Rattle.scan_cut.proofs.Stored.{store_is}

@@ -4,7 +4,7 @@ use Rattle.scan.specs.Views.{shown_of}
 use Rattle.solution.specs.Scans.{scene_of_scan}
 use Rattle.tetra_store.specs.Store.{Store}
 use Rattle.visibility.specs.Scenes.{Scene}
-use Rattle.vote_net.specs.Counts.{AreCountsOf}
+use Rattle.cell_net.specs.Counts.{AreCountsOf}
 use Rattle.scan_cut.specs.MinimumCuts.{IsCutOf}
 use Rattle.scan_cut.proofs.CellCuts.{cut_is, cost_fits}
 use Rattle.scan_cut.proofs.Counted.{counts_are}

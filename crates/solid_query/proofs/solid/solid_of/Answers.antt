@@ -5,7 +5,7 @@ use Rattle.solution.specs.Scans.{scene_of_scan}
 use Rattle.tetra_store.proofs.Observed.{slot_in}
 use Rattle.visibility.proofs.ListingAgreements.{with_rising}
 use Rattle.visibility.specs.Scenes.{Scene}
-use Rattle.vote_net.specs.StoredComplexes.{stored_complex}
+use Rattle.cell_net.specs.StoredComplexes.{stored_complex}
 use Rattle.solid_query.proofs.solid.solid_of.Goals as goal
 
 pub returns : goal.returns

@@ -1,5 +1,5 @@
 use Rattle.std.proofs.Common.{◌≡◌, map, take}
-use Rattle.vote_net.specs.Tables.{facet_of_side}
+use Rattle.cell_net.specs.Parts.{facet_of_side}
 use Rattle.surface.proofs.cut.facets_of.Given as goal
 
 abbrev pub invariant-loop-side : goal.invariant-loop-side

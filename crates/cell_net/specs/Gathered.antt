@@ -1,0 +1,69 @@
+-- Cells and sides as the code lists them.
+--
+--   row_at e, side_at e k    the sorted vertex tuple of a cell with its id, the side k of it
+--   open_at fixed e          its sides with a free adjacent cell
+--   cut_at outside e         the sides of an outside cell with an inside adjacent cell
+--   all_rows slots           the rows of all live cells, by ascending id
+--   all_open, all_cut        all sides with a free adjacent cell, and all between outside and inside, by ascending id and side
+--   row_key, facet_key       numbers by which rows and facets are sorted
+use Rattle.std.specs.Prelude.{ℕ, ◌*◌, ◌+◌, ◌++◌, Bool, Option, None, List, [], ◌∷◌, map, slice_index}
+use Rattle.std.specs.Prelude.{slice_index_or, if◌then◌else◌}
+use Rattle.std.specs.List.{flat_map}
+use Rattle.slab.specs.Slab.{entries_from}
+use Rattle.cell_net.specs.Arcs.{is_free}
+use Rattle.flow_net.specs.Nets.{flag_at}
+use Rattle.tetra_store.specs.declared.link.Cell.{Cell}
+use Rattle.tetra_store.specs.Links.{tetrahedron_from}
+use Rattle.cell_net.specs.declared.rows.Row.{Row}
+use Rattle.cell_net.specs.declared.sides.Side.{Side}
+use Rattle.cell_net.specs.CellRows.{risen, row_from, facet_row}
+
+-- its vertices in ascending order
+abbrev pub row_at : ℕ × Cell → Row
+row_at e = record { cell = row_from (risen (tetrahedron_from e.1.v)); id = e.0 }
+
+-- its facet as the cell has it, the least vertex first
+abbrev pub side_at : ℕ × Cell → ℕ → Side
+side_at e k = record { facet = facet_row (tetrahedron_from e.1.v) k; side = k; id = e.0 }
+
+-- side k, if the adjacent cell is free
+unfoldable pub side_if_open : List Bool → ℕ × Cell → ℕ → List Side
+side_if_open fixed e k = if is_free fixed (slice_index_or e.1.next k None) then side_at e k ∷ [] else []
+
+-- those of its four sides
+abbrev pub open_at : List Bool → ℕ × Cell → List Side
+open_at fixed e = side_if_open fixed e 0 ++ (side_if_open fixed e 1 ++ (side_if_open fixed e 2 ++ side_if_open fixed e 3))
+
+-- of a cell that has a flag itself, those whose neighbor has none
+unfoldable pub cut_at : List Bool → ℕ × Cell → List Side
+cut_at outside e = if flag_at outside e.0 then open_at outside e else []
+
+-- a row for each live cell
+abbrev pub all_rows : List (Option Cell) → List Row
+all_rows slots = map row_at (entries_from 0 slots)
+
+-- the sides with a free adjacent cell
+abbrev pub all_open : List Bool → List (Option Cell) → List Side
+all_open fixed slots = flat_map (open_at fixed) (entries_from 0 slots)
+
+-- the sides of outside cells with an inside adjacent cell
+abbrev pub all_cut : List Bool → List (Option Cell) → List Side
+all_cut outside slots = flat_map (cut_at outside) (entries_from 0 slots)
+
+-- rises with the four numbers, if each is below 2 ^ 32
+abbrev pub row_key : List ℕ → ℕ
+row_key row =
+    (slice_index row 0 * 4294967296 + slice_index row 1) * 18446744073709551616 +
+    (slice_index row 2 * 4294967296 + slice_index row 3)
+
+-- by which rows of cells are sorted: cells rise as lists of numbers
+abbrev pub key_of_row : Row → ℕ
+key_of_row r = row_key r.cell
+
+-- rises with the three numbers, if each is below 2 ^ 32
+abbrev pub facet_key : List ℕ → ℕ
+facet_key f = slice_index f 0 * 18446744073709551616 + (slice_index f 1 * 4294967296 + slice_index f 2)
+
+-- by which sides are sorted: facets rise as lists of numbers
+abbrev pub key_of_side : Side → ℕ
+key_of_side x = facet_key x.facet

@@ -1,5 +1,0 @@
-use Rattle.vote_net.proofs.Stored.{stored_cells_law}
-use Rattle.vote_net.proofs.laws.stored_cells_law.Goals as goal
-
-pub returns : goal.returns
-returns c = stored_cells_law

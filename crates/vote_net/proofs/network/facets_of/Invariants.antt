@@ -1,6 +1,0 @@
-use Rattle.std.proofs.Common.{◌≡◌, map, take}
-use Rattle.vote_net.specs.Tables.{facet_of_side}
-use Rattle.vote_net.proofs.network.facets_of.Given as goal
-
-abbrev pub invariant-loop-side : goal.invariant-loop-side
-invariant-loop-side l = l.facets.items ≡ map facet_of_side (take l.side-index l.fn.sides.items)

@@ -1,5 +1,0 @@
-use Rattle.votes.proofs.Flags.{AreFirstCells}
-use Rattle.votes.proofs.fixing.scanner_cells.Given as goal
-
-abbrev pub invariant-loop-scanner : goal.invariant-loop-scanner
-invariant-loop-scanner l = AreFirstCells l.t l.scanners l.scanner-index l.cells.items
