@@ -1,14 +1,14 @@
-//! Nodes at which a flow is not balanced. It depends on the totals of `flow_valid`.
+//! Nodes at which a flow is not balanced. It depends on the totals of `max_flow`.
 
 ghost use Rattle.std.specs.Prelude.{◌≡◌, length, IfSome, IfNone};
 ghost use Rattle.flow_net.specs.Flows.{amount_in};
 ghost use Rattle.flow_net.specs.Firsts.{IsFirst, NoneBelow};
-ghost use Rattle.flow_valid.specs.Totals.{AreTotals};
+ghost use Rattle.max_flow.specs.Totals.{AreTotals};
 ghost use Rattle.flow_net.specs.Flows.{numbered_of};
 ghost use Rattle.flow_check.specs.Verdicts.{IsUnbalanced, total_out};
 
 use flow_net::{Flow, Net};
-use flow_valid::Totals;
+use max_flow::Totals;
 
 /// A free node that a flow enters with another amount than it leaves.
 #[derive(Clone, Copy, Debug, PartialEq, Eq)]

@@ -9,8 +9,7 @@ use crate::balance::unbalanced;
 use crate::limits::{fixed_inside, limit_at, over_capacity, over_sink};
 use crate::{NoMemory, Verdict};
 use flow_net::{Flow, Labels, Net, cost, value};
-use flow_valid::add_up;
-use max_flow::least_inside;
+use max_flow::{add_up, least_inside};
 use std::alloc::Global;
 
 /// The first node that is inside by these labels and outside by others, if there is one.

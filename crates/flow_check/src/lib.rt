@@ -6,7 +6,7 @@
 //!
 //! `verdict` holds the answers, `limits` finds fixed nodes inside and amounts over their limits, `balance` finds nodes at which
 //! a flow is not balanced, `checking` puts them together, and `laws` says what holds of all verdicts. The crate depends on
-//! `flow_net`, on `flow_valid` (what enters and leaves each node), and on `max_flow` (minimum cut with the smallest inside).
+//! `flow_net` and `max_flow` (what enters and leaves each node, and the minimum cut with the smallest inside).
 #![tactic(auto)]
 
 mod balance;

@@ -12,8 +12,9 @@
 //! `residual` defines the residual arcs, `incidence` finds those that enter a node, `searches` searches backwards from the
 //! sinks with residual capacity, `levels` validates the levels of a hint instead, `paths` augments along paths, `phases` does
 //! so down the levels of a search, `solving` has the calls that depend on all these, and `resuming` those that resume from a
-//! valid flow. The crate depends on `flow_net`, on `flow_hint` for the hint and on `flow_valid` for its test, and reports its
-//! progress to a callback of `watch`.
+//! valid flow. `balance` adds up what enters and leaves each node, which a check that names a fault takes too, and `validity` tests
+//! whether amounts are a valid flow. The crate depends on `flow_net` and on `flow_hint` for the hint, and reports its progress to
+//! a callback of `watch`.
 //!
 //! # Example
 //!
@@ -36,6 +37,7 @@
 //! ```
 #![tactic(auto)]
 
+mod balance;
 mod incidence;
 mod levels;
 mod paths;
@@ -44,13 +46,16 @@ mod residual;
 mod resuming;
 mod searches;
 mod solving;
+mod validity;
 
+pub use balance::{Totals, add_up};
 pub use flow_hint::KeptPreflow;
 pub use resuming::{minimum_cut_above, resume};
 pub use solving::{
     least_inside, minimum_cut, minimum_cut_and_preflow, minimum_cut_and_preflow_watched,
     minimum_cut_watched, solve,
 };
+pub use validity::is_valid_flow;
 
 /// The error of a call that ran out of memory.
 pub type NoMemory = std::alloc::AllocError;

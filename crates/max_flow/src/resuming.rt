@@ -11,9 +11,9 @@ ghost use Rattle.max_flow.specs.Paths.{KeepsSinks};
 use crate::NoMemory;
 use crate::paths::has_room;
 use crate::solving::{finish, least_inside, shown_by, shown_inside};
+use crate::validity::is_valid_flow;
 use flow_hint::{Hint, KeptPreflow, find_hint_above, find_hint_on};
 use flow_net::{Flow, FlowNetwork, Labels, Sequence};
-use flow_valid::is_valid_flow;
 use std::alloc::Global;
 use watch::Silent;
 

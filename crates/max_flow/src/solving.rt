@@ -15,11 +15,11 @@ use crate::paths::{augment, bottleneck};
 use crate::phases::Phase;
 use crate::residual::ResidualArc;
 use crate::searches::{Search, search_back};
+use crate::validity::is_valid_flow;
 use flow_hint::{
     Hint, KeptPreflow, Levels, find_hint, find_hint_above_watched, find_hint_watched, find_levels,
 };
 use flow_net::{Flow, FlowNetwork, Labels, Sequence};
-use flow_valid::is_valid_flow;
 use std::alloc::Global;
 use watch::{Silent, Stage, Watch};
 

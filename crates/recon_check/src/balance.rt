@@ -1,15 +1,15 @@
-//! Cells at which a flow is not conserved. It depends on the totals of `flow_valid`.
+//! Cells at which a flow is not conserved. It depends on the totals of `max_flow`.
 
 ghost use Rattle.std.specs.Prelude.{◌≡◌, ◌<◌, ◌≤◌, ◌⊎◌, Some, IfOk, IfSome, IfNone, length};
 ghost use Rattle.flow_net.specs.Firsts.{NoneBelow};
-ghost use Rattle.flow_valid.specs.Totals.{AreTotals};
+ghost use Rattle.max_flow.specs.Totals.{AreTotals};
 ghost use Rattle.cell_net.specs.Gathered.{row_key};
 ghost use Rattle.recon_check.specs.ByRows.{numbers, IsUnbalanced, IsUnbalanceAt, IsLeastUnbalance};
 
 use crate::NoMemory;
 use cell_net::{CellNetwork, cell_key, cell_row};
 use flow_net::{Flow, FlowNetwork};
-use flow_valid::{Totals, add_up};
+use max_flow::{Totals, add_up};
 use std::alloc::Global;
 use tetra_store::Tetra;
 

@@ -18,7 +18,7 @@
 //! | `laws` | the theorem about all answers |
 //!
 //! The crate depends on `cert_text` (certificates), `solution` (points, sights and the definition of a solution), `scan_cut` (cells and
-//! weights), `cell_net` (their network), `flow_valid` and `max_flow` (totals at cells, and the minimum cut with the smallest inside) and
+//! weights), `cell_net` (their network), `max_flow` (totals at cells, and the minimum cut with the smallest inside) and
 //! `surface` (the mesh of labels).
 #![tactic(auto)]
 

@@ -3,9 +3,9 @@
 
 use super::networks::{Kind, random_net, row_with_sights};
 use flow_net::{Net, NetBuilder, cost, value};
-use flow_valid::is_valid_flow;
 use max_flow::{
-    least_inside, minimum_cut, minimum_cut_above, minimum_cut_and_preflow, resume, solve,
+    is_valid_flow, least_inside, minimum_cut, minimum_cut_above, minimum_cut_and_preflow, resume,
+    solve,
 };
 use std::alloc::Global;
 use std::test::Fail;

@@ -3,7 +3,7 @@
 //! Fewer than 2^64 amounts, each below 2^64, are added up, so no sum of 128 bits wraps.
 
 ghost use Rattle.std.specs.Prelude.{◌≡◌, length, IfOk};
-ghost use Rattle.flow_valid.specs.Totals.{AreTotals};
+ghost use Rattle.max_flow.specs.Totals.{AreTotals};
 
 use crate::NoMemory;
 use flow_net::{Flow, FlowNetwork};

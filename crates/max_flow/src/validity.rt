@@ -2,8 +2,8 @@
 
 ghost use Rattle.std.specs.Prelude.{◌≡◌, ◌↔◌, length, IfOk, IsTrue};
 ghost use Rattle.flow_net.specs.NumberedFlows.{IsValidFlow};
-ghost use Rattle.flow_valid.specs.Totals.{AreTotals};
-ghost use Rattle.flow_valid.specs.Limits.{AreWithinCapacities, AreWithinSinks, AreBalanced};
+ghost use Rattle.max_flow.specs.Totals.{AreTotals};
+ghost use Rattle.max_flow.specs.Limits.{AreWithinCapacities, AreWithinSinks, AreBalanced};
 
 use crate::NoMemory;
 use crate::balance::{Totals, add_up};

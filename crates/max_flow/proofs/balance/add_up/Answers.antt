@@ -1,6 +1,6 @@
 use Rattle.std.proofs.Common.{◌≡◌, ◌^◌, ◌<◌, get_or, rules}
-use Rattle.flow_valid.proofs.Additions.{sums_more}
-use Rattle.flow_valid.proofs.balance.add_up.Goals as goal
+use Rattle.max_flow.proofs.Additions.{sums_more}
+use Rattle.max_flow.proofs.balance.add_up.Goals as goal
 
 pub loop-arc-preserved : goal.loop-arc-preserved
 loop-arc-preserved g c =
