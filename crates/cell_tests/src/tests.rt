@@ -1,6 +1,10 @@
-//! Cells and networks compared with brute-force oracles, and examples; `points` has the fixtures.
+//! Cells and networks compared with brute-force oracles, hints and maximum flows, and examples; `points` and `flow_networks`
+//! have the fixtures.
 
+mod flow_networks;
+mod hints;
 mod insertions;
+mod largest_flows;
 mod networks;
 mod plain_networks;
 mod points;

@@ -1,7 +1,7 @@
 //! Networks of many kinds, in which the value of the flow is the cost of the labels, and flows that are resumed after
 //! capacities increase.
 
-use super::networks::{Kind, random_net, row_with_sights};
+use super::flow_networks::{Kind, random_net, row_with_sights};
 use flow_net::{Net, NetBuilder, cost, value};
 use max_flow::{
     is_valid_flow, least_inside, minimum_cut, minimum_cut_above, minimum_cut_and_preflow, resume,

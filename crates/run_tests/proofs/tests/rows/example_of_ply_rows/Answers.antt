@@ -9,7 +9,7 @@ use Rattle.ply_head.specs.declared.header.Shape.TheVariants.{One}
 use Rattle.ply_rows.specs.declared.place.Field.{Field}
 use Rattle.ply_rows.specs.declared.place.RowAt.{RowAt}
 use Rattle.ply_rows.specs.Readers.{IsInside, AreRowFields, NextRow}
-use Rattle.text_tests.proofs.tests.rows.example_of_ply_rows.Goals as goal
+use Rattle.run_tests.proofs.tests.rows.example_of_ply_rows.Goals as goal
 
 -- a field of a row lies in the body
 field_inside : (head : Header) (body : List ℕ) (at : RowAt) (fields : List Field) (number : ℕ) (f : Field) →

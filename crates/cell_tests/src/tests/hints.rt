@@ -2,7 +2,7 @@
 
 ghost use Rattle.std.specs.Prelude.{◌≡◌, length, IfOk};
 
-use super::networks::three_nodes;
+use super::flow_networks::three_nodes;
 use flow_hint::{Hint, find_hint, find_hint_above, find_hint_on, find_levels};
 use flow_net::{Flow, NetBuilder, Sequence};
 use std::alloc::Global;

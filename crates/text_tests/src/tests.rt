@@ -1,4 +1,0 @@
-//! Generated scans, and an example.
-
-mod generated_scans;
-mod rows;
