@@ -11,8 +11,8 @@ use crate::rounds::Rounds;
 use crate::sweep::Sweep;
 use crate::walk::Walk;
 use flow_net::{Flow, FlowNetwork};
+use host::{Silent, Watch};
 use std::alloc::Global;
-use watch::{Silent, Watch};
 
 /// Amounts that usually are a maximum flow, and levels of nodes in its residual network, which usually prove it. Callers must
 /// validate both.

@@ -9,8 +9,8 @@ use crate::amounts::Amounts;
 use crate::survey::Survey;
 use crate::wiring::Wiring;
 use flow_net::FlowNetwork;
+use host::{Watch, tell};
 use std::alloc::Global;
-use watch::{Watch, tell};
 
 /// The initial amounts of a hint.
 #[derive(Clone, Copy, Debug, PartialEq, Eq)]

@@ -14,7 +14,7 @@
 //! so down the levels of a search, `solving` has the calls that depend on all these, and `resuming` those that resume from a
 //! valid flow. `balance` adds up what enters and leaves each node, which a check that names a fault takes too, and `validity` tests
 //! whether amounts are a valid flow. The crate depends on `flow_net` and on `flow_hint` for the hint, and reports its progress to
-//! a callback of `watch`.
+//! a callback of `host`.
 //!
 //! # Example
 //!

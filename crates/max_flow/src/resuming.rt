@@ -14,8 +14,8 @@ use crate::solving::{finish, least_inside, shown_by, shown_inside};
 use crate::validity::is_valid_flow;
 use flow_hint::{Hint, KeptPreflow, find_hint_above, find_hint_on};
 use flow_net::{Flow, FlowNetwork, Labels, Sequence};
+use host::Silent;
 use std::alloc::Global;
-use watch::Silent;
 
 /// Returns a copy of the amounts of a flow.
 fn copied(alloc: Global, flow: &Flow) -> Result<Flow, NoMemory>

@@ -20,8 +20,8 @@ use flow_hint::{
     Hint, KeptPreflow, Levels, find_hint, find_hint_above_watched, find_hint_watched, find_levels,
 };
 use flow_net::{Flow, FlowNetwork, Labels, Sequence};
+use host::{Silent, Stage, Watch};
 use std::alloc::Global;
-use watch::{Silent, Stage, Watch};
 
 /// An augmenting path, and the node at its end.
 #[derive(Debug, Drop)]

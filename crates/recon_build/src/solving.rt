@@ -20,13 +20,13 @@ use crate::rows::{flow_rows, inside_rows, sink_rows};
 use cert_text::{Certificate, Stamp};
 use flow_net::Settings;
 use geo_sign::CORNERS;
+use host::{Silent, Watch};
 use mesh_ply::Mesh;
 use scan::Scan;
 use scan_cut::{MinimumCut, counted_cells, minimum_cut_of};
 use std::alloc::Global;
 use surface::facets_by_number;
 use tetra_store::Tetra;
-use watch::{Silent, Watch};
 
 /// A surface, and the certificate of its optimality.
 #[derive(Drop)]

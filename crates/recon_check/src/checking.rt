@@ -25,6 +25,7 @@ use crate::{Answer, NoMemory, Reason};
 use cell_net::CellNetwork;
 use cert_text::{CertRefusal, Certificate, Stamp, read_cert};
 use flow_net::{Labels, Settings, cost};
+use host::{Silent, Watch};
 use mesh_ply::{Mesh, push_mesh};
 use scan::Scan;
 use scan_cut::{Votes, counted_cells_with};
@@ -32,7 +33,6 @@ use solution::seen_in;
 use std::alloc::{AllocError, Global};
 use surface::facets_by_number;
 use tetra_store::Tetra;
-use watch::{Silent, Watch};
 
 /// The numbers of a surface that the certificate shows best and whose text is the mesh.
 #[derive(Drop)]

@@ -24,12 +24,11 @@ use check::{CheckNames, check_command, reply_to_check, upgrade_command};
 use demo::{Demo, demo_command, reply_to_demo};
 pub use export::export_mesh;
 use export::{ExportWords, export_words};
-use host::Host;
+use host::{Host, Watch};
 use slice::{SliceWords, reply_to_slice, slice_command};
 use std::alloc::Global;
 pub use sweeping::sweep_scan;
 use sweeping::{SweepWords, sweep_entries, sweep_words};
-use watch::Watch;
 
 /// A command with its names and options, and the files that it opens for reading, in order.
 #[derive(Clone, Copy, Debug)]

@@ -7,7 +7,7 @@ ghost use Rattle.real_host.specs.Real.{real_state};
 ghost use Rattle.real_host.specs.Start.{fresh_state};
 
 use crate::advice::Hints;
-use host::Host;
+use host::{Host, Watch};
 use mesh_form::{Form, ObjForm, OffForm, PlyForm};
 use real_host::{RealHost, Unnamed, arguments_after_name};
 use recon_cmd::{FILE_LIMIT, Request, Status, run, run_forms_within};
@@ -17,7 +17,6 @@ use std::io::ErrorKind;
 use std::process::ExitCode;
 use std::rt::{Env, Files};
 use std::{env, io};
-use watch::Watch;
 
 /// Runs the whole program: it ends with the status of a run on the system's arguments over the system's files and output.
 ///

@@ -14,11 +14,11 @@ use crate::NoMemory;
 use crate::counting::{Votes, counted};
 use delaunay::build_watched;
 use flow_net::Settings;
+use host::Watch;
 use scan::Scan;
 use solution::{SeenPoints, seen_in};
 use std::alloc::Global;
 use tetra_store::Tetra;
-use watch::Watch;
 
 /// Returns the linked Delaunay cells of a scan's points, and the accumulated visibility weights of its sights. Reports both
 /// stages to a progress callback. The only error is out of memory, also for 2^32 numbers of cells and more.

@@ -18,10 +18,10 @@ use crate::tally::{Counts, count_sights};
 use cell_net::StoreCounts;
 use flow_net::Sight;
 use geo_sign::Point;
+use host::Watch;
 use std::alloc::{AllocError, Global};
 use tetra_store::{CellId, Tetra};
 use visibility::Scene;
-use watch::Watch;
 
 /// Accumulated visibility weights of a scene's sights, by the numbers of cells in the store. A number without a cell has
 /// meaningless entries.

@@ -10,11 +10,11 @@ use crate::NoMemory;
 use crate::counting::Votes;
 use cell_net::CellNetwork;
 use flow_net::{Flow, Labels, Settings, cost};
+use host::Watch;
 use max_flow::minimum_cut_watched;
 use scan::Scan;
 use std::alloc::Global;
 use tetra_store::Tetra;
-use watch::Watch;
 
 /// The minimum cut of a scan's cells, by the numbers of cells and sides in the store: label v is that of the cell with number
 /// v, and the flow over side k of it is the entry at 4 * v + k.

@@ -15,11 +15,11 @@ use crate::solid::solid_of;
 use curve_order::order;
 use flow_net::Settings;
 use geo_sign::Point;
+use host::{Silent, Stage, Watch, tell};
 use scan::Scan;
 use std::alloc::Global;
 use tetra_store::Tetra;
 use tetra_walk::locate_displaced;
-use watch::{Silent, Stage, Watch, tell};
 
 /// Returns the flags of the cells that contain the perturbed points. `flags` has one for each cell by its number in the store.
 /// Each walk begins in the cell that the previous one found. Reports the number of points to a progress callback.

@@ -6,11 +6,11 @@ ghost use Rattle.solid_query.specs.Solids.{IsSolid};
 
 use crate::NoMemory;
 use flow_net::{Labels, Settings};
+use host::Watch;
 use scan::Scan;
 use scan_cut::{counted_cells, minimum_cut_of};
 use std::alloc::Global;
 use tetra_store::Tetra;
-use watch::Watch;
 
 /// The linked Delaunay cells of a scan, and which of them are inside.
 #[derive(Drop)]

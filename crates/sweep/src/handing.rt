@@ -10,10 +10,10 @@ ghost use Rattle.sweep.specs.Swept.{given_in};
 use crate::NoMemory;
 use crate::sweeping::Sweep;
 use flow_net::Settings;
+use host::{Silent, Stage, Watch};
 use mesh_form::{Form, drive};
 use scan::Scan;
 use std::alloc::Global;
-use watch::{Silent, Stage, Watch};
 
 /// The costs of the first and the last surface of a sweep.
 #[derive(Clone, Copy, Debug, PartialEq, Eq)]

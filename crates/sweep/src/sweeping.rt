@@ -14,6 +14,7 @@ use crate::NoMemory;
 use cell_net::CellNetwork;
 use flow_net::{Flow, Labels, Settings, cost};
 use geo_sign::Point;
+use host::{Silent, Watch};
 use max_flow::{KeptPreflow, minimum_cut_above, minimum_cut_and_preflow_watched};
 use mesh_ply::Mesh;
 use scan::Scan;
@@ -23,7 +24,6 @@ use std::alloc::Global;
 use std::marker::Model;
 use surface::facets_by_number;
 use tetra_store::Tetra;
-use watch::{Silent, Watch};
 
 /// The best surface of a scan at one area weight, with a maximum flow, which is kept when the weight is raised.
 ///

@@ -23,13 +23,12 @@ use crate::reply::{Line, Reply, Stop, Text, refusal};
 use crate::status::Status;
 use crate::whole_run::{Reading, read_input};
 use geo_sign::Point;
-use host::{Host, ReadRefusal, read_all};
+use host::{Host, ReadRefusal, Watch, read_all};
 use merge::merge;
 use num_text::push_ended;
 use scan::Scan;
 use solid_query::{QueryRefusal, ask_watched, read_queries};
 use std::alloc::{AllocError, Global};
-use watch::Watch;
 
 /// The names of `ask IN POINTS OUT`.
 #[derive(Clone, Copy, Debug)]

@@ -22,12 +22,11 @@ use crate::stamps::stamp_of;
 use crate::status::Status;
 use crate::whole_run::{Reading, read_input};
 use cert_text::{Certificate, push_cert};
-use host::Host;
+use host::{Host, Watch};
 use mesh_ply::push_mesh;
 use recon_build::{Solved, solve_scan_watched};
 use scan::Scan;
 use std::alloc::Global;
-use watch::Watch;
 
 /// The names of `build IN MESH CERT`.
 #[derive(Clone, Copy, Debug)]

@@ -24,12 +24,11 @@ use crate::whole_run::{Reading, read_input};
 use cell_net::rising_cells;
 use delaunay::build_watched;
 use geo_sign::Point;
-use host::Host;
+use host::{Host, Watch};
 use merge::merge;
 use num_text::{push_ended, push_whole};
 use scan::Scan;
 use std::alloc::Global;
-use watch::Watch;
 
 /// The options of `cells`.
 const CELLS_KEYS: [Key; 2] = [Key::Unit, Key::Scanner];

@@ -26,12 +26,11 @@ use crate::stamps::stamp_of;
 use crate::status::Status;
 use crate::whole_run::{Reading, read_input};
 use cert_text::{Stamp, push_cert, read_cert};
-use host::{Host, ReadRefusal, read_all};
+use host::{Host, ReadRefusal, Watch, read_all};
 use lines::{line_of_reason, line_of_yes};
 use recon_check::{Answer, CheckedTexts, check_all_watched};
 use scan::Scan;
 use std::alloc::{AllocError, Global};
-use watch::Watch;
 
 /// The names of `check IN MESH CERT` and of `upgrade IN MESH CERT OUT`.
 #[derive(Clone, Copy, Debug)]

@@ -20,11 +20,11 @@ use crate::stamps::stamp_of;
 use crate::status::Status;
 use flow_net::Settings;
 use gen_scan::gen_scan;
+use host::Watch;
 use num_text::all_digits;
 use recon_build::solve_scan_watched;
 use scan::{POINT_LIMIT, Scan, ScanRefusal, push_scan, read_scan};
 use std::alloc::{AllocError, Global};
-use watch::Watch;
 pub use words::Demo;
 
 /// The maximal number of digits of a seed.

@@ -16,12 +16,11 @@ use crate::reply::Stop;
 use crate::status::Status;
 use crate::whole_run::{Reading, conclude, read_input, write_forms};
 use flow_net::{Settings, WEIGHT_LIMIT};
-use host::Host;
+use host::{Host, Stage, Watch};
 use mesh_form::Form;
 use scan::Scan;
 use std::alloc::Global;
 use sweep::hand_surfaces_watched;
-use watch::{Stage, Watch};
 
 /// The options of `sweep`.
 const SWEEP_KEYS: [Key; 3] = [Key::Unit, Key::Vote, Key::Scanner];
