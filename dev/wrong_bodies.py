@@ -2,7 +2,7 @@
 """Fails if docs/verification/mutants.md names a mutant that no edit has, or if an edit cannot be applied to the current sources.
 
 The edits are those that the gate tries, crates/NAME/must-fail/, and those that only `make attack` tries, attack/NAME/. A mutant that the page
-names with its crate, as `scan_cut/equal_sights_counted_once`, has to be one that the gate tries. Each text that an edit removes has to occur in its
+names with its crate, as `solution/equal_sights_counted_once`, has to be one that the gate tries. Each text that an edit removes has to occur in its
 file exactly once, after the pairs before it have been applied, and no name may occur twice in a crate.
 
 usage: dev/wrong_bodies.py [list]      (list prints the mutants of each crate)

@@ -3,8 +3,8 @@
 --   CertifiesCut s slots cut claim     the claim is of this cut: of its complex and its labels
 use Rattle.std.specs.Prelude.{Option, List}
 use Rattle.cert_text.specs.Certificates.{Claim}
-use Rattle.scan_cut.specs.MinimumCuts.{IsCutOf}
-use Rattle.scan_cut.specs.declared.cutting.MinimumCut.{MinimumCut}
+use Rattle.solution.specs.MinimumCuts.{IsCutOf}
+use Rattle.solution.specs.declared.cutting.MinimumCut.{MinimumCut}
 use Rattle.solution.specs.Solutions.{IsCertificate}
 use Rattle.tetra_store.specs.declared.link.Cell.{Cell}
 use Rattle.visibility.specs.Scenes.{Scene}

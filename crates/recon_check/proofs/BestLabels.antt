@@ -23,7 +23,7 @@ use Rattle.visibility.specs.Votes.{IsComplexOf}
 use Rattle.cell_net.specs.ByNumber.{SaysOfCells}
 use Rattle.cell_net.specs.Counts.{AreCellsOf, AreCountsOf}
 use Rattle.cell_net.specs.StoredComplexes.{stored_complex}
-use Rattle.scan_cut.proofs.Counted.{counts_are}
+use Rattle.solution.proofs.CountLists.{counts_are}
 use Rattle.recon_check.specs.Claims.{is_inside, AreThere}
 use Rattle.recon_check.specs.Faults.{IsBest}
 use Rattle.recon_check.specs.Over.{IsStatedOver}

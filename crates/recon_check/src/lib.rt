@@ -17,8 +17,8 @@
 //! | `checking` | runs these in order; `stop` is the error on the way |
 //! | `laws` | the theorem about all answers |
 //!
-//! The crate depends on `cert_text` (certificates), `solution` (points, sights and the definition of a solution), `scan_cut` (cells and
-//! weights), `cell_net` (their network), `max_flow` (totals at cells, and the minimum cut with the smallest inside) and
+//! The crate depends on `cert_text` (certificates), `solution` (the definition of a solution, points, sights,
+//! cells and weights), `cell_net` (their network), `max_flow` (totals at cells, and the minimum cut with the smallest inside) and
 //! `surface` (the mesh of labels).
 #![tactic(auto)]
 

@@ -7,9 +7,9 @@
 //! a text of decimals, and `ask` and `ask_watched` classify a list of points in a scan. `labels` and `solid` have the common
 //! parts.
 //!
-//! No mesh is read: the answer is for the scan's best surface, not for a given mesh file. The crate depends on `scan_cut` (the
-//! cells of a scan and their labels), `solution` (the best surface), `tetra_walk` (the cell of a point), `curve_order` (the
-//! order in which points are visited) and `num_text` (decimals).
+//! No mesh is read: the answer is for the scan's best surface, not for a given mesh file. The crate depends on `solution` (the
+//! cells of a scan and their labels, and the best surface), `tetra_walk` (the cell of a point), `curve_order` (the order in which
+//! points are visited) and `num_text` (decimals).
 #![tactic(auto)]
 
 mod asking;

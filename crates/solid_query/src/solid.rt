@@ -8,7 +8,7 @@ use crate::NoMemory;
 use flow_net::{Labels, Settings};
 use host::Watch;
 use scan::Scan;
-use scan_cut::{counted_cells, minimum_cut_of};
+use solution::{counted_cells, minimum_cut_of};
 use std::alloc::Global;
 use tetra_store::Tetra;
 

@@ -5,3 +5,10 @@ pub mod Certificates
 pub mod Uniqueness
 pub mod LeastCosts
 pub mod Meshes
+pub mod WalkCounts
+pub mod Tallies
+pub mod Flags
+pub mod Scenes
+pub mod Stored
+pub mod CountLists
+pub mod CellCuts

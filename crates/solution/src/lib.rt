@@ -1,18 +1,36 @@
-//! Defines the best surface of a scan, and the certificate of its optimality.
+//! Defines the best surface of a scan and the certificate of its optimality, and finds the minimum cut that it is.
 //!
 //! The cells of a Delaunay tetrahedralization are labelled inside or outside by a minimum cut, in which each line of sight
 //! penalises the facets that it crosses and favours the cell behind its point as inside (Labatut, Pons and Keriven 2007 and
 //! 2009, in integers). `specs/Solutions` defines a solution, over cells and directed facets alone, and `specs/Scans` the scene
 //! of a scan. The crates that compute and that check solutions both depend on it, and not on each other.
 //!
-//! Its only code is what both need: the points and sights of a scan. The crate depends on `scan` and `merge` (the content of a
-//! scan, each point once), `visibility` and `flow_net` (cost and flows), `mesh_ply` and `cert_text` (meshes and certificates),
-//! and the theorems of `cell_laws`.
+//! Its code is what both need. `sights` has the points and sights of a scan. `cells` makes the linked Delaunay cells of its
+//! points with the accumulated visibility weights, and `cutting` solves over the implicit network: by the numbers of cells the
+//! minimum cut with the smallest inside, and a flow whose value is its cost.
+//!
+//! `counting` walks along each sight once, from its point to its scanner, and adds its weight to each directed facet that it
+//! crosses and to the cell behind its point, by the numbers of cells in the store (`counted`). Run time is proportional to the
+//! number of crossings. `fixing` finds the cells of the scanners and the cells fixed outside, `ordering` sorts the sights so that
+//! successive ones cross much the same cells, and `tally` counts along them, two at a time.
+//!
+//! The crate depends on `scan` and `merge` (the content of a scan, each point once), `visibility` and `flow_net` (cost and
+//! flows), `mesh_ply` and `cert_text` (meshes and certificates), `delaunay` (cells), `tetra_walk` and `sight` (walks), `cell_net`
+//! (the network), `max_flow` (flow and labels), and the theorems of `cell_laws`.
 #![tactic(auto)]
 
+mod cells;
+mod counting;
+mod cutting;
+mod fixing;
 mod laws;
+mod ordering;
 mod sights;
+mod tally;
 
+pub use cells::{counted_cells, counted_cells_with};
+pub use counting::{Votes, counted};
+pub use cutting::{MinimumCut, minimum_cut_of};
 pub use laws::{least_costs_fit, solutions_differ_in_their_flows_alone};
 pub use sights::{SeenPoints, seen_in};
 use std::alloc::AllocError;

@@ -1,4 +1,4 @@
--- The surface and the cost that the fields of a sweep keep: flow and labels are a cut of the scene's cells (`scan_cut`).
+-- The surface and the cost that the fields of a sweep keep: flow and labels are a cut of the scene's cells (`solution`).
 use Rattle.std.proofs.Common.{ℕ, ◌≡◌, ◌<◌, ◌++◌, ◌^◌, refl, sym, subst, ◌∙◌, Bool, List}
 use Rattle.cell_net.specs.Shape.{numbered_with}
 use Rattle.flow_net.specs.Nets.{flag_at}
@@ -11,9 +11,9 @@ use Rattle.geo_sign.specs.Point.{Point}
 use Rattle.geo_sign.specs.Vertices.{corners}
 use Rattle.mesh_ply.specs.Meshes.{mesh_of}
 use Rattle.mesh_ply.specs.declared.mesh.Mesh.{Mesh}
-use Rattle.scan_cut.specs.MinimumCuts.{IsCutOf}
-use Rattle.scan_cut.specs.declared.cutting.MinimumCut.{MinimumCut}
-use Rattle.scan_cut.proofs.CellCuts.{cut_is, cost_fits as cut_fits}
+use Rattle.solution.specs.MinimumCuts.{IsCutOf}
+use Rattle.solution.specs.declared.cutting.MinimumCut.{MinimumCut}
+use Rattle.solution.proofs.CellCuts.{cut_is, cost_fits as cut_fits}
 use Rattle.solution.specs.Solutions.{surface_of}
 use Rattle.solution.proofs.Meshes.{mesh_is}
 use Rattle.surface.specs.Labelled.{AreLabelsOver}

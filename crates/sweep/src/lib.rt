@@ -6,7 +6,7 @@
 //!
 //! `sweeping` has the type, and `handing` passes its surfaces to writers. `specs/Swept` defines the content of a sweep, and
 //! `specs/Entries` its cost and its surface; `laws` states that they are those of a fresh build. The crate depends on
-//! `scan_cut` and `cell_net` (cells and the network over them), on `max_flow` (flow and labels), on `surface` (the mesh of labels)
+//! `solution` and `cell_net` (cells and the network over them), on `max_flow` (flow and labels), on `surface` (the mesh of labels)
 //! and on `mesh_form` (mesh writers).
 #![tactic(auto)]
 

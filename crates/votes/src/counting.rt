@@ -10,14 +10,14 @@ ghost use Rattle.tetra_store.specs.Delaunay.{IsDelaunay};
 ghost use Rattle.tetra_store.specs.Links.{links_of};
 ghost use Rattle.tetra_store.specs.Store.{data_points_of, vertices_of};
 ghost use Rattle.cell_net.specs.Counts.{AreIdsOf};
-ghost use Rattle.scan_cut.specs.Counts.{IsInRange};
+ghost use Rattle.solution.specs.Counts.{IsInRange};
 
 use crate::NoMemory;
 use crate::network::{Counted, assemble};
 use flow_net::{Settings, Sight};
 use geo_sign::Point;
 use host::Silent;
-use scan_cut::counted;
+use solution::counted;
 use std::alloc::Global;
 use tetra_store::Tetra;
 use visibility::Scene;

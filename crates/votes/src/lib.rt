@@ -1,12 +1,12 @@
 //! The network of linked Delaunay cells as lists, from the sights of a scan: a node for each cell, an arc for each directed facet
 //! with a free adjacent cell, both in ascending order.
 //!
-//! It is for users of the crates and for tests. The program works on cells and counts (`cell_net`, `scan_cut`), and no crate on
+//! It is for users of the crates and for tests. The program works on cells and counts (`cell_net`, `solution`), and no crate on
 //! its path depends on this one.
 //!
-//! `counting` has the call (`count_votes`), which counts with `scan_cut`. `network` makes of what is counted the network as lists
+//! `counting` has the call (`count_votes`), which counts with `solution`. `network` makes of what is counted the network as lists
 //! (`assemble`): `sides` sorts the directed facets that have a capacity, `tables` finds the indices of nodes and arcs, and `arcs`
-//! makes the arcs. The crate depends on `scan_cut` (the counts), `cell_net` (cells and sides as sorted lists), `visibility`
+//! makes the arcs. The crate depends on `solution` (the counts), `cell_net` (cells and sides as sorted lists), `visibility`
 //! (scenes and their networks) and `flow_net` (networks as lists).
 #![tactic(auto)]
 

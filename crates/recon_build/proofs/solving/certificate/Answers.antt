@@ -19,9 +19,9 @@ use Rattle.solution.specs.Scans.{points_of, scene_of_scan}
 use Rattle.solution.specs.Solutions.{flow_rows, sink_rows}
 use Rattle.solution.proofs.Certificates.{certificate_is}
 use Rattle.solution.proofs.SightLists.{few_vertices, few_sights}
-use Rattle.scan_cut.proofs.CellCuts.{cost_fits}
+use Rattle.solution.proofs.CellCuts.{cost_fits}
 use Rattle.recon_build.proofs.SortedRows.{inside_are, flow_are, sinks_are}
-use Rattle.scan_cut.proofs.Stored.{corner_count}
+use Rattle.solution.proofs.Stored.{corner_count}
 use Rattle.recon_build.proofs.WellFormed.{well_formed, fit_counts, version_of}
 use Rattle.recon_build.proofs.solving.certificate.Goals as goal
 

@@ -17,8 +17,8 @@ use Rattle.visibility.specs.Scenes.{Scene}
 use Rattle.visibility.proofs.ListingAgreements.{with_rising}
 use Rattle.cell_net.specs.Counts.{AreCellsOf}
 use Rattle.cell_net.specs.StoredComplexes.{stored_complex}
-use Rattle.scan_cut.specs.MinimumCuts.{IsCutOf}
-use Rattle.scan_cut.specs.declared.cutting.MinimumCut.{MinimumCut}
+use Rattle.solution.specs.MinimumCuts.{IsCutOf}
+use Rattle.solution.specs.declared.cutting.MinimumCut.{MinimumCut}
 use Rattle.recon_build.proofs.solving.solve_over.Goals as goal
 
 -- the labels are those of the scene's cells, whatever their list is called

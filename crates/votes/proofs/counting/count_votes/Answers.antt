@@ -10,7 +10,7 @@ use Rattle.visibility.specs.SceneViews.{IsSightOf}
 use Rattle.visibility.specs.Scenes.{scene_of}
 use Rattle.visibility.specs.Networks.{IsNetworkOf}
 use Rattle.tetra_store.specs.Store.{vertices_of}
-use Rattle.scan_cut.specs.Counts.{IsInRange}
+use Rattle.solution.specs.Counts.{IsInRange}
 use Rattle.votes.proofs.counting.count_votes.Goals as goal
 
 pub counted-requires-clause-cells : goal.counted-requires-clause-cells

@@ -24,7 +24,7 @@ use Rattle.tetra_store.specs.Store.{Store, IsStore, data_points_of, vertices_of}
 use Rattle.tetra_store.proofs.DataPoints.{corners_first}
 use Rattle.cell_net.specs.Counts.{AreCellsOf, AreIdsOf}
 use Rattle.cell_net.proofs.Stored.{stored_cells_law}
-use Rattle.scan_cut.proofs.Scenes.{sights_in_range}
+use Rattle.solution.proofs.Scenes.{sights_in_range}
 use Rattle.surface.specs.Labelled.{AreAllLive, AreLabelsOver, NoneHasCorner, listed_label}
 use Rattle.surface.proofs.CutList.{can_be_cut}
 use Rattle.surface.proofs.ListedLabels.{all_live, listed_over}

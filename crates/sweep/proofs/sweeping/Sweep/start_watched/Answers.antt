@@ -7,7 +7,7 @@ use Rattle.scan.proofs.ShownLemmas.{scan_is_shown}
 use Rattle.scan.specs.Shown.{Shown}
 use Rattle.scan.specs.Views.{shown_of}
 use Rattle.solution.specs.Scans.{scene_of_scan}
-use Rattle.scan_cut.proofs.Counted.{counts_are}
+use Rattle.solution.proofs.CountLists.{counts_are}
 use Rattle.cell_net.specs.Counts.{AreCountsOf}
 use Rattle.sweep.proofs.Raising.{begun, kept_over, largest_of}
 use Rattle.sweep.proofs.sweeping.Sweep.start_watched.Goals as goal

@@ -1,5 +1,0 @@
-use Rattle.scan_cut.proofs.Flags.{AreFixedTo}
-use Rattle.scan_cut.proofs.fixing.fixed_cells.Given as goal
-
-abbrev pub invariant-loop-cell : goal.invariant-loop-cell
-invariant-loop-cell l = AreFixedTo l.t l.scanners l.cell-index l.flags.items

@@ -1,5 +1,0 @@
-pub mod Counts
-pub mod Lines
-pub mod Ordering
-pub mod Stored
-pub mod MinimumCuts

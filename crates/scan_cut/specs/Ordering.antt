@@ -1,9 +1,0 @@
--- Sights with the keys by which they are sorted.
---
---   the_sight k     the sight alone
-use Rattle.flow_net.specs.declared.votes.Sight.{Sight}
-use Rattle.scan_cut.specs.declared.ordering.Keyed.{Keyed}
-
--- without its key
-abbrev pub the_sight : Keyed → Sight
-the_sight k = k.sight

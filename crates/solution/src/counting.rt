@@ -1,0 +1,102 @@
+//! The visibility weights of a scene's sights at linked cells and their sides.
+
+ghost use Rattle.std.specs.Prelude.{◌≡◌, ◌<◌, ◌^◌, IfOk, All, length};
+ghost use Rattle.geo_sign.specs.declared.point.TheConstants.{DATA_LIMIT};
+ghost use Rattle.geo_sign.specs.Point.{IsWithin};
+ghost use Rattle.flow_net.specs.Weights.{IsSightList};
+ghost use Rattle.visibility.specs.SceneViews.{view_of, IsSound};
+ghost use Rattle.tetra_store.specs.Delaunay.{IsDelaunay};
+ghost use Rattle.tetra_store.specs.Links.{links_of};
+ghost use Rattle.tetra_store.specs.Store.{vertices_of};
+ghost use Rattle.cell_net.specs.Counts.{AreCountsOf};
+ghost use Rattle.solution.specs.Counts.{HasCellsOf, IsInRange, AreScannerCells, AreCounted};
+
+use crate::NoMemory;
+use crate::fixing::{fixed_cells, scanner_cells};
+use crate::ordering::ordered;
+use crate::tally::{Counts, count_sights};
+use cell_net::StoreCounts;
+use flow_net::Sight;
+use geo_sign::Point;
+use host::Watch;
+use std::alloc::{AllocError, Global};
+use tetra_store::{CellId, Tetra};
+use visibility::Scene;
+
+/// Accumulated visibility weights of a scene's sights, by the numbers of cells in the store. A number without a cell has
+/// meaningless entries.
+#[derive(Debug, Drop)]
+pub struct Votes {
+    /// At 4 * id + side the weight of the sights that cross the directed facet of a side.
+    pub crossed: Vec<u32>,
+    /// At id the weight of the sights that the cell is behind.
+    pub behind: Vec<u32>,
+    /// At id whether the cell has a corner or a scanner.
+    pub fixed: Vec<bool>,
+}
+
+impl Votes {
+    /// Returns the counts from which a network is made.
+    pub fn store_counts(&self) -> StoreCounts<'_>
+        ensures crossed { result.crossed.now ≡ self.now.crossed.items }
+        ensures behind { result.behind.now ≡ self.now.behind.items }
+        ensures fixed { result.fixed.now ≡ self.now.fixed.items }
+    {
+        StoreCounts {
+            crossed: &self.crossed,
+            behind: &self.behind,
+            fixed: &self.fixed,
+        }
+    }
+}
+
+/// Returns the counts of the sights, which are traversed in another order. That order is freed before it returns.
+fn counts_of<W: Watch>(
+    alloc: Global,
+    t: &Tetra,
+    scanners: &[Point],
+    cells: &[CellId],
+    sights: &[Sight],
+    watch: &mut W,
+) -> Result<Counts, NoMemory>
+    requires delaunay { IsDelaunay (vertices_of t.now) (links_of t.now.slots) }
+    requires sights { All (IsInRange (vertices_of t.now) scanners.now) sights.now }
+    requires few { IsSightList sights.now }
+    requires data_points { All (IsWithin DATA_LIMIT) scanners.now }
+    requires cells { AreScannerCells t.now scanners.now cells.now }
+    ensures { IfOk result (λ counts. AreCounted t.now scanners.now sights.now counts.crossed.items counts.behind.items) }
+{
+    let walked = ordered(alloc, t, scanners, cells, sights)?;
+    count_sights(alloc, t, scanners, cells, &walked, watch)
+}
+
+/// Returns a scene's accumulated visibility weights and the cells fixed outside, by a walk along each sight. Reports the stage
+/// and the number of counted sights to a progress callback.
+///
+/// All points have to be inserted, and the cells Delaunay, as `delaunay::build` leaves them. Equal sights count as often as
+/// they occur, each by its weight, and a scanner that sees nothing fixes its cell as well. The only error is out of memory,
+/// also for 2^32 numbers of cells and more. The cells of the scanners are freed before it returns.
+pub fn counted<W: Watch>(
+    alloc: Global,
+    t: &Tetra,
+    scene: &Scene<'_>,
+    watch: &mut W,
+) -> Result<Votes, NoMemory>
+    requires cells { HasCellsOf t.now scene.now }
+    requires scene { IsSound scene.now }
+    ensures counts { IfOk result (λ votes. AreCountsOf (view_of scene.now) t.now.slots votes.crossed.items votes.behind.items votes.fixed.items) }
+    ensures few { IfOk result (λ votes. length votes.fixed.items < 2 ^ 32) }
+{
+    t.facts();
+    let cells = scanner_cells(alloc, t, scene.scanners)?;
+    let fixed = fixed_cells(alloc, t, scene.scanners, &cells)?;
+    if fixed.len() > u32::MAX as usize {
+        return Err(AllocError);
+    }
+    let counts = counts_of(alloc, t, scene.scanners, &cells, scene.sights, watch)?;
+    Ok(Votes {
+        crossed: counts.crossed,
+        behind: counts.behind,
+        fixed,
+    })
+}
