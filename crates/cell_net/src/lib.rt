@@ -11,8 +11,8 @@
 //! theorems that lead from the numbers of cells and sides to cells and facets: what is counted does not depend on how a cell or
 //! a facet is written, and labels and flows of the network are judged as those over cells and facets.
 //!
-//! No sight and no point is looked at. The crate depends on `tetra_store` (linked cells), `visibility` (scenes, and what their
-//! network is), `flow_net` (networks by numbers) and the theorems of `cell_laws`.
+//! No sight and no point is looked at. The crate depends on `tetra_store` (linked cells), `visibility` (scenes and the cost of
+//! labels), `flow_net` (networks by numbers) and the theorems of `cell_laws`.
 #![tactic(auto)]
 
 mod cells;

@@ -13,7 +13,7 @@ use Rattle.visibility.specs.Scenes.{Scene}
 use Rattle.geo_sign.specs.Tetrahedron.{facet_at, turned}
 use Rattle.visibility.specs.Complexes.{cell_of}
 use Rattle.visibility.specs.Votes.{is_fixed, capacity, sink}
-use Rattle.visibility.specs.Networks.{complex_of, arc_of, IsNetworkOf}
+use Rattle.plain_net.specs.Networks.{complex_of, arc_of, IsNetworkOf}
 use Rattle.visibility.specs.Listings.{AreOnce}
 use Rattle.visibility.proofs.Listings.{cells_once, rising_listing}
 use Rattle.visibility.proofs.Indices.{same_index, at_index, index_has, row_index_at, map_of_indices}

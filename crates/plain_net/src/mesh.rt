@@ -5,7 +5,7 @@ ghost use Rattle.flow_net.specs.Flows.{IsAdmissible};
 ghost use Rattle.geo_sign.specs.Vertices.{corners, boxed_vertices};
 ghost use Rattle.geo_sign.specs.Rising.{IsBefore};
 ghost use Rattle.mesh_ply.specs.Meshes.{IsMesh};
-ghost use Rattle.visibility.specs.Networks.{IsNetworkAmong};
+ghost use Rattle.plain_net.specs.Networks.{IsNetworkAmong};
 ghost use Rattle.plain_net.specs.CutRows.{is_cut_arc, cut_rows, mesh_cut};
 ghost use Rattle.geo_tie.specs.declared.cells.TheConstants.{PLAIN_LIMIT};
 

@@ -1,8 +1,6 @@
 pub mod Indices
 pub mod Listings
-pub mod Networks
 pub mod Amounts
-pub mod Validity
 pub mod Ordered
 pub mod Members
 pub mod SightCosts

@@ -1,8 +1,9 @@
 -- How facets that have a capacity are written, and that there is one list of them.
-use Rattle.std.proofs.Common.{ℕ, ◌<◌, ◌≡◌, ◌≢◌, ap, subst, ◌∙◌, arith, Bool, true, false, cond, inl, inr, List, [], ◌∷◌}
-use Rattle.std.proofs.Common.{Contains, pos, int_lt}
+use Rattle.std.proofs.Common.{ℕ, ◌<◌, ◌≡◌, ◌≢◌, ap, subst, ◌∙◌, arith, Bool, true, false, cond, ◌&&◌, ◌||◌, ◌⊎◌, inl, inr, ⊎_elim}
+use Rattle.std.proofs.Common.{List, [], ◌∷◌, eqb, Contains, pos, int_lt}
+use Rattle.std.proofs.lemmas.Bool.{and_parts, or_cases, eqb-true}
 use Rattle.geo_sign.proofs.CellRows.{last_below}
-use Rattle.geo_sign.specs.Tetrahedron.{Tetrahedron, tetrahedron, facet_at, numbers_of}
+use Rattle.geo_sign.specs.Tetrahedron.{Tetrahedron, DirectedFacet, tetrahedron, facet_of, facet_at, numbers_of, is_same_facet, is_among}
 use Rattle.geo_sign.specs.Vertices.{Vertices, orientation_of}
 use Rattle.geo_sign.specs.Cells.{IsRisingCell, written}
 use Rattle.geo_sign.proofs.Rising.{rising_law, cell_list_law}
@@ -10,7 +11,32 @@ use Rattle.visibility.specs.Scenes.{Scene}
 use Rattle.visibility.specs.Complexes.{Complex}
 use Rattle.visibility.specs.Votes.{HasCapacity, IsFacetList}
 use Rattle.visibility.specs.Laws.{IsOrdered, FacetsAreOrdered, OneComplex}
-use Rattle.visibility.proofs.Validity.{OneOf, one_of}
+
+-- the numbers of two facets that pass the test
+same_numbers : (f g : DirectedFacet) → is_same_facet f g ≡ true → (f.a ≡ g.a) × (f.b ≡ g.b) × (f.c ≡ g.c)
+same_numbers f g h =
+    let p = and_parts (eqb f.a g.a && eqb f.b g.b) (eqb f.c g.c) h in
+    let q = and_parts (eqb f.a g.a) (eqb f.b g.b) p.0 in
+    (eqb-true f.a g.a q.0, eqb-true f.b g.b q.1, eqb-true f.c g.c p.1)
+
+-- which of the four directed facets it is
+abbrev pub OneOf : Tetrahedron → DirectedFacet → Type 0
+OneOf t f =
+    ((t.b ≡ f.a) × (t.d ≡ f.b) × (t.c ≡ f.c))
+    ⊎ (((t.a ≡ f.a) × (t.c ≡ f.b) × (t.d ≡ f.c))
+    ⊎ (((t.a ≡ f.a) × (t.d ≡ f.b) × (t.b ≡ f.c)) ⊎ ((t.a ≡ f.a) × (t.b ≡ f.b) × (t.c ≡ f.c))))
+
+pub one_of : (t : Tetrahedron) (f : DirectedFacet) → is_among t f ≡ true → OneOf t f
+one_of t f h =
+    let first : Bool = is_same_facet (facet_of t 0) f in
+    let second : Bool = is_same_facet (facet_of t 1) f in
+    let third : Bool = is_same_facet (facet_of t 2) f in
+    let last : Bool = is_same_facet (facet_of t 3) f in
+    ⊎_elim (λ p. ⊎_elim
+    (λ q. ⊎_elim (λ r. inl (same_numbers (facet_of t 0) f r)) (λ r. inr (inl (same_numbers (facet_of t 1) f r)))
+    (or_cases first second q)) (λ q. inr (inr (inl (same_numbers (facet_of t 2) f q)))) (or_cases (first || second) third p))
+    (λ p. inr (inr (inr (same_numbers (facet_of t 3) f p))))
+    (or_cases (first || second || third) last h)
 
 -- four numbers below n, of which the first is the smallest and the second the next
 record IsRisingShape (n : ℕ) (t : Tetrahedron) : Type 0 where

@@ -5,6 +5,5 @@ pub mod Votes
 pub mod Cuts
 pub mod Flows
 pub mod Listings
-pub mod Networks
 pub mod Laws
 pub mod ListingLaws

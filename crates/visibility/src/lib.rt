@@ -2,8 +2,8 @@
 //!
 //! `specs/` defines cells fixed outside, capacities of directed facets, sinks of cells, labels and their cost, and flows, all
 //! over lists of cells and of directed facets (Labatut, Pons and Keriven 2007 and 2009, with whole numbers and a constant
-//! smoothing term), and which listed network is that of a scene. Of code the crate has the type of scenes, which calls take,
-//! and theorems: amounts fit, lists are unique, and their order decides nothing.
+//! smoothing term). Of code the crate has the type of scenes, which calls take, and theorems: amounts fit, lists are unique, and
+//! their order decides nothing.
 //!
 //! It makes no cell and no network. It depends on `geo_sign` (cells and sights) and `flow_net` (networks).
 #![tactic(auto)]

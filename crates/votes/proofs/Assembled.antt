@@ -18,8 +18,8 @@ use Rattle.flow_net.specs.declared.votes.Settings.{Settings}
 use Rattle.visibility.specs.Scenes.{Scene}
 use Rattle.visibility.specs.Complexes.{Complex}
 use Rattle.visibility.specs.Votes.{is_fixed, sink}
-use Rattle.visibility.specs.Networks.{arc_of, IsNetworkOf}
-use Rattle.visibility.proofs.Validity.{network_valid}
+use Rattle.plain_net.specs.Networks.{arc_of, IsNetworkOf}
+use Rattle.plain_net.proofs.Validity.{network_valid}
 use Rattle.tetra_store.specs.declared.link.Cell.{Cell}
 use Rattle.tetra_store.specs.Links.{links_of, IsLive}
 use Rattle.cell_net.specs.declared.rows.Row.{Row}

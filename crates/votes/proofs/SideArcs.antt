@@ -14,7 +14,7 @@ use Rattle.geo_sign.specs.Tetrahedron.{Tetrahedron, DirectedFacet, facet_of, fac
 use Rattle.visibility.specs.Scenes.{Scene}
 use Rattle.visibility.specs.Complexes.{cell_index, Complex}
 use Rattle.visibility.specs.Votes.{capacity}
-use Rattle.visibility.specs.Networks.{facet_index, arc_of}
+use Rattle.plain_net.specs.Networks.{facet_index, arc_of}
 use Rattle.tetra_store.specs.declared.link.Cell.{Cell}
 use Rattle.tetra_store.specs.Links.{links_of, IsLive}
 use Rattle.tetra_store.specs.Stored.{live_of}

@@ -5,7 +5,7 @@ ghost use Rattle.geo_sign.specs.declared.point.TheConstants.{DATA_LIMIT};
 ghost use Rattle.geo_sign.specs.Point.{IsWithin};
 ghost use Rattle.flow_net.specs.Weights.{IsSightList};
 ghost use Rattle.visibility.specs.Scenes.{scene_of};
-ghost use Rattle.visibility.specs.Networks.{IsNetworkOf};
+ghost use Rattle.plain_net.specs.Networks.{IsNetworkOf};
 ghost use Rattle.tetra_store.specs.Delaunay.{IsDelaunay};
 ghost use Rattle.tetra_store.specs.Links.{links_of};
 ghost use Rattle.tetra_store.specs.Store.{data_points_of, vertices_of};

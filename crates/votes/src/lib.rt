@@ -7,7 +7,7 @@
 //! `counting` has the call (`count_votes`), which counts with `solution`. `network` makes of what is counted the network as lists
 //! (`assemble`): `sides` sorts the directed facets that have a capacity, `tables` finds the indices of nodes and arcs, and `arcs`
 //! makes the arcs. The crate depends on `solution` (the counts), `cell_net` (cells and sides as sorted lists), `visibility`
-//! (scenes and their networks) and `flow_net` (networks as lists).
+//! (scenes), `plain_net` (what their network is) and `flow_net` (networks as lists).
 #![tactic(auto)]
 
 mod arcs;

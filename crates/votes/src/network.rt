@@ -4,7 +4,7 @@ ghost use Rattle.std.specs.Prelude.{◌≡◌, ◌*◌, IfOk, map, slice_index};
 ghost use Rattle.std.specs.List.Sorted.{IsPermutation, IsNonDecreasingBy};
 ghost use Rattle.flow_net.specs.Nets.{flag_at};
 ghost use Rattle.visibility.specs.SceneViews.{view_of};
-ghost use Rattle.visibility.specs.Networks.{IsNetworkOf};
+ghost use Rattle.plain_net.specs.Networks.{IsNetworkOf};
 ghost use Rattle.cell_net.specs.Counts.{AreCountsOf, AreIdsOf};
 ghost use Rattle.cell_net.specs.Gathered.{all_rows, all_open, key_of_row, key_of_side};
 ghost use Rattle.cell_net.specs.Parts.{id_of_row, facet_of_side};

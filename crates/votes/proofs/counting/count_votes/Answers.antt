@@ -8,7 +8,7 @@ use Rattle.geo_sign.proofs.Corners.{vertex_count}
 use Rattle.flow_net.specs.declared.votes.Sight.{Sight}
 use Rattle.visibility.specs.SceneViews.{IsSightOf}
 use Rattle.visibility.specs.Scenes.{scene_of}
-use Rattle.visibility.specs.Networks.{IsNetworkOf}
+use Rattle.plain_net.specs.Networks.{IsNetworkOf}
 use Rattle.tetra_store.specs.Store.{vertices_of}
 use Rattle.solution.specs.Counts.{IsInRange}
 use Rattle.votes.proofs.counting.count_votes.Goals as goal

@@ -12,7 +12,7 @@ use Rattle.flow_net.specs.declared.votes.Sight.{Sight}
 use Rattle.flow_net.specs.declared.Voted.{Voted}
 use Rattle.flow_net.specs.Flows.{IsAdmissible}
 use Rattle.visibility.specs.Laws.{test_of}
-use Rattle.visibility.specs.Networks.{complex_of, IsNetworkOf}
+use Rattle.plain_net.specs.Networks.{complex_of, IsNetworkOf}
 use Rattle.visibility.specs.Scenes.{Scene, scene_of}
 use Rattle.visibility.specs.Votes.{is_fixed}
 use Rattle.visibility.proofs.Indices.{map_of_indices, once_rising}

@@ -5,36 +5,30 @@
 -- it stands (facet_index_at). If the cell itself is fixed, the facet turned round has no capacity and the arc no reverse;
 -- else that facet is listed too, and its arc is the reverse of this one (paired, turned_back): the two cases of valid_with.
 -- Capacities and sinks fit because the sights are few and light.
-use Rattle.std.proofs.Common.{ℕ, ◌<◌, ◌≤◌, ◌^◌, ◌≡◌, ◌≢◌, refl, ap, sym, subst, ◌∙◌, arith, Bool, true, false, cond, ◌&&◌, ◌||◌}
-use Rattle.std.proofs.Common.{◌⊎◌, inl, inr, ⊎_elim, List, [], ◌∷◌, length, get_or, map, eqb, Some, None, Option, Contains, pos}
+use Rattle.std.proofs.Common.{ℕ, ◌<◌, ◌≤◌, ◌^◌, ◌≡◌, ◌≢◌, refl, ap, sym, subst, ◌∙◌, arith, Bool, true, false, cond}
+use Rattle.std.proofs.Common.{inl, inr, List, [], ◌∷◌, length, get_or, map, Some, None, Option, Contains, pos}
 use Rattle.std.proofs.Common.{int_lt}
-use Rattle.std.proofs.lemmas.Bool.{and_parts, or_cases, eqb-true, false_from_ne_true}
+use Rattle.std.proofs.lemmas.Bool.{false_from_ne_true}
 use Rattle.std.proofs.lemmas.List.{get_or-map, length-map}
 use Rattle.std.proofs.lemmas.List.Sums.{position_or_len_is, passes_at_first}
 use Rattle.geo_sign.proofs.Among.{same_itself, same_means}
 use Rattle.flow_net.specs.Nets.{arc_at, flag_at, no_arc, IsReverseArc, IsValidArc, IsValidNet}
 use Rattle.flow_net.specs.declared.Arc.{Arc}
-use Rattle.geo_sign.specs.Tetrahedron.{Tetrahedron, DirectedFacet, tetrahedron, facet_of, facet_at, numbers_of, turned}
+use Rattle.geo_sign.specs.Tetrahedron.{Tetrahedron, DirectedFacet, tetrahedron, facet_at, numbers_of, turned}
 use Rattle.geo_sign.specs.Tetrahedron.{is_same_facet, is_among}
 use Rattle.geo_sign.specs.Vertices.{Vertices, orientation_of}
 use Rattle.geo_sign.specs.Cells.{IsRisingCell, written}
 use Rattle.visibility.specs.Scenes.{Scene}
 use Rattle.visibility.specs.Complexes.{Complex, has_facet, cell_index, cell_of}
 use Rattle.visibility.specs.Votes.{is_fixed, capacity, sink, HasCapacity}
-use Rattle.visibility.specs.Networks.{facet_index, pair_of, arc_of}
+use Rattle.plain_net.specs.Networks.{facet_index, pair_of, arc_of}
 use Rattle.visibility.specs.Listings.{AreOnce, IsListingOf}
 use Rattle.visibility.proofs.Listings.{facets_once, rising_cell, has_capacity, facet_listed}
 use Rattle.visibility.proofs.Indices.{at_index, index_has}
-use Rattle.visibility.proofs.Networks.{IsJoined, joined}
+use Rattle.plain_net.proofs.Networks.{IsJoined, joined}
 use Rattle.visibility.proofs.Amounts.{capacity_fits, sink_fits}
+use Rattle.visibility.proofs.Ordered.{OneOf, one_of}
 use Rattle.flow_net.specs.Weights.{IsSightList}
-
--- the numbers of two facets that pass the test
-same_numbers : (f g : DirectedFacet) → is_same_facet f g ≡ true → (f.a ≡ g.a) × (f.b ≡ g.b) × (f.c ≡ g.c)
-same_numbers f g h =
-    let p = and_parts (eqb f.a g.a && eqb f.b g.b) (eqb f.c g.c) h in
-    let q = and_parts (eqb f.a g.a) (eqb f.b g.b) p.0 in
-    (eqb-true f.a g.a q.0, eqb-true f.b g.b q.1, eqb-true f.c g.c p.1)
 
 -- four numbers of which no two are equal
 pub record AreApart (t : Tetrahedron) : Type 0 where
@@ -44,25 +38,6 @@ pub record AreApart (t : Tetrahedron) : Type 0 where
   pub b_c : t.b ≢ t.c
   pub b_d : t.b ≢ t.d
   pub c_d : t.c ≢ t.d
-
--- which of the four directed facets it is
-abbrev pub OneOf : Tetrahedron → DirectedFacet → Type 0
-OneOf t f =
-    ((t.b ≡ f.a) × (t.d ≡ f.b) × (t.c ≡ f.c))
-    ⊎ (((t.a ≡ f.a) × (t.c ≡ f.b) × (t.d ≡ f.c))
-    ⊎ (((t.a ≡ f.a) × (t.d ≡ f.b) × (t.b ≡ f.c)) ⊎ ((t.a ≡ f.a) × (t.b ≡ f.b) × (t.c ≡ f.c))))
-
-pub one_of : (t : Tetrahedron) (f : DirectedFacet) → is_among t f ≡ true → OneOf t f
-one_of t f h =
-    let first : Bool = is_same_facet (facet_of t 0) f in
-    let second : Bool = is_same_facet (facet_of t 1) f in
-    let third : Bool = is_same_facet (facet_of t 2) f in
-    let last : Bool = is_same_facet (facet_of t 3) f in
-    ⊎_elim (λ p. ⊎_elim
-    (λ q. ⊎_elim (λ r. inl (same_numbers (facet_of t 0) f r)) (λ r. inr (inl (same_numbers (facet_of t 1) f r)))
-    (or_cases first second q)) (λ q. inr (inr (inl (same_numbers (facet_of t 2) f q)))) (or_cases (first || second) third p))
-    (λ p. inr (inr (inr (same_numbers (facet_of t 3) f p))))
-    (or_cases (first || second || third) last h)
 
 -- no cell has a facet and the one turned round
 not_both : (t : Tetrahedron) (f : DirectedFacet) → AreApart t → OneOf t f → OneOf t (turned f) → ⊥
