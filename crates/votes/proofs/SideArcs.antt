@@ -26,7 +26,7 @@ use Rattle.cell_net.specs.Gathered.{all_rows, all_open}
 use Rattle.cell_net.specs.Parts.{id_of_row, cell_of_row, facet_of_side, number_of_side, AreDistinctBy}
 use Rattle.cell_net.proofs.CellRows.{least_rotated}
 use Rattle.cell_net.proofs.CellSides.{one_side_of, across_has, has_across}
-use Rattle.cell_net.proofs.Entries.{IsSideAt, side_is, side_there}
+use Rattle.cell_net.proofs.Entries.{IsSideAt, side_there}
 use Rattle.cell_net.proofs.Nodes as made
 use Rattle.cell_net.proofs.Nodes.{no_row, no_side}
 use Rattle.cell_net.proofs.Stored.{listed, live}

@@ -1,14 +1,12 @@
 -- The scene is that of the store's data points: the store has its cells, and its sights are in range where those of the store are. Its view
 -- is the scene that the clause names, since the store's data points are those that the store is seen to have.
-use Rattle.std.proofs.Common.{List, ◌≡◌, ◌<◌, ◌+◌, ap, subst, sym, arith, All, length}
+use Rattle.std.proofs.Common.{List, ◌<◌, ◌+◌, ap, arith, length}
 use Rattle.std.proofs.lemmas.List.Elements.{All-weaker}
 use Rattle.geo_sign.specs.declared.point.TheConstants.{CORNERS}
 use Rattle.geo_sign.specs.Point.{Point}
 use Rattle.geo_sign.proofs.Corners.{vertex_count}
 use Rattle.flow_net.specs.declared.votes.Sight.{Sight}
 use Rattle.visibility.specs.SceneViews.{IsSightOf}
-use Rattle.visibility.specs.Scenes.{scene_of}
-use Rattle.plain_net.specs.Networks.{IsNetworkOf}
 use Rattle.tetra_store.specs.Store.{vertices_of}
 use Rattle.solution.specs.Counts.{IsInRange}
 use Rattle.votes.proofs.counting.count_votes.Goals as goal
