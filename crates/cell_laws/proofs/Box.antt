@@ -7,8 +7,7 @@
 -- outer facet.
 -- Stands on: Order, Writing, and geo_sign's places.
 use Rattle.std.proofs.Common.{ℕ, zero, suc, ◌≡◌, ◌≢◌, ◌<◌, ◌≤◌, refl, ap, ap₂, sym, subst, ◌∙◌, ◌⊎◌, inl, inr, ⊎_elim, arith}
-use Rattle.std.proofs.Common.{Bool, true, false, int_lt, unsigned_abs, ℤ, pos, negsuc, neg_ℤ, ◌+ℤ◌, ◌-ℤ◌}
-use Rattle.std.proofs.Common.{◌*ℤ◌, ◌≤ℤ◌, [], ◌∷◌}
+use Rattle.std.proofs.Common.{◌+◌, Bool, true, false, cond, int_lt, unsigned_abs, ℤ, pos, negsuc, neg_ℤ, ◌+ℤ◌, ◌-ℤ◌, ◌*ℤ◌, ◌≤ℤ◌, [], ◌∷◌}
 use Rattle.std.proofs.lemmas.Bool.{cases_lt}
 use Rattle.std.proofs.lemmas.Int.{ints, by_lt_z}
 use lib.IntN.{zero-*ℤ}
@@ -17,17 +16,17 @@ use Rattle.geo_sign.proofs.Ring.{ring}
 use Rattle.geo_sign.specs.Orientation.{orientation}
 use Rattle.geo_sign.specs.Point.{corner_point, cross, IsWithin, Point, point, step}
 use Rattle.geo_sign.specs.declared.point.TheConstants.{BOX_LIMIT, CORNERS, DATA_LIMIT}
-use Rattle.geo_sign.proofs.Written.{coordinates, cross', orientation', step', Symbols, symbols}
+use Rattle.geo_sign.proofs.Written.{coordinates, cross', orientation', step', Symbols, symbols, A, B, C, P}
 use Rattle.geo_sign.specs.Cells.{IsCell}
 use Rattle.geo_sign.specs.Tetrahedron.{facet}
-use Rattle.geo_sign.specs.Vertices.{IsWall, orientation_of, Vertices}
+use Rattle.geo_sign.specs.Vertices.{HaveCoordinate, IsWall, orientation_of, Vertices}
 use Rattle.geo_sign.specs.Boxes.{IsBoxed}
 use Rattle.geo_sign.proofs.Exchanges.{flat_a, flat_b, flat_c}
 use Rattle.geo_sign.proofs.SignTests.{below_true}
 use Rattle.geo_sign.proofs.Corners.{corner_within}
-use Rattle.geo_sign.proofs.RingLaws.{neg-*ℤ, *ℤ-neg}
+use Rattle.geo_sign.proofs.RingLaws.{neg-*ℤ}
 use Rattle.geo_sign.proofs.Bounds.{data_in_box}
-use Rattle.cell_laws.proofs.Order.{mul_not_negative, mul_positive}
+use Rattle.cell_laws.proofs.Order.{factor_none, mul_not_negative}
 use Rattle.cell_laws.proofs.Regions.{IsInner, IsOuter}
 
 -- ---- the corner that is lowest along a direction
@@ -36,24 +35,14 @@ edge true = pos BOX_LIMIT
 edge false = neg_ℤ (pos BOX_LIMIT)
 
 abbrev pub far : Bool → Bool → Bool → ℕ
-far false false false = 0
-far true false false = 1
-far false true false = 2
-far true true false = 3
-far false false true = 4
-far true false true = 5
-far false true true = 6
-far true true true = 7
+far i j k = cond i 1 0 + cond j 2 0 + cond k 4 0
+
+bit_below : (b : Bool) (n : ℕ) → cond b n 0 ≤ n
+bit_below true n = omega arith
+bit_below false n = omega arith
 
 pub far_below : (i j k : Bool) → far i j k < 8
-far_below false false false = omega arith
-far_below true false false = omega arith
-far_below false true false = omega arith
-far_below true true false = omega arith
-far_below false false true = omega arith
-far_below true false true = omega arith
-far_below false true true = omega arith
-far_below true true true = omega arith
+far_below i j k = omega (arith, bit_below i 1, bit_below j 2, bit_below k 4)
 
 pub far_place : (i j k : Bool) → corner_point (far i j k) ≡ point (edge i) (edge j) (edge k)
 far_place false false false = refl
@@ -104,11 +93,7 @@ shift :
     +ℤ (facet_normal a b c).z *ℤ (p.z -ℤ w.z))
 unfolding orientation
 shift a b c w p =
-    let A : Symbols = symbols 0 in
-    let B : Symbols = symbols 3 in
-    let C : Symbols = symbols 6 in
     let W : Symbols = symbols 9 in
-    let P : Symbols = symbols 12 in
     let N : Symbols = cross' (step' A B) (step' A C) in
     ring (coordinates a (coordinates b (coordinates c (coordinates w (coordinates p []))))) (orientation' A B C P)
     (sum (orientation' A B C W)
@@ -153,26 +138,11 @@ over v x a b c o p w =
 
 -- ---- a point in the plane of an outer facet
 pub factor_is_zero : (a b : ℤ) → a *ℤ b ≡ pos 0 → (a ≡ pos 0) ⊎ (b ≡ pos 0)
-factor_is_zero (pos zero) b e = inl refl
-factor_is_zero (pos (suc m)) (pos zero) e = inr refl
-factor_is_zero (pos (suc m)) (pos (suc n)) e =
-    let h = mul_positive (pos (suc m)) (pos (suc n)) (omega (arith, ints)) (omega (arith, ints)) in
-    absurd (omega (arith, ints, h, e))
-factor_is_zero (pos (suc m)) (negsuc n) e =
-    let h = mul_positive (pos (suc m)) (neg_ℤ (negsuc n)) (omega (arith, ints)) (omega (arith, ints)) in
-    let f = *ℤ-neg (pos (suc m)) (negsuc n) in
-    absurd (omega (arith, ints, h, e, f))
-factor_is_zero (negsuc m) (pos zero) e = inr refl
-factor_is_zero (negsuc m) (pos (suc n)) e =
-    let h = mul_positive (neg_ℤ (negsuc m)) (pos (suc n)) (omega (arith, ints)) (omega (arith, ints)) in
-    let f = neg-*ℤ (negsuc m) (pos (suc n)) in
-    absurd (omega (arith, ints, h, e, f))
-factor_is_zero (negsuc m) (negsuc n) e =
-    let h = mul_positive (neg_ℤ (negsuc m)) (neg_ℤ (negsuc n)) (omega (arith, ints)) (omega (arith, ints)) in
-    let f : neg_ℤ (negsuc m) *ℤ neg_ℤ (negsuc n) ≡ negsuc m *ℤ negsuc n =
-    ring (negsuc m ∷ negsuc n ∷ []) (product (negation (variable 0)) (negation (variable 1)))
-    (product (variable 0) (variable 1)) tt in
-    absurd (omega (arith, ints, h, e, f))
+factor_is_zero a b e =
+    by_lt_z (pos 0) a (λ l. inr (factor_none a b l e))
+    (λ l. by_lt_z a (pos 0)
+    (λ n. inr (factor_none (neg_ℤ a) b (omega (arith, ints, n)) (let f = neg-*ℤ a b in omega (arith, ints, e, f))))
+    (λ n. inl (omega (arith, ints, l, n))))
 
 -- along each axis the facet is level, or the point is as low as the box
 record Down (n p : Point) : Type 0 where
@@ -208,13 +178,16 @@ level a b c d e f g =
     let k : (facet_normal a b c).z *ℤ t.z ≡ pos 0 = ap (λ y. y *ℤ t.z) g ∙ zero-*ℤ t.z in
     ap₂ (λ y z. y +ℤ z) (ap₂ (λ y z. y +ℤ z) i j) k
 
-not_low : (n p : ℤ) → unsigned_abs p ≤ DATA_LIMIT → (n ≡ pos 0) ⊎ (p ≡ low n) → n ≡ pos 0
-not_low n p h (inl e) = e
-not_low n p h (inr e) = absurd (pick (int_lt n (pos 0)) e)
+not_within : (n p : ℤ) → p ≡ low n → unsigned_abs p ≤ DATA_LIMIT → ⊥
+not_within n p e h = pick (int_lt n (pos 0)) e
   where
     pick : (b : Bool) → p ≡ edge b → ⊥
     pick true e = absurd (omega (arith, ints))
     pick false e = absurd (omega (arith, ints))
+
+not_low : (n p : ℤ) → unsigned_abs p ≤ DATA_LIMIT → (n ≡ pos 0) ⊎ (p ≡ low n) → n ≡ pos 0
+not_low n p h (inl e) = e
+not_low n p h (inr e) = absurd (not_within n p e h)
 
 -- a data point is before each outer facet of a cell
 pub data_inner : (v : Vertices) → IsBoxed v → (p : ℕ) → CORNERS ≤ p → p < v.count → IsInner v p
@@ -249,20 +222,15 @@ at_low : (n p : ℤ) → n ≢ pos 0 → (n ≡ pos 0) ⊎ (p ≡ low n) → p �
 at_low n p h (inl e) = absurd (h e)
 at_low n p h (inr e) = e
 
-not_within : (n p : ℤ) → p ≡ low n → unsigned_abs p ≤ DATA_LIMIT → ⊥
-not_within n p e h = pick (int_lt n (pos 0)) e
-  where
-    pick : (b : Bool) → p ≡ edge b → ⊥
-    pick true e = absurd (omega (arith, ints))
-    pick false e = absurd (omega (arith, ints))
-
 -- an outer facet of a cell is on a wall
 pub outer_wall : (v : Vertices) → IsBoxed v → (a b c d : ℕ) → IsCell v a b c d → IsOuter v a b c → IsWall v (facet a b c)
 outer_wall v x a b c d k o =
     ⊎_elim (λ e. ⊎_elim
     (λ f. ⊎_elim
     (λ g. absurd (let z = level (v.at a) (v.at b) (v.at c) (v.at d) e f g in let q = k.positive in omega (arith, ints, z, q)))
-    along_z (zero_or_not n.z)) along_y (zero_or_not n.y)) along_x (zero_or_not n.x)
+    (along (λ p. p.z) n.z da.z_down db.z_down dc.z_down (λ p w. w.z_within) (λ h. inr (inr h))) (zero_or_not n.z))
+    (along (λ p. p.y) n.y da.y_down db.y_down dc.y_down (λ p w. w.y_within) (λ h. inr (inl h))) (zero_or_not n.y))
+    (along (λ p. p.x) n.x da.x_down db.x_down dc.x_down (λ p w. w.x_within) (λ h. inl h)) (zero_or_not n.x)
   where
     n : Point
     n = facet_normal (v.at a) (v.at b) (v.at c)
@@ -282,38 +250,20 @@ outer_wall v x a b c d k o =
         down v x a b c o (v.at c) (vertex_within v x c k.has_c.0)
         (let z = flat_c (v.at a) (v.at b) (v.at c) in omega (arith, ints, z))
 
-    along_x : n.x ≢ pos 0 → IsWall v (facet a b c)
-    along_x h =
-        let ea = at_low n.x (v.at a).x h da.x_down in
-        let eb = at_low n.x (v.at b).x h db.x_down in
-        let ec = at_low n.x (v.at c).x h dc.x_down in
+    -- along an axis whose coordinate is read by get
+    along :
+        (get : Point → ℤ) (m : ℤ) → (m ≡ pos 0) ⊎ (get (v.at a) ≡ low m) → (m ≡ pos 0) ⊎ (get (v.at b) ≡ low m) →
+        (m ≡ pos 0) ⊎ (get (v.at c) ≡ low m) →
+        ((p : Point) → IsWithin DATA_LIMIT p → unsigned_abs (get p) ≤ DATA_LIMIT) →
+        ((get (v.at a) ≡ get (v.at b)) × (get (v.at a) ≡ get (v.at c)) → HaveCoordinate (v.at a) (v.at b) (v.at c)) →
+        m ≢ pos 0 → IsWall v (facet a b c)
+    along get m ga gb gc within agree h =
+        let ea = at_low m (get (v.at a)) h ga in
+        let eb = at_low m (get (v.at b)) h gb in
+        let ec = at_low m (get (v.at c)) h gc in
         record {
-          first = is_corner v x a k.has_a.0 (λ w. not_within n.x (v.at a).x ea w.x_within);
-          second = is_corner v x b k.has_b.0 (λ w. not_within n.x (v.at b).x eb w.x_within);
-          third = is_corner v x c k.has_c.0 (λ w. not_within n.x (v.at c).x ec w.x_within);
-          agree = inl (ea ∙ sym eb, ea ∙ sym ec);
-        }
-
-    along_y : n.y ≢ pos 0 → IsWall v (facet a b c)
-    along_y h =
-        let ea = at_low n.y (v.at a).y h da.y_down in
-        let eb = at_low n.y (v.at b).y h db.y_down in
-        let ec = at_low n.y (v.at c).y h dc.y_down in
-        record {
-          first = is_corner v x a k.has_a.0 (λ w. not_within n.y (v.at a).y ea w.y_within);
-          second = is_corner v x b k.has_b.0 (λ w. not_within n.y (v.at b).y eb w.y_within);
-          third = is_corner v x c k.has_c.0 (λ w. not_within n.y (v.at c).y ec w.y_within);
-          agree = inr (inl (ea ∙ sym eb, ea ∙ sym ec));
-        }
-
-    along_z : n.z ≢ pos 0 → IsWall v (facet a b c)
-    along_z h =
-        let ea = at_low n.z (v.at a).z h da.z_down in
-        let eb = at_low n.z (v.at b).z h db.z_down in
-        let ec = at_low n.z (v.at c).z h dc.z_down in
-        record {
-          first = is_corner v x a k.has_a.0 (λ w. not_within n.z (v.at a).z ea w.z_within);
-          second = is_corner v x b k.has_b.0 (λ w. not_within n.z (v.at b).z eb w.z_within);
-          third = is_corner v x c k.has_c.0 (λ w. not_within n.z (v.at c).z ec w.z_within);
-          agree = inr (inr (ea ∙ sym eb, ea ∙ sym ec));
+          first = is_corner v x a k.has_a.0 (λ w. not_within m (get (v.at a)) ea (within (v.at a) w));
+          second = is_corner v x b k.has_b.0 (λ w. not_within m (get (v.at b)) eb (within (v.at b) w));
+          third = is_corner v x c k.has_c.0 (λ w. not_within m (get (v.at c)) ec (within (v.at c) w));
+          agree = agree (ea ∙ sym eb, ea ∙ sym ec);
         }

@@ -2,14 +2,14 @@
 -- the list the cell that is highest over this place has it, since else there would be a higher one across a facet, in the list
 -- too. The place lies strictly in one cell alone, so the cell is in the list.
 -- Stands on: Cover, and Flood (a place lies strictly in one cell).
-use Rattle.std.proofs.Common.{[], ℕ, ◌≡◌, sym, subst, ◌⊎◌, inl, inr, arith, pos, ◌+ℤ◌, ◌≤ℤ◌, ◌<ℤ◌, List}
+use Rattle.std.proofs.Common.{[], ℕ, ◌≡◌, sym, subst, ◌⊎◌, inl, inr, arith, pos, ◌+ℤ◌, ◌≤ℤ◌, ◌<ℤ◌, List, ℤ}
 use Rattle.std.proofs.lemmas.Int.{ints}
 use Rattle.geo_sign.specs.Polynomial.{constant, sum}
 use Rattle.geo_sign.proofs.Ring.{ring}
 use Rattle.geo_sign.specs.Orientation.{orientation}
 use Rattle.geo_sign.specs.Point.{Point, point}
 use Rattle.geo_sign.specs.Rational.{RationalPoint, side}
-use Rattle.geo_sign.proofs.Written.{coordinates, orientation', RationalSymbols, side', Symbols, symbols}
+use Rattle.geo_sign.proofs.Written.{coordinates, orientation', RationalSymbols, side', Symbols, symbols, A, B, C, D}
 use Rattle.geo_sign.specs.Cells.{IsCell}
 use Rattle.geo_sign.specs.Tetrahedron.{Tetrahedron, tetrahedron}
 use Rattle.geo_sign.specs.Vertices.{Vertices}
@@ -40,9 +40,6 @@ middle_side :
     side a b c (middle e f g h) ≡ orientation a b c e +ℤ orientation a b c f +ℤ orientation a b c g +ℤ orientation a b c h
 unfolding side orientation
 middle_side a b c e f g h =
-    let A : Symbols = symbols 0 in
-    let B : Symbols = symbols 3 in
-    let C : Symbols = symbols 6 in
     let E : Symbols = symbols 9 in
     let F : Symbols = symbols 12 in
     let G : Symbols = symbols 15 in
@@ -51,57 +48,28 @@ middle_side a b c e f g h =
     (side' A B C (middle' E F G H))
     (sum (sum (sum (orientation' A B C E) (orientation' A B C F)) (orientation' A B C G)) (orientation' A B C H)) tt
 
-middle_bdc : (a b c d : Point) → side b d c (middle a b c d) ≡ orientation a b c d
+-- it is as far from each facet as a quarter of the orientation says
+middle_sides :
+    (a b c d : Point) → (side b d c (middle a b c d) ≡ orientation a b c d) × (side a c d (middle a b c d) ≡ orientation a b c d)
+    × (side a d b (middle a b c d) ≡ orientation a b c d) × (side a b c (middle a b c d) ≡ orientation a b c d)
 unfolding side orientation
-middle_bdc a b c d =
-    let A : Symbols = symbols 0 in
-    let B : Symbols = symbols 3 in
-    let C : Symbols = symbols 6 in
-    let D : Symbols = symbols 9 in
-    ring (coordinates a (coordinates b (coordinates c (coordinates d [])))) (side' B D C (middle' A B C D))
-    (orientation' A B C D) tt
-
-middle_acd : (a b c d : Point) → side a c d (middle a b c d) ≡ orientation a b c d
-unfolding side orientation
-middle_acd a b c d =
-    let A : Symbols = symbols 0 in
-    let B : Symbols = symbols 3 in
-    let C : Symbols = symbols 6 in
-    let D : Symbols = symbols 9 in
-    ring (coordinates a (coordinates b (coordinates c (coordinates d [])))) (side' A C D (middle' A B C D))
-    (orientation' A B C D) tt
-
-middle_adb : (a b c d : Point) → side a d b (middle a b c d) ≡ orientation a b c d
-unfolding side orientation
-middle_adb a b c d =
-    let A : Symbols = symbols 0 in
-    let B : Symbols = symbols 3 in
-    let C : Symbols = symbols 6 in
-    let D : Symbols = symbols 9 in
-    ring (coordinates a (coordinates b (coordinates c (coordinates d [])))) (side' A D B (middle' A B C D))
-    (orientation' A B C D) tt
-
-middle_abc : (a b c d : Point) → side a b c (middle a b c d) ≡ orientation a b c d
-unfolding side orientation
-middle_abc a b c d =
-    let A : Symbols = symbols 0 in
-    let B : Symbols = symbols 3 in
-    let C : Symbols = symbols 6 in
-    let D : Symbols = symbols 9 in
-    ring (coordinates a (coordinates b (coordinates c (coordinates d [])))) (side' A B C (middle' A B C D))
-    (orientation' A B C D) tt
+middle_sides a b c d =
+    let numbers : List ℤ = coordinates a (coordinates b (coordinates c (coordinates d []))) in
+    let m : RationalSymbols = middle' A B C D in (
+      ring numbers (side' B D C m) (orientation' A B C D) tt,
+      ring numbers (side' A C D m) (orientation' A B C D) tt,
+      ring numbers (side' A D B m) (orientation' A B C D) tt,
+      ring numbers (side' A B C m) (orientation' A B C D) tt,
+    )
 
 abbrev middle_of : Vertices → Tetrahedron → RationalPoint
 middle_of v r = middle (v.at r.a) (v.at r.b) (v.at r.c) (v.at r.d)
 
 in_middle : (v : Vertices) (r : Tetrahedron) → pos 0 <ℤ orientation_at v r → IsStrictlyIn v r (middle_of v r)
 in_middle v r h =
-    let a = v.at r.a in let b = v.at r.b in let c = v.at r.c in let d = v.at r.d in
-    strictly v r (middle_of v r)
-    (subst (λ t. pos 0 <ℤ t) (sym (middle_bdc a b c d)) h)
-    (subst (λ t. pos 0 <ℤ t) (sym (middle_acd a b c d)) h)
-    (subst (λ t. pos 0 <ℤ t) (sym (middle_adb a b c d)) h)
-    (subst (λ t. pos 0 <ℤ t) (sym (middle_abc a b c d)) h)
+    let e = middle_sides (v.at r.a) (v.at r.b) (v.at r.c) (v.at r.d) in
+    strictly v r (middle_of v r) (subst (λ t. pos 0 <ℤ t) (sym e.0) h) (subst (λ t. pos 0 <ℤ t) (sym e.1) h)
+    (subst (λ t. pos 0 <ℤ t) (sym e.2) h) (subst (λ t. pos 0 <ℤ t) (sym e.3) h)
 
 pub closed_full :
     {X : Type 0} (v : Vertices) → IsGeneric v → (live : List X) (cell : X → Tetrahedron) → IsJoined v live cell → (x : X) →

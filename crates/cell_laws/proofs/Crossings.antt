@@ -8,8 +8,9 @@
 -- Turned round, an exit of one cell is a crossed facet of the next (left_turned).
 --
 -- Stands on: Sides, and Firsts (the minors).
-use Rattle.std.proofs.Common.{ℕ, zero, suc, ◌<◌, ◌≡◌, ◌≢◌, refl, sym, subst, inl, inr, ⊎_elim, ◌⊎◌, arith, ℤ, pos, ◌*ℤ◌, ◌<ℤ◌}
-use Rattle.std.proofs.Common.{List, [], ◌∷◌}
+use Rattle.std.proofs.Common.{ℕ, zero, suc, ◌<◌, ◌≡◌, ◌≢◌, refl, sym, subst, inl, inr, ◌⊎◌, arith, ℤ, pos, ◌*ℤ◌, ◌<ℤ◌}
+use Rattle.std.proofs.Common.{List, [], ◌∷◌, true, not, nat_lt, ◌&&◌, ◌==◌}
+use Rattle.std.proofs.lemmas.Bool.{and_parts, both_ways, eq-eqb, ltb-true, not-true}
 use Rattle.std.proofs.lemmas.Int.{ints}
 use Rattle.geo_sign.specs.Polynomial.{constant, difference, Polynomial, product, variable}
 use Rattle.geo_sign.proofs.Ring.{ring}
@@ -22,7 +23,8 @@ use Rattle.geo_sign.specs.Tetrahedron.{DirectedFacet, facet, facet_of, IsTurned,
 use Rattle.geo_sign.specs.Vertices.{Vertices}
 use Rattle.geo_sign.proofs.Exchanges.{turned_side}
 use Rattle.geo_sign.proofs.Rewritings.{orientation_at}
-use Rattle.geo_sign.proofs.Rotations.{side_turned}
+use Rattle.geo_sign.proofs.Booleans.{every, every_at}
+use Rattle.geo_sign.proofs.Rotations.{round, side_rotated, side_turned}
 use Rattle.cell_laws.proofs.Firsts.{IsExit, lead_of}
 use Rattle.cell_laws.proofs.Order.{factor_below, mul_below, mul_positive}
 use Rattle.cell_laws.proofs.Sides.{inward}
@@ -53,48 +55,44 @@ pub record IsLeft (v : Vertices) (p : ℕ) (s : RationalPoint) (f : DirectedFace
 flipped : (p a b : Point) (s : RationalPoint) → side p a b s <ℤ pos 0 → pos 0 <ℤ side p b a s
 flipped p a b s h = let e = turned_side p a b s in omega (arith, ints, e, h)
 
+-- a crossed facet may be written from its next vertex on
+crossed_round : (v : Vertices) (p : ℕ) (s : RationalPoint) (f : DirectedFacet) → IsCrossed v p s f → IsCrossed v p s (round f)
+crossed_round v p s f h =
+    record {
+      ahead = subst (λ (z : ℤ). pos 0 <ℤ z) (sym (side_rotated v f (round f) s (inr (inl refl)))) h.ahead;
+      behind = subst (λ (z : ℤ). z <ℤ pos 0) (sym (side_rotated v f (round f) (rational (v.at p)) (inr (inl refl)))) h.behind;
+      ab = h.bc;
+      bc = h.ca;
+      ca = h.ab;
+    }
+
 -- who leaves through a facet enters through the turned one
 pub left_turned :
     (v : Vertices) (p : ℕ) (s : RationalPoint) (f g : DirectedFacet) → IsTurned f g → IsLeft v p s f → IsCrossed v p s g
-left_turned v p s f g (inl e) h =
-    let x = h.ahead in
-    let y = h.behind in
-    let t = side_turned v f (facet f.a f.c f.b) s (inl refl) in
-    let u = side_turned v f (facet f.a f.c f.b) (rational (v.at p)) (inl refl) in
-    subst (λ (f : DirectedFacet). IsCrossed v p s f) (sym e)
-    (record {
-      ahead = omega (arith, ints, t, x);
-      behind = omega (arith, ints, u, y);
-      ab = flipped (v.at p) (v.at f.c) (v.at f.a) s h.ca;
-      bc = flipped (v.at p) (v.at f.b) (v.at f.c) s h.bc;
-      ca = flipped (v.at p) (v.at f.a) (v.at f.b) s h.ab;
-    })
-left_turned v p s f g (inr (inl e)) h =
-    let x = h.ahead in
-    let y = h.behind in
-    let t = side_turned v f (facet f.c f.b f.a) s (inr (inl refl)) in
-    let u = side_turned v f (facet f.c f.b f.a) (rational (v.at p)) (inr (inl refl)) in
-    subst (λ (f : DirectedFacet). IsCrossed v p s f) (sym e)
-    (record {
-      ahead = omega (arith, ints, t, x);
-      behind = omega (arith, ints, u, y);
-      ab = flipped (v.at p) (v.at f.b) (v.at f.c) s h.bc;
-      bc = flipped (v.at p) (v.at f.a) (v.at f.b) s h.ab;
-      ca = flipped (v.at p) (v.at f.c) (v.at f.a) s h.ca;
-    })
-left_turned v p s f g (inr (inr e)) h =
-    let x = h.ahead in
-    let y = h.behind in
-    let t = side_turned v f (facet f.b f.a f.c) s (inr (inr refl)) in
-    let u = side_turned v f (facet f.b f.a f.c) (rational (v.at p)) (inr (inr refl)) in
-    subst (λ (f : DirectedFacet). IsCrossed v p s f) (sym e)
-    (record {
-      ahead = omega (arith, ints, t, x);
-      behind = omega (arith, ints, u, y);
-      ab = flipped (v.at p) (v.at f.a) (v.at f.b) s h.ab;
-      bc = flipped (v.at p) (v.at f.c) (v.at f.a) s h.ca;
-      ca = flipped (v.at p) (v.at f.b) (v.at f.c) s h.bc;
-    })
+left_turned v p s f g r h = by r
+  where
+    first : IsCrossed v p s (facet f.a f.c f.b)
+    first =
+        let x = h.ahead in
+        let y = h.behind in
+        let t = side_turned v f (facet f.a f.c f.b) s (inl refl) in
+        let u = side_turned v f (facet f.a f.c f.b) (rational (v.at p)) (inl refl) in
+        record {
+          ahead = omega (arith, ints, t, x);
+          behind = omega (arith, ints, u, y);
+          ab = flipped (v.at p) (v.at f.c) (v.at f.a) s h.ca;
+          bc = flipped (v.at p) (v.at f.b) (v.at f.c) s h.bc;
+          ca = flipped (v.at p) (v.at f.a) (v.at f.b) s h.ab;
+        }
+
+    second : IsCrossed v p s (facet f.c f.b f.a)
+    second = crossed_round v p s (facet f.a f.c f.b) first
+
+    by : IsTurned f g → IsCrossed v p s g
+    by (inl e) = subst (λ (f : DirectedFacet). IsCrossed v p s f) (sym e) first
+    by (inr (inl e)) = subst (λ (f : DirectedFacet). IsCrossed v p s f) (sym e) second
+    by (inr (inr e)) =
+        subst (λ (f : DirectedFacet). IsCrossed v p s f) (sym e) (crossed_round v p s (facet f.c f.b f.a) second)
 
 -- ---- the edges of a facet, by the other facets that have them
 
@@ -197,26 +195,38 @@ other_index (suc (suc (suc zero))) (suc (suc (suc zero))) a b n = absurd (n refl
 other_index (suc (suc (suc zero))) (suc (suc (suc (suc k)))) a b n = absurd (omega (arith, b))
 other_index (suc (suc (suc (suc l)))) k a b n = absurd (omega (arith, a))
 
+others_ok :
+    (f : ℕ → ℕ) → every 4 (λ l. nat_lt (f l) 4 && not (f l == l)) ≡ true → (l : ℕ) → l < 4 → (f l < 4) × (f l ≢ l)
+others_ok f h l m =
+    let both = and_parts (nat_lt (f l) 4) (not (f l == l)) (every_at 4 (λ l. nat_lt (f l) 4 && not (f l == l)) h l m) in
+    (ltb-true (f l) 4 both.0, λ e. both_ways (f l == l) (not-true (f l == l) both.1) (eq-eqb (f l) l e))
+
 pub first_other : (l : ℕ) → l < 4 → (first_of l < 4) × (first_of l ≢ l)
-first_other zero h = (omega arith, λ e. absurd (omega (arith, e)))
-first_other (suc zero) h = (omega arith, λ e. absurd (omega (arith, e)))
-first_other (suc (suc zero)) h = (omega arith, λ e. absurd (omega (arith, e)))
-first_other (suc (suc (suc zero))) h = (omega arith, λ e. absurd (omega (arith, e)))
-first_other (suc (suc (suc (suc l)))) h = absurd (omega (arith, h))
+first_other = others_ok first_of refl
 
 pub second_other : (l : ℕ) → l < 4 → (second_of l < 4) × (second_of l ≢ l)
-second_other zero h = (omega arith, λ e. absurd (omega (arith, e)))
-second_other (suc zero) h = (omega arith, λ e. absurd (omega (arith, e)))
-second_other (suc (suc zero)) h = (omega arith, λ e. absurd (omega (arith, e)))
-second_other (suc (suc (suc zero))) h = (omega arith, λ e. absurd (omega (arith, e)))
-second_other (suc (suc (suc (suc l)))) h = absurd (omega (arith, h))
+second_other = others_ok second_of refl
 
 pub third_other : (l : ℕ) → l < 4 → (third_of l < 4) × (third_of l ≢ l)
-third_other zero h = (omega arith, λ e. absurd (omega (arith, e)))
-third_other (suc zero) h = (omega arith, λ e. absurd (omega (arith, e)))
-third_other (suc (suc zero)) h = (omega arith, λ e. absurd (omega (arith, e)))
-third_other (suc (suc (suc zero))) h = (omega arith, λ e. absurd (omega (arith, e)))
-third_other (suc (suc (suc (suc l)))) h = absurd (omega (arith, h))
+third_other = others_ok third_of refl
+
+-- what holds of the three edges, and is kept by the cell's orientation as a factor, holds of the other facets
+other_leads :
+    (P : ℤ → Type 0) (v : Vertices) (p : ℕ) (s : RationalPoint) (cell : Tetrahedron) (l : ℕ) → l < 4 →
+    ((z : ℤ) → P z → P (orientation_at v cell *ℤ z)) →
+    P (side (v.at p) (v.at (facet_of cell l).a) (v.at (facet_of cell l).b) s) →
+    P (side (v.at p) (v.at (facet_of cell l).b) (v.at (facet_of cell l).c) s) →
+    P (side (v.at p) (v.at (facet_of cell l).c) (v.at (facet_of cell l).a) s) → (k : ℕ) → k < 4 → k ≢ l →
+    P (lead_of (starts v p cell) (ends v s cell) l k)
+other_leads P v p s cell l b times ab bc ca k c n = by (other_index l k b c n)
+  where
+    at : (i : ℕ) → k ≡ i → P (lead_of (starts v p cell) (ends v s cell) l i) → P (lead_of (starts v p cell) (ends v s cell) l k)
+    at i e h = subst (λ (j : ℕ). P (lead_of (starts v p cell) (ends v s cell) l j)) (sym e) h
+
+    by : (k ≡ third_of l) ⊎ ((k ≡ first_of l) ⊎ (k ≡ second_of l)) → P (lead_of (starts v p cell) (ends v s cell) l k)
+    by (inl e) = at (third_of l) e (subst P (edge_ab v p s cell l) (times _ ab))
+    by (inr (inl e)) = at (first_of l) e (subst P (edge_bc v p s cell l) (times _ bc))
+    by (inr (inr e)) = at (second_of l) e (subst P (edge_ca v p s cell l) (times _ ca))
 
 -- ---- entry and exit of a cell
 -- the sight comes into the cell through facet l
@@ -229,29 +239,11 @@ pub entry_of :
     (v : Vertices) (p : ℕ) (s : RationalPoint) (cell : Tetrahedron) (l : ℕ) → l < 4 → pos 0 <ℤ orientation_at v cell →
     IsCrossed v p s (facet_of cell l) → IsEntry (starts v p cell) (ends v s cell) l
 entry_of v p s cell l b o h =
-    let P : ℕ → Type 0 = λ k. pos 0 <ℤ lead_of (starts v p cell) (ends v s cell) l k in
-    let Q : ℤ → Type 0 = λ z. pos 0 <ℤ z in
     record {
       start = h.behind;
       end = h.ahead;
-      others = λ k c n.
-          ⊎_elim (λ (e : k ≡ third_of l).
-          subst P (sym e)
-          (subst Q (edge_ab v p s cell l)
-          (mul_positive (orientation_at v cell)
-          (side (v.at p) (v.at (facet_of cell l).a) (v.at (facet_of cell l).b) s) o h.ab)))
-          (λ (r : (k ≡ first_of l) ⊎ (k ≡ second_of l)).
-          ⊎_elim (λ (e : k ≡ first_of l).
-          subst P (sym e)
-          (subst Q (edge_bc v p s cell l)
-          (mul_positive (orientation_at v cell)
-          (side (v.at p) (v.at (facet_of cell l).b) (v.at (facet_of cell l).c) s) o h.bc)))
-          (λ (e : k ≡ second_of l).
-          subst P (sym e)
-          (subst Q (edge_ca v p s cell l)
-          (mul_positive (orientation_at v cell) (side (v.at p) (v.at (facet_of cell l).c) (v.at (facet_of cell l).a) s)
-          o h.ca))) r)
-          (other_index l k b c n);
+      others =
+          other_leads (λ z. pos 0 <ℤ z) v p s cell l b (λ z k. mul_positive (orientation_at v cell) z o k) h.ab h.bc h.ca;
     }
 
 pub exit_left :
@@ -278,25 +270,8 @@ pub left_exit :
     (v : Vertices) (p : ℕ) (s : RationalPoint) (cell : Tetrahedron) (l : ℕ) → l < 4 → pos 0 <ℤ orientation_at v cell →
     IsLeft v p s (facet_of cell l) → IsExit (starts v p cell) (ends v s cell) l
 left_exit v p s cell l b o h =
-    let P : ℕ → Type 0 = λ k. lead_of (starts v p cell) (ends v s cell) l k <ℤ pos 0 in
-    let Q : ℤ → Type 0 = λ z. z <ℤ pos 0 in
     record {
       start = h.behind;
       end = h.ahead;
-      others = λ k c n.
-          ⊎_elim (λ (e : k ≡ third_of l).
-          subst P (sym e)
-          (subst Q (edge_ab v p s cell l)
-          (mul_below (orientation_at v cell) (side (v.at p) (v.at (facet_of cell l).a) (v.at (facet_of cell l).b) s) o h.ab)))
-          (λ (r : (k ≡ first_of l) ⊎ (k ≡ second_of l)).
-          ⊎_elim (λ (e : k ≡ first_of l).
-          subst P (sym e)
-          (subst Q (edge_bc v p s cell l)
-          (mul_below (orientation_at v cell) (side (v.at p) (v.at (facet_of cell l).b) (v.at (facet_of cell l).c) s) o h.bc)))
-          (λ (e : k ≡ second_of l).
-          subst P (sym e)
-          (subst Q (edge_ca v p s cell l)
-          (mul_below (orientation_at v cell) (side (v.at p) (v.at (facet_of cell l).c) (v.at (facet_of cell l).a) s) o h.ca)))
-          r)
-          (other_index l k b c n);
+      others = other_leads (λ z. z <ℤ pos 0) v p s cell l b (λ z k. mul_below (orientation_at v cell) z o k) h.ab h.bc h.ca;
     }

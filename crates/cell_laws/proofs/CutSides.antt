@@ -10,6 +10,7 @@
 use Rattle.std.proofs.Common.{ℕ, zero, suc, ◌+◌, ◌<◌, ◌≡◌, ◌≢◌, refl, sym, ap, subst, ◌∙◌, inl, inr, ⊎_elim, arith, Bool, true}
 use Rattle.std.proofs.Common.{false, ◌&&◌, ◌==◌, cond, eqb, Option, Some, None, List, [], ◌∷◌}
 use Rattle.std.proofs.lemmas.Bool.{eqb-true, eq-eqb, and_parts, and_from}
+use Rattle.std.proofs.Math.Bool.{and_comm}
 use Rattle.geo_sign.specs.Tetrahedron.{Tetrahedron, DirectedFacet, facet, facet_of, vertex_of, IsTurned, is_same_facet}
 use Rattle.cell_laws.specs.ClosedLaws.{one_edge, edges_of}
 use Rattle.cell_laws.specs.Links.{Side}
@@ -18,14 +19,8 @@ use Rattle.geo_sign.proofs.Among.{same_itself, same_means}
 use Rattle.cell_laws.proofs.Sums.{IsOnce}
 
 -- ---- edges
-and_swap : (a b : Bool) → (a && b) ≡ (b && a)
-and_swap true true = refl
-and_swap true false = refl
-and_swap false true = refl
-and_swap false false = refl
-
 pub flip : (u w x y : ℕ) → one_edge u w x y ≡ one_edge w u y x
-flip u w x y = ap one_if (and_swap (eqb x u) (eqb y w))
+flip u w x y = ap one_if (and_comm (eqb x u) (eqb y w))
 
 pub edges_turned : (u w : ℕ) (f g : DirectedFacet) → IsTurned f g → edges_of u w f ≡ edges_of w u g
 edges_turned u w f g h = turn h

@@ -7,18 +7,17 @@ use Rattle.std.proofs.Common.{ℕ, ◌≡◌, ◌<◌, ◌≤◌, ◌^◌, refl,
 use Rattle.std.proofs.Common.{bit_and, cond, ◌==◌, unsigned_abs, ℤ, pos, neg_ℤ, ◌+ℤ◌, ◌-ℤ◌, ◌*ℤ◌, ◌≤ℤ◌, ◌<ℤ◌, [], ◌∷◌}
 use Rattle.std.proofs.lemmas.Int.{ints, by_lt_z}
 use lib.IntN.{*ℤ_comm}
-use Rattle.geo_sign.specs.Polynomial.{difference, Polynomial, product, variable}
+use Rattle.geo_sign.specs.Polynomial.{constant, difference, Polynomial, product, variable}
 use Rattle.geo_sign.proofs.Ring.{ring}
 use Rattle.geo_sign.specs.Orientation.{orientation}
-use Rattle.geo_sign.specs.Point.{IsWithin, origin, Point, point, wall}
+use Rattle.geo_sign.specs.Point.{corner_point, IsWithin, origin, Point, wall}
 use Rattle.geo_sign.specs.declared.point.TheConstants.{BOX_LIMIT, CORNERS}
 use Rattle.geo_sign.specs.Rational.{displaced, side}
 use Rattle.geo_sign.proofs.Digits.{side_on_line}
 use Rattle.geo_sign.proofs.Identities.{side_digits}
-use Rattle.geo_sign.proofs.Written.{coordinates, orientation', Symbols, symbols}
 use Rattle.geo_sign.specs.Cells.{IsCell}
 use Rattle.geo_sign.specs.Tetrahedron.{facet}
-use Rattle.geo_sign.specs.Vertices.{IsWall, orientation_of, Vertices}
+use Rattle.geo_sign.specs.Vertices.{HaveCoordinate, IsWall, orientation_of, Vertices}
 use Rattle.geo_sign.specs.Boxes.{IsBoxed}
 use Rattle.cell_laws.proofs.Box.{both_negative, data_inner, facet_normal, level, vertex_within}
 use Rattle.cell_laws.proofs.Heights.{normal_within}
@@ -100,66 +99,44 @@ wall_side n e d u (inr q) h k m =
     both_below : (a b : ℤ) → a ≤ℤ pos 0 → pos 0 ≤ℤ b → (a *ℤ b) ≤ℤ pos 0
     both_below a b h k = let z = mul_not_above b a k h in let c = *ℤ_comm a b in omega (arith, ints, z, c)
 
--- the side of a facet in a plane across an axis
-level_x :
-    (a : Point) (i j k l : ℤ) (u : Point) →
-    orientation a (point a.x i j) (point a.x k l) u ≡ ((i -ℤ a.y) *ℤ (l -ℤ a.z) -ℤ (j -ℤ a.z) *ℤ (k -ℤ a.y)) *ℤ (u.x -ℤ a.x)
-unfolding orientation
-level_x a i j k l u =
-    let A : Symbols = symbols 0 in
-    let U : Symbols = symbols 3 in
-    let I : Polynomial = variable 6 in
-    let J : Polynomial = variable 7 in
-    let K : Polynomial = variable 8 in
-    let L : Polynomial = variable 9 in
-    ring (coordinates a (coordinates u (i ∷ j ∷ k ∷ l ∷ [])))
-    (orientation' A (record { x = A.x; y = I; z = J }) (record { x = A.x; y = K; z = L }) U)
-    (product (difference (product (difference I A.y) (difference L A.z)) (product (difference J A.z) (difference K A.y)))
-    (difference U.x A.x)) tt
+-- the side of a facet in a plane across an axis: of the normal two coordinates are zero
+minor_zero : (s t u w k : ℤ) → s ≡ pos 0 → t ≡ pos 0 → ((s *ℤ u -ℤ w *ℤ t) *ℤ k ≡ pos 0) × ((w *ℤ t -ℤ s *ℤ u) *ℤ k ≡ pos 0)
+minor_zero s t u w k e f =
+    let zero' : Polynomial = constant (pos 0) in
+    let left' : Polynomial = product zero' (variable 0) in
+    let right' : Polynomial = product (variable 1) zero' in (
+      ap₂ (λ x y. (x *ℤ u -ℤ w *ℤ y) *ℤ k) e f
+          ∙ ring (u ∷ w ∷ k ∷ []) (product (difference left' right') (variable 2)) zero' tt,
+      ap₂ (λ x y. (w *ℤ y -ℤ x *ℤ u) *ℤ k) e f
+          ∙ ring (u ∷ w ∷ k ∷ []) (product (difference right' left') (variable 2)) zero' tt,
+    )
+
+only : (x y z : ℤ) → y ≡ pos 0 → z ≡ pos 0 → (x +ℤ y +ℤ z ≡ x) × (y +ℤ x +ℤ z ≡ x) × (y +ℤ z +ℤ x ≡ x)
+only x y z e f = (omega (arith, ints, e, f), omega (arith, ints, e, f), omega (arith, ints, e, f))
 
 flat_x : (a b c u : Point) → a.x ≡ b.x → a.x ≡ c.x → orientation a b c u ≡ (facet_normal a b c).x *ℤ (u.x -ℤ a.x)
-flat_x a b c u e f =
-    ap₂ (λ x y. orientation a (point x b.y b.z) (point y c.y c.z) u) (sym e) (sym f) ∙ level_x a b.y b.z c.y c.z u
-
-level_y :
-    (a : Point) (i j k l : ℤ) (u : Point) →
-    orientation a (point i a.y j) (point k a.y l) u ≡ ((j -ℤ a.z) *ℤ (k -ℤ a.x) -ℤ (i -ℤ a.x) *ℤ (l -ℤ a.z)) *ℤ (u.y -ℤ a.y)
 unfolding orientation
-level_y a i j k l u =
-    let A : Symbols = symbols 0 in
-    let U : Symbols = symbols 3 in
-    let I : Polynomial = variable 6 in
-    let J : Polynomial = variable 7 in
-    let K : Polynomial = variable 8 in
-    let L : Polynomial = variable 9 in
-    ring (coordinates a (coordinates u (i ∷ j ∷ k ∷ l ∷ [])))
-    (orientation' A (record { x = I; y = A.y; z = J }) (record { x = K; y = A.y; z = L }) U)
-    (product (difference (product (difference J A.z) (difference K A.x)) (product (difference I A.x) (difference L A.z)))
-    (difference U.y A.y)) tt
+flat_x a b c u e f =
+    let s : b.x -ℤ a.x ≡ pos 0 = omega (arith, ints, e) in
+    let t : c.x -ℤ a.x ≡ pos 0 = omega (arith, ints, f) in
+    (only ((facet_normal a b c).x *ℤ (u.x -ℤ a.x)) _ _ (minor_zero (b.x -ℤ a.x) (c.x -ℤ a.x) (c.z -ℤ a.z) (b.z -ℤ a.z) (u.y -ℤ a.y) s t).1
+    (minor_zero (b.x -ℤ a.x) (c.x -ℤ a.x) (c.y -ℤ a.y) (b.y -ℤ a.y) (u.z -ℤ a.z) s t).0).0
 
 flat_y : (a b c u : Point) → a.y ≡ b.y → a.y ≡ c.y → orientation a b c u ≡ (facet_normal a b c).y *ℤ (u.y -ℤ a.y)
-flat_y a b c u e f =
-    ap₂ (λ x y. orientation a (point b.x x b.z) (point c.x y c.z) u) (sym e) (sym f) ∙ level_y a b.x b.z c.x c.z u
-
-level_z :
-    (a : Point) (i j k l : ℤ) (u : Point) →
-    orientation a (point i j a.z) (point k l a.z) u ≡ ((i -ℤ a.x) *ℤ (l -ℤ a.y) -ℤ (j -ℤ a.y) *ℤ (k -ℤ a.x)) *ℤ (u.z -ℤ a.z)
 unfolding orientation
-level_z a i j k l u =
-    let A : Symbols = symbols 0 in
-    let U : Symbols = symbols 3 in
-    let I : Polynomial = variable 6 in
-    let J : Polynomial = variable 7 in
-    let K : Polynomial = variable 8 in
-    let L : Polynomial = variable 9 in
-    ring (coordinates a (coordinates u (i ∷ j ∷ k ∷ l ∷ [])))
-    (orientation' A (record { x = I; y = J; z = A.z }) (record { x = K; y = L; z = A.z }) U)
-    (product (difference (product (difference I A.x) (difference L A.y)) (product (difference J A.y) (difference K A.x)))
-    (difference U.z A.z)) tt
+flat_y a b c u e f =
+    let s : b.y -ℤ a.y ≡ pos 0 = omega (arith, ints, e) in
+    let t : c.y -ℤ a.y ≡ pos 0 = omega (arith, ints, f) in
+    (only ((facet_normal a b c).y *ℤ (u.y -ℤ a.y)) _ _ (minor_zero (b.y -ℤ a.y) (c.y -ℤ a.y) (c.z -ℤ a.z) (b.z -ℤ a.z) (u.x -ℤ a.x) s t).0
+    (minor_zero (b.y -ℤ a.y) (c.y -ℤ a.y) (c.x -ℤ a.x) (b.x -ℤ a.x) (u.z -ℤ a.z) s t).1).1
 
 flat_z : (a b c u : Point) → a.z ≡ b.z → a.z ≡ c.z → orientation a b c u ≡ (facet_normal a b c).z *ℤ (u.z -ℤ a.z)
+unfolding orientation
 flat_z a b c u e f =
-    ap₂ (λ x y. orientation a (point b.x b.y x) (point c.x c.y y) u) (sym e) (sym f) ∙ level_z a b.x b.y c.x c.y u
+    let s : b.z -ℤ a.z ≡ pos 0 = omega (arith, ints, e) in
+    let t : c.z -ℤ a.z ≡ pos 0 = omega (arith, ints, f) in
+    (only ((facet_normal a b c).z *ℤ (u.z -ℤ a.z)) _ _ (minor_zero (b.z -ℤ a.z) (c.z -ℤ a.z) (c.y -ℤ a.y) (b.y -ℤ a.y) (u.x -ℤ a.x) s t).1
+    (minor_zero (b.z -ℤ a.z) (c.z -ℤ a.z) (c.x -ℤ a.x) (b.x -ℤ a.x) (u.y -ℤ a.y) s t).0).2
 
 -- a facet of a cell that is on a wall is an outer one
 pub wall_outer : (v : Vertices) → IsBoxed v → (a b c d : ℕ) → IsCell v a b c d → IsWall v (facet a b c) → IsOuter v a b c
@@ -171,34 +148,24 @@ wall_outer v x a b c d k w u h = pick w.agree
     wu : IsWithin BOX_LIMIT (v.at u)
     wu = vertex_within v x u h.0
 
-    edge_x : ((v.at a).x ≡ pos BOX_LIMIT) ⊎ ((v.at a).x ≡ neg_ℤ (pos BOX_LIMIT))
-    edge_x =
-        subst (λ (p : Point). (p.x ≡ pos BOX_LIMIT) ⊎ (p.x ≡ neg_ℤ (pos BOX_LIMIT))) (sym (x.corner_at a w.first))
-        (corner_edge a 1)
+    -- along an axis whose coordinate is read by get
+    along :
+        (get : Point → ℤ) (n : ℤ) → ((q : Point) → orientation (v.at a) (v.at b) (v.at c) q ≡ n *ℤ (get q -ℤ get (v.at a))) →
+        (get (corner_point a) ≡ pos BOX_LIMIT) ⊎ (get (corner_point a) ≡ neg_ℤ (pos BOX_LIMIT)) →
+        unsigned_abs (get (v.at d)) ≤ BOX_LIMIT → unsigned_abs (get (v.at u)) ≤ BOX_LIMIT → pos 0 ≤ℤ orientation_of v a b c u
+    along get n flat e hd hu =
+        subst (λ t. pos 0 ≤ℤ t) (sym (flat (v.at u)))
+        (wall_side n (get (v.at a)) (get (v.at d)) (get (v.at u))
+        (subst (λ (p : Point). (get p ≡ pos BOX_LIMIT) ⊎ (get p ≡ neg_ℤ (pos BOX_LIMIT))) (sym (x.corner_at a w.first)) e) hd
+        hu (subst (λ t. pos 0 <ℤ t) (flat (v.at d)) k.positive))
 
-    edge_y : ((v.at a).y ≡ pos BOX_LIMIT) ⊎ ((v.at a).y ≡ neg_ℤ (pos BOX_LIMIT))
-    edge_y =
-        subst (λ (p : Point). (p.y ≡ pos BOX_LIMIT) ⊎ (p.y ≡ neg_ℤ (pos BOX_LIMIT))) (sym (x.corner_at a w.first))
-        (corner_edge a 2)
+    n : Point
+    n = facet_normal (v.at a) (v.at b) (v.at c)
 
-    edge_z : ((v.at a).z ≡ pos BOX_LIMIT) ⊎ ((v.at a).z ≡ neg_ℤ (pos BOX_LIMIT))
-    edge_z =
-        subst (λ (p : Point). (p.z ≡ pos BOX_LIMIT) ⊎ (p.z ≡ neg_ℤ (pos BOX_LIMIT))) (sym (x.corner_at a w.first))
-        (corner_edge a 4)
-
-    pick :
-        (((v.at a).x ≡ (v.at b).x) × ((v.at a).x ≡ (v.at c).x)) ⊎
-        ((((v.at a).y ≡ (v.at b).y) × ((v.at a).y ≡ (v.at c).y)) ⊎ (((v.at a).z ≡ (v.at b).z) × ((v.at a).z ≡ (v.at c).z))) →
-        pos 0 ≤ℤ orientation_of v a b c u
+    pick : HaveCoordinate (v.at a) (v.at b) (v.at c) → pos 0 ≤ℤ orientation_of v a b c u
     pick (inl e) =
-        subst (λ t. pos 0 ≤ℤ t) (sym (flat_x (v.at a) (v.at b) (v.at c) (v.at u) e.0 e.1))
-        (wall_side (facet_normal (v.at a) (v.at b) (v.at c)).x (v.at a).x (v.at d).x (v.at u).x edge_x wd.x_within wu.x_within
-        (subst (λ t. pos 0 <ℤ t) (flat_x (v.at a) (v.at b) (v.at c) (v.at d) e.0 e.1) k.positive))
+        along (λ p. p.x) n.x (λ q. flat_x (v.at a) (v.at b) (v.at c) q e.0 e.1) (corner_edge a 1) wd.x_within wu.x_within
     pick (inr (inl e)) =
-        subst (λ t. pos 0 ≤ℤ t) (sym (flat_y (v.at a) (v.at b) (v.at c) (v.at u) e.0 e.1))
-        (wall_side (facet_normal (v.at a) (v.at b) (v.at c)).y (v.at a).y (v.at d).y (v.at u).y edge_y wd.y_within wu.y_within
-        (subst (λ t. pos 0 <ℤ t) (flat_y (v.at a) (v.at b) (v.at c) (v.at d) e.0 e.1) k.positive))
+        along (λ p. p.y) n.y (λ q. flat_y (v.at a) (v.at b) (v.at c) q e.0 e.1) (corner_edge a 2) wd.y_within wu.y_within
     pick (inr (inr e)) =
-        subst (λ t. pos 0 ≤ℤ t) (sym (flat_z (v.at a) (v.at b) (v.at c) (v.at u) e.0 e.1))
-        (wall_side (facet_normal (v.at a) (v.at b) (v.at c)).z (v.at a).z (v.at d).z (v.at u).z edge_z wd.z_within wu.z_within
-        (subst (λ t. pos 0 <ℤ t) (flat_z (v.at a) (v.at b) (v.at c) (v.at d) e.0 e.1) k.positive))
+        along (λ p. p.z) n.z (λ q. flat_z (v.at a) (v.at b) (v.at c) q e.0 e.1) (corner_edge a 4) wd.z_within wu.z_within

@@ -16,17 +16,17 @@ use Rattle.geo_sign.specs.Rational.{rational}
 use Rattle.geo_sign.specs.Signs.{first_sign, sign_of}
 use Rattle.geo_sign.proofs.Bounds.{step_within, cross_within}
 use Rattle.geo_sign.proofs.Digits.{sign_below}
-use Rattle.geo_sign.proofs.Written.{coordinates, dot', orientation', step', Symbols, symbols}
+use Rattle.geo_sign.proofs.Written.{coordinates, dot', orientation', step', Symbols, A, B, C, D, P}
 use Rattle.geo_sign.specs.Conflict.{AreApart, AreBelow}
 use Rattle.geo_sign.specs.Terms.{deciding_term, is_below_zero}
 use Rattle.geo_sign.specs.Tetrahedron.{Tetrahedron, tetrahedron}
-use Rattle.geo_sign.specs.Tie.{height, tied_power}
 use Rattle.geo_sign.specs.Vertices.{orientation_of, power_of, Vertices}
 use Rattle.geo_sign.proofs.Ties.{decided, five_kept}
-use Rattle.geo_sign.specs.Boxes.{IsBoxed, IsTied}
+use Rattle.geo_sign.specs.Boxes.{IsBoxed}
 use Rattle.geo_sign.specs.Places.{IsLyingIn}
 use Rattle.geo_sign.specs.Writings.{IsVertexOf}
 use Rattle.geo_sign.proofs.CellRows.{distinct}
+use Rattle.geo_sign.proofs.CornerCells.{power_tied, tied}
 use Rattle.geo_sign.proofs.Exchanges.{point_side}
 use Rattle.cell_laws.proofs.Box.{factor_is_zero, vertex_within}
 use Rattle.cell_laws.proofs.Insert.{IsNoneOf, of_or_not}
@@ -40,23 +40,6 @@ pub normal_within :
 normal_within a b c h k l = cross_within (step a b) (step a c) (step_within a b h k) (step_within a c h l)
 
 -- ---- the power by the tie rule
-abbrev pub tied : Vertices → ℕ → ℕ × Point
-tied v u = (u, v.at u)
-
-pub power_tied :
-    (v : Vertices) → IsTied v → (a b c d u : ℕ) →
-    power_of v a b c d u ≡ tied_power v.count (tied v a) (tied v b) (tied v c) (tied v d) (tied v u)
-power_tied v t a b c d u =
-    ap (λ x. power (v.at a) (v.at b) (v.at c) (v.at d) (v.at u) x (v.high b) (v.high c) (v.high d) (v.high u)) (t a)
-    ∙ ap (λ x.
-    power (v.at a) (v.at b) (v.at c) (v.at d) (v.at u) (height v.count a (v.at a)) x (v.high c) (v.high d) (v.high u)) (t b)
-    ∙ ap (λ x. power (v.at a) (v.at b) (v.at c) (v.at d) (v.at u) (height v.count a (v.at a)) (height v.count b (v.at b)) x
-    (v.high d) (v.high u)) (t c)
-    ∙ ap (λ x. power (v.at a) (v.at b) (v.at c) (v.at d) (v.at u) (height v.count a (v.at a)) (height v.count b (v.at b))
-    (height v.count c (v.at c)) x (v.high u)) (t d)
-    ∙ ap (λ x. power (v.at a) (v.at b) (v.at c) (v.at d) (v.at u) (height v.count a (v.at a)) (height v.count b (v.at b))
-    (height v.count c (v.at c)) (height v.count d (v.at d)) x) (t u)
-
 -- four vertices written positively, and a fifth that is none of them
 pub record AreFive (v : Vertices) (r : Tetrahedron) (u : ℕ) : Type 0 where
   pub a_below : r.a < v.count
@@ -127,11 +110,6 @@ plain_sum :
     +ℤ square (step c p) *ℤ orientation a d b p +ℤ square (step d p) *ℤ orientation a b c p)
 unfolding orientation power
 plain_sum a b c d p =
-    let A : Symbols = symbols 0 in
-    let B : Symbols = symbols 3 in
-    let C : Symbols = symbols 6 in
-    let D : Symbols = symbols 9 in
-    let P : Symbols = symbols 12 in
     let sq = λ (u : Symbols). dot' (step' u P) (step' u P) in
     ring (coordinates a (coordinates b (coordinates c (coordinates d (coordinates p [])))))
     (difference (product (orientation' A B C D) (dot' P P))
@@ -146,11 +124,6 @@ sides_sum :
     orientation a b c d ≡ orientation b d c p +ℤ orientation a c d p +ℤ orientation a d b p +ℤ orientation a b c p
 unfolding orientation
 sides_sum a b c d p =
-    let A : Symbols = symbols 0 in
-    let B : Symbols = symbols 3 in
-    let C : Symbols = symbols 6 in
-    let D : Symbols = symbols 9 in
-    let P : Symbols = symbols 12 in
     ring (coordinates a (coordinates b (coordinates c (coordinates d (coordinates p []))))) (orientation' A B C D)
     (sum (sum (sum (orientation' B D C P) (orientation' A C D P)) (orientation' A D B P)) (orientation' A B C P)) tt
 

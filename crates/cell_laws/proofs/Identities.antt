@@ -13,7 +13,7 @@ use Rattle.geo_sign.specs.Orientation.{orientation}
 use Rattle.geo_sign.specs.Point.{Point}
 use Rattle.geo_sign.specs.Power.{power}
 use Rattle.geo_sign.specs.Rational.{RationalPoint, side}
-use Rattle.geo_sign.proofs.Written.{coordinates, orientation', power', RationalSymbols, side', Symbols, symbols}
+use Rattle.geo_sign.proofs.Written.{coordinates, orientation', power', RationalSymbols, side', Symbols, symbols, A, B, C, D, P}
 use Rattle.cell_laws.specs.Lifts.{lift}
 
 abbrev pub lift' : (a b c d : Symbols) (ha hb hc hd : Polynomial) → RationalSymbols → Polynomial
@@ -30,10 +30,6 @@ three_terms a b c d e p ha hb hc hd he hp =
     let xs : List ℤ =
     coordinates a
     (coordinates b (coordinates c (coordinates d (coordinates e (coordinates p (ha ∷ hb ∷ hc ∷ hd ∷ he ∷ hp ∷ [])))))) in
-    let A : Symbols = symbols 0 in
-    let B : Symbols = symbols 3 in
-    let C : Symbols = symbols 6 in
-    let D : Symbols = symbols 9 in
     let E : Symbols = symbols 12 in
     let P : Symbols = symbols 15 in
     let HA : Polynomial = variable 18 in
@@ -55,10 +51,6 @@ three_lifts a b c d e q ha hb hc hd he =
     let xs : List ℤ =
     coordinates a
     (coordinates b (coordinates c (coordinates d (coordinates e (coordinates q.at (q.over ∷ ha ∷ hb ∷ hc ∷ hd ∷ he ∷ [])))))) in
-    let A : Symbols = symbols 0 in
-    let B : Symbols = symbols 3 in
-    let C : Symbols = symbols 6 in
-    let D : Symbols = symbols 9 in
     let E : Symbols = symbols 12 in
     let Q : RationalSymbols = record { at = symbols 15; over = variable 18 } in
     let HA : Polynomial = variable 19 in
@@ -86,10 +78,6 @@ envelope a b c d e f g h q ha hb hc hd he hf hg hh =
     (coordinates e
     (coordinates f
     (coordinates g (coordinates h (coordinates q.at (q.over ∷ ha ∷ hb ∷ hc ∷ hd ∷ he ∷ hf ∷ hg ∷ hh ∷ []))))))))) in
-    let A : Symbols = symbols 0 in
-    let B : Symbols = symbols 3 in
-    let C : Symbols = symbols 6 in
-    let D : Symbols = symbols 9 in
     let E : Symbols = symbols 12 in
     let F : Symbols = symbols 15 in
     let G : Symbols = symbols 18 in
@@ -115,11 +103,6 @@ pub same_side : (a b c d p u : Point) (ha hb hc hd hp hu : ℤ)
     ≡ orientation a b c d *ℤ power a b c p u ha hb hc hp hu -ℤ power a b c p d ha hb hc hp hd *ℤ orientation a b c u
 unfolding orientation power
 same_side a b c d p u ha hb hc hd hp hu =
-    let A : Symbols = symbols 0 in
-    let B : Symbols = symbols 3 in
-    let C : Symbols = symbols 6 in
-    let D : Symbols = symbols 9 in
-    let P : Symbols = symbols 12 in
     let U : Symbols = symbols 15 in
     let HA : Polynomial = variable 18 in
     let HB : Polynomial = variable 19 in

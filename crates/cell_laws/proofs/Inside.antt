@@ -9,7 +9,7 @@ use Rattle.geo_sign.specs.Orientation.{orientation}
 use Rattle.geo_sign.specs.Point.{Point}
 use Rattle.geo_sign.specs.declared.point.TheConstants.{BOX_LIMIT}
 use Rattle.geo_sign.specs.Rational.{RationalPoint, side}
-use Rattle.geo_sign.proofs.Written.{coordinates, cross', orientation', RationalSymbols, side', step', Symbols, symbols}
+use Rattle.geo_sign.proofs.Written.{coordinates, cross', orientation', RationalSymbols, side', step', Symbols, symbols, A, B, C}
 use Rattle.geo_sign.proofs.SignTests.{below_true}
 use Rattle.geo_sign.specs.Vertices.{Vertices}
 use Rattle.geo_sign.specs.Boxes.{IsBoxed}
@@ -33,9 +33,6 @@ side_shift :
     +ℤ (facet_normal a b c).z *ℤ (q.at.z -ℤ w.z *ℤ q.over))
 unfolding side orientation
 side_shift a b c w q =
-    let A : Symbols = symbols 0 in
-    let B : Symbols = symbols 3 in
-    let C : Symbols = symbols 6 in
     let W : Symbols = symbols 9 in
     let Q : RationalSymbols = record { at = symbols 12; over = variable 15 } in
     let N : Symbols = cross' (step' A B) (step' A C) in

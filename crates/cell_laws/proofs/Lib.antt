@@ -15,7 +15,6 @@ pub mod Facets
 pub mod Box
 pub mod Heights
 pub mod Goal
-pub mod Corners
 pub mod Inside
 pub mod Walk
 pub mod LinkedCells
@@ -34,7 +33,6 @@ pub mod SightTests
 pub mod SightLaws
 pub mod SightPaths
 pub mod OneFacet
-pub mod BoxLinks
 pub mod Stored
 pub mod NamedBack
 pub mod TieSigns

@@ -15,7 +15,7 @@ use Rattle.cell_laws.specs.Links.{IsBackAt, IsFanAt, IsFlooded, AreLinked, IsRim
 use Rattle.cell_laws.specs.Lists.{IsClosedInConflict, IsFull, IsIn, IsListing}
 use Rattle.geo_sign.specs.Writings.{IsRewritten, spin}
 use Rattle.geo_sign.proofs.Exchanges.{spin_orientation}
-use Rattle.geo_sign.proofs.Rewritings.{IsCellOf, rewritten_after, rewritten_back, same_cell, same_power}
+use Rattle.geo_sign.proofs.Rewritings.{IsCellOf, rewritten_after, same_cell, same_power}
 use Rattle.geo_sign.proofs.Rotations.{rotated_after, rotated_back}
 use Rattle.cell_laws.proofs.Closed.{closed_full, linked_joined, outer_none}
 use Rattle.cell_laws.proofs.Facets.{by_facets}
@@ -238,18 +238,3 @@ fan_link {X} v p live cell next l full a b c h =
         let w = back_same live cell (facet_of (cell x) k) y b in
         let z = f.outside w.0 (same_cell v (cell y) (tetrahedron q.a q.c q.b w.0) w.1 (full.cells y b.listed)) in
         inr (y, e, subst (λ t. pos 0 ≤ℤ t) (same_power v p (cell y) (tetrahedron q.a q.c q.b w.0) w.1) z)
-
--- cells that are each once have no facet in common
-pub once_apart :
-    {X : Type 0} (v : Vertices) → IsGeneric v → (live : List X) (cell : X → Tetrahedron)
-    → ((x : X) → IsIn live x → IsCellOf v (cell x))
-    → ((x y : X) → IsIn live x → IsIn live y → IsRewritten (cell x) (cell y) → x ≡ y)
-    → (x y : X) (a b c d e : ℕ) → IsIn live x → IsIn live y → IsRewritten (cell x) (tetrahedron a b c d)
-    → IsRewritten (cell y) (tetrahedron a b c e) → x ≡ y
-once_apart v g live cell cells once x y a b c d e i j w w' =
-    let same : d ≡ e =
-    one_over v g a b c d e (same_cell v (cell x) (tetrahedron a b c d) w (cells x i))
-    (same_cell v (cell y) (tetrahedron a b c e) w' (cells y j)) in
-    once x y i j
-    (rewritten_after (cell x) (tetrahedron a b c e) (cell y) (subst (λ t. IsRewritten (cell x) (tetrahedron a b c t)) same w)
-    (rewritten_back (cell y) (tetrahedron a b c e) w'))

@@ -12,7 +12,7 @@ use Rattle.geo_sign.specs.Polynomial.{constant, Polynomial, product, sum, variab
 use Rattle.geo_sign.proofs.Ring.{ring}
 use Rattle.geo_sign.specs.Point.{Point}
 use Rattle.geo_sign.specs.Rational.{rational, RationalPoint, side}
-use Rattle.geo_sign.proofs.Written.{coordinates, side', Symbols, symbols}
+use Rattle.geo_sign.proofs.Written.{coordinates, side', Symbols, symbols, A, B, C}
 use Rattle.geo_sign.specs.Tetrahedron.{DirectedFacet, facet_of, Tetrahedron, vertex_of}
 use Rattle.geo_sign.specs.Vertices.{Has, Vertices}
 use Rattle.geo_sign.specs.Places.{IsLyingIn, IsStrictlyIn}
@@ -23,16 +23,14 @@ use Rattle.cell_laws.proofs.Cover.{lies_of}
 use Rattle.cell_laws.proofs.Flood.{holds_one, weak}
 use Rattle.cell_laws.proofs.Regions.{IsConvex, IsGeneric}
 use Rattle.geo_sign.specs.Edges.{HasVertex}
-use Rattle.cell_laws.proofs.Sides.{inward, on_facet, opposite, opposite_or_on}
+use Rattle.geo_sign.proofs.Facets.{opposite_or_on}
+use Rattle.cell_laws.proofs.Sides.{inward, on_facet, opposite}
 
 pub side_mix :
     (a b c p : Point) (s : RationalPoint) (i j : ℤ) →
     side a b c (mix i p j s) ≡ i *ℤ side a b c (rational p) +ℤ j *ℤ side a b c s
 unfolding side
 side_mix a b c p s i j =
-    let A : Symbols = symbols 0 in
-    let B : Symbols = symbols 3 in
-    let C : Symbols = symbols 6 in
     let P : Symbols = symbols 9 in
     let S : Symbols = symbols 12 in
     let M : Polynomial = variable 15 in let I : Polynomial = variable 16 in let J : Polynomial = variable 17 in

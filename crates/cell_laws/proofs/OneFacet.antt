@@ -1,22 +1,18 @@
 -- A cell's four facets are different, and two cells with a directed facet in common are one.
--- Depends on: LinkedCells, Rotations and Sides.
-use Rattle.std.proofs.Common.{ℕ, zero, suc, ◌<◌, ◌≡◌, refl, ap, ◌∙◌, sym, subst, ◌⊎◌, inl, inr, ⊎_elim, arith}
-use Rattle.std.proofs.Common.{pos, ◌<ℤ◌}
-use Rattle.std.proofs.lemmas.Int.{ints}
-use Rattle.geo_sign.specs.Rational.{rational}
+-- Depends on: LinkedCells.
+use Rattle.std.proofs.Common.{ℕ, zero, suc, ◌<◌, ◌≡◌, refl, ap, ◌∙◌, sym, subst, arith, pos, ◌<ℤ◌}
 use Rattle.geo_sign.specs.Tetrahedron.{Tetrahedron, tetrahedron, facet_of, vertex_of, IsRotated}
 use Rattle.geo_sign.specs.Vertices.{Vertices}
 use Rattle.geo_sign.specs.Boxes.{IsBoxed}
 use Rattle.cell_laws.specs.CellLaws.{FacetLaw}
 use Rattle.cell_laws.specs.Links.{Side}
-use Rattle.geo_sign.specs.Writings.{IsVertexOf, IsRewritten}
+use Rattle.geo_sign.specs.Writings.{IsRewritten}
 use Rattle.geo_sign.proofs.CellRows.{distinct}
+use Rattle.geo_sign.proofs.Facets.{distinct_sides}
 use Rattle.geo_sign.proofs.Rewritings.{IsCellOf, orientation_at, rewritten_after, rewritten_back, same_cell}
-use Rattle.geo_sign.proofs.Rotations.{rotated_back, side_rotated}
+use Rattle.geo_sign.proofs.Rotations.{rotated_back}
 use Rattle.cell_laws.proofs.Heights.{tied_generic}
 use Rattle.cell_laws.proofs.LinkedCells.{facet_of_same, facet_same, from_facet}
-use Rattle.geo_sign.specs.Edges.{HasVertex}
-use Rattle.cell_laws.proofs.Sides.{opposite, on_facet, opposite_or_on}
 use Rattle.cell_laws.proofs.Wrap.{one_over}
 
 one_vertex :
@@ -41,23 +37,10 @@ one_vertex v t (suc (suc (suc zero))) (suc (suc (suc zero))) a b o e = refl
 one_vertex v t (suc (suc (suc (suc j)))) k a b o e = absurd (omega (arith, a))
 one_vertex v t j (suc (suc (suc (suc k)))) a b o e = absurd (omega (arith, b))
 
-vertex_in : (t : Tetrahedron) (k : ℕ) → IsVertexOf t (vertex_of t k)
-vertex_in t zero = inl refl
-vertex_in t (suc zero) = inr (inl refl)
-vertex_in t (suc (suc zero)) = inr (inr (inl refl))
-vertex_in t (suc (suc (suc k))) = inr (inr (inr refl))
-
 pub one_side :
     (v : Vertices) (t : Tetrahedron) (j k : ℕ) → j < 4 → k < 4 → pos 0 <ℤ orientation_at v t →
     IsRotated (facet_of t j) (facet_of t k) → j ≡ k
-one_side v t j k hj hk o r =
-    let q = rational (v.at (vertex_of t j)) in
-    let a = opposite v t j in
-    let b = side_rotated v (facet_of t j) (facet_of t k) q r in
-    ⊎_elim (λ (e : vertex_of t j ≡ vertex_of t k). one_vertex v t j k hj hk o e)
-    (λ (h : HasVertex (facet_of t k) (vertex_of t j)). let c = on_facet v (facet_of t k) (vertex_of t j) h in
-    absurd (omega (arith, ints, a, b, c, o)))
-    (opposite_or_on t k (vertex_of t j) (vertex_in t j))
+one_side v t j k hj hk o = distinct_sides t (λ i l a b e. one_vertex v t i l a b o e) j k hj hk
 
 -- two cells with a facet in common are one
 one_facet :

@@ -13,7 +13,7 @@ use Rattle.geo_sign.proofs.Ring.{ring}
 use Rattle.geo_sign.specs.Orientation.{orientation}
 use Rattle.geo_sign.specs.Point.{Point}
 use Rattle.geo_sign.specs.Rational.{rational, RationalPoint, side}
-use Rattle.geo_sign.proofs.Written.{coordinates, orientation', RationalSymbols, side', Symbols, symbols}
+use Rattle.geo_sign.proofs.Written.{coordinates, orientation', RationalSymbols, side', symbols, A, B, C, D}
 use Rattle.geo_sign.specs.Cells.{IsCell}
 use Rattle.geo_sign.specs.Tetrahedron.{Tetrahedron, tetrahedron}
 use Rattle.geo_sign.specs.Vertices.{Has, orientation_of, power_of, Vertices}
@@ -56,10 +56,6 @@ sides_over :
     side b d c q +ℤ side a c d q +ℤ side a d b q +ℤ side a b c q ≡ orientation a b c d *ℤ q.over
 unfolding side orientation
 sides_over a b c d q =
-    let A : Symbols = symbols 0 in
-    let B : Symbols = symbols 3 in
-    let C : Symbols = symbols 6 in
-    let D : Symbols = symbols 9 in
     let Q : RationalSymbols = record { at = symbols 12; over = variable 15 } in
     ring (coordinates a (coordinates b (coordinates c (coordinates d (coordinates q.at (q.over ∷ []))))))
     (sum (sum (sum (side' B D C Q) (side' A C D Q)) (side' A D B Q)) (side' A B C Q))

@@ -4,7 +4,7 @@
 --   HasVertex f n     n is a vertex of the facet
 --
 -- Stands on: the definitions alone.
-use Rattle.std.proofs.Common.{ℕ, zero, suc, ◌≡◌, ap, ◌∙◌, inl, inr, ◌⊎◌, ℤ, pos, []}
+use Rattle.std.proofs.Common.{ℕ, zero, suc, ◌≡◌, ap, ◌∙◌, inl, inr, ℤ, pos, []}
 use Rattle.geo_sign.specs.Edges.{HasVertex}
 use Rattle.geo_sign.specs.Polynomial.{constant}
 use Rattle.geo_sign.proofs.Ring.{ring}
@@ -15,7 +15,6 @@ use Rattle.geo_sign.proofs.Written.{coordinates, orientation', side', symbols}
 use Rattle.geo_sign.specs.Sights.{side_of}
 use Rattle.geo_sign.specs.Tetrahedron.{DirectedFacet, facet_of, Tetrahedron, vertex_of}
 use Rattle.geo_sign.specs.Vertices.{Vertices}
-use Rattle.geo_sign.specs.Writings.{IsVertexOf}
 use Rattle.geo_sign.proofs.Rewritings.{orientation_at}
 
 abbrev pub inward : Vertices → Tetrahedron → ℕ → RationalPoint → ℤ
@@ -65,22 +64,3 @@ pub on_facet : (v : Vertices) (f : DirectedFacet) (n : ℕ) → HasVertex f n �
 on_facet v f n (inl e) = ap (λ m. side_of v f (rational (v.at m))) e ∙ at_first (v.at f.a) (v.at f.b) (v.at f.c)
 on_facet v f n (inr (inl e)) = ap (λ m. side_of v f (rational (v.at m))) e ∙ at_second (v.at f.a) (v.at f.b) (v.at f.c)
 on_facet v f n (inr (inr e)) = ap (λ m. side_of v f (rational (v.at m))) e ∙ at_third (v.at f.a) (v.at f.b) (v.at f.c)
-
--- each vertex of a cell is opposite to a facet, or on it
-pub opposite_or_on : (v : Tetrahedron) (k n : ℕ) → IsVertexOf v n → (n ≡ vertex_of v k) ⊎ HasVertex (facet_of v k) n
-opposite_or_on v zero n (inl e) = inl e
-opposite_or_on v zero n (inr (inl e)) = inr (inl e)
-opposite_or_on v zero n (inr (inr (inl e))) = inr (inr (inr e))
-opposite_or_on v zero n (inr (inr (inr e))) = inr (inr (inl e))
-opposite_or_on v (suc zero) n (inl e) = inr (inl e)
-opposite_or_on v (suc zero) n (inr (inl e)) = inl e
-opposite_or_on v (suc zero) n (inr (inr (inl e))) = inr (inr (inl e))
-opposite_or_on v (suc zero) n (inr (inr (inr e))) = inr (inr (inr e))
-opposite_or_on v (suc (suc zero)) n (inl e) = inr (inl e)
-opposite_or_on v (suc (suc zero)) n (inr (inl e)) = inr (inr (inr e))
-opposite_or_on v (suc (suc zero)) n (inr (inr (inl e))) = inl e
-opposite_or_on v (suc (suc zero)) n (inr (inr (inr e))) = inr (inr (inl e))
-opposite_or_on v (suc (suc (suc k))) n (inl e) = inr (inl e)
-opposite_or_on v (suc (suc (suc k))) n (inr (inl e)) = inr (inr (inl e))
-opposite_or_on v (suc (suc (suc k))) n (inr (inr (inl e))) = inr (inr (inr e))
-opposite_or_on v (suc (suc (suc k))) n (inr (inr (inr e))) = inl e

@@ -28,7 +28,8 @@ use Rattle.cell_laws.proofs.Firsts.{IsAhead, IsExit, IsPast, lead_of}
 use Rattle.cell_laws.proofs.Near.{IsTowards}
 use Rattle.cell_laws.proofs.Order.{IsLater, later_trans}
 use Rattle.geo_sign.specs.Edges.{HasVertex}
-use Rattle.cell_laws.proofs.Sides.{inward, on_facet, opposite, opposite_or_on}
+use Rattle.geo_sign.proofs.Facets.{opposite_or_on}
+use Rattle.cell_laws.proofs.Sides.{inward, on_facet, opposite}
 
 -- a facet that is crossed: the cell on its inner side, and its index there
 pub record Passage : Type 0 where

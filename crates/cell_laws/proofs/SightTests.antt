@@ -17,7 +17,8 @@ use Rattle.geo_sign.specs.NearPlaces.{reversed}
 use Rattle.geo_sign.proofs.Rewritings.{IsCellOf, orientation_at}
 use Rattle.geo_sign.proofs.SignTests.{above_true, above_is, below_true, below_is}
 use Rattle.geo_sign.specs.Edges.{HasVertex}
-use Rattle.cell_laws.proofs.Sides.{inward, opposite, on_facet, opposite_or_on}
+use Rattle.geo_sign.proofs.Facets.{opposite_or_on}
+use Rattle.cell_laws.proofs.Sides.{inward, opposite, on_facet}
 use Rattle.cell_laws.proofs.Near.{IsTowards}
 use Rattle.cell_laws.proofs.Crossings.{IsCrossed}
 use Rattle.cell_laws.proofs.Scanners.{side_reversed}

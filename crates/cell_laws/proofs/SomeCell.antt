@@ -1,13 +1,16 @@
--- There is a cell, whatever data points are in. With the corners alone there are the six cells of the box. The data points then
+-- There is a cell, whatever data points are in. With the corners alone there is one at corner 0. The data points then
 -- come in one after another by their numbers: a new one lies in a cell, that cell is in conflict with it, so the fan has a
 -- facet, and over it there is a cell of the vertices with the new one. So each place of the box lies in a cell, without
 -- more ado.
--- Stands on: BoxLinks (the corners alone) and Laws (a place lies in a cell, where there is one; the fan).
-use Rattle.std.proofs.Common.{ℕ, zero, suc, ◌+◌, ◌-◌, ◌<◌, ◌≤◌, ◌≡◌, refl, sym, ap, subst, ◌∙◌, inl, ⊎_elim, arith, Bool, true}
+-- Stands on: Laws (a place lies in a cell, where there is one; the fan).
+use Rattle.std.proofs.Common.{ℕ, zero, suc, ◌+◌, ◌-◌, ◌<◌, ◌≤◌, ◌≡◌, refl, sym, ap, subst, ◌∙◌, ⊎_elim, arith, Bool, true}
 use Rattle.std.proofs.Common.{false, true≢false, ◌&&◌, ◌||◌, nat_lt, eqb}
 use Rattle.std.proofs.lemmas.Bool.{ltb-true, lt-ltb, eqb-true, eq-eqb, and_parts, and_from, or_cases}
 use Rattle.geo_sign.specs.declared.point.TheConstants.{CORNERS}
 use Rattle.geo_sign.proofs.Booleans.{same_bools}
+use Rattle.geo_sign.proofs.CornerCells.{corner_cell, is_clear}
+use Rattle.geo_sign.specs.Orientation.{orientation}
+use Rattle.geo_sign.specs.Power.{power}
 use Rattle.geo_sign.specs.Rational.{rational}
 use Rattle.geo_sign.specs.Tetrahedron.{Tetrahedron, tetrahedron}
 use Rattle.geo_sign.specs.Vertices.{Vertices, Has}
@@ -15,7 +18,6 @@ use Rattle.geo_sign.specs.Boxes.{IsBoxed, IsNew, with_vertex}
 use Rattle.geo_sign.specs.Places.{IsInBox}
 use Rattle.cell_laws.specs.CellLaws.{PlaceLaw}
 use Rattle.geo_sign.proofs.Rewritings.{IsCellOf}
-use Rattle.cell_laws.proofs.BoxLinks.{box_law}
 use Rattle.cell_laws.proofs.Laws.{fan_law, found_law, placed}
 
 -- the vertices of which those below k are in, as they were
@@ -123,10 +125,14 @@ module _ (v : Vertices) (b : IsBoxed v) where
   corners_only : (u : ℕ) → Has (front 8 v) u → u < 8
   corners_only u h = ltb-true u 8 (and_parts (nat_lt u 8) (v.is_in u) h.1).0
 
+  first_cell : IsCellOf (front 8 v) (tetrahedron 0 1 2 4)
+  unfolding orientation power is_clear
+  first_cell =
+      corner_cell (front 8 v) (front_boxed 8 (omega arith)) (tetrahedron 0 1 2 4) (omega arith) (omega arith) (omega arith)
+      (omega arith) corners_only refl refl
+
   up_to : (n k : ℕ) → k ≡ 8 + n → k ≤ v.count → (t : Tetrahedron) × IsCellOf (front k v) t
-  up_to zero k e l =
-      subst (λ j. (t : Tetrahedron) × IsCellOf (front j v) t) (sym e)
-      (tetrahedron 0 1 2 4, (box_law (front 8 v) (front_boxed 8 (omega arith)) corners_only).cells 0 (inl refl))
+  up_to zero k e l = subst (λ j. (t : Tetrahedron) × IsCellOf (front j v) t) (sym e) (tetrahedron 0 1 2 4, first_cell)
   up_to (suc n) k e l =
       let h = up_to n (8 + n) refl (omega (arith, e, l)) in
       let i : suc (8 + n) ≡ k = omega (arith, e) in

@@ -15,7 +15,7 @@ use Rattle.geo_sign.proofs.Ties.{decided, five_kept}
 use Rattle.cell_laws.specs.TieLaws.{TieLaw, power_among}
 use Rattle.geo_sign.proofs.CellRows.{distinct}
 use Rattle.cell_laws.proofs.Box.{vertex_within}
-use Rattle.cell_laws.proofs.Heights.{power_tied, tied}
+use Rattle.geo_sign.proofs.CornerCells.{power_tied, tied}
 
 -- both are below zero where the bit is set, and both above it where it is not
 same_signs :

@@ -7,7 +7,7 @@ use Rattle.geo_sign.specs.Polynomial.{variable}
 use Rattle.geo_sign.proofs.Ring.{ring}
 use Rattle.geo_sign.specs.Point.{Point}
 use Rattle.geo_sign.specs.Rational.{RationalPoint, side}
-use Rattle.geo_sign.proofs.Written.{coordinates, RationalSymbols, Symbols, symbols}
+use Rattle.geo_sign.proofs.Written.{coordinates, RationalSymbols, symbols, A, B, C, D}
 use Rattle.geo_sign.specs.Sights.{side_of}
 use Rattle.geo_sign.specs.Tetrahedron.{facet_of, Tetrahedron, tetrahedron}
 use Rattle.geo_sign.specs.Vertices.{orientation_of, Vertices}
@@ -26,10 +26,6 @@ beside v a b c q = side (v.at a) (v.at b) (v.at c) q
 spin_lift : (a b c d : Point) (ha hb hc hd : ℤ) (q : RationalPoint) → lift b c a d hb hc ha hd q ≡ lift a b c d ha hb hc hd q
 unfolding lift side
 spin_lift a b c d ha hb hc hd q =
-    let A : Symbols = symbols 0 in
-    let B : Symbols = symbols 3 in
-    let C : Symbols = symbols 6 in
-    let D : Symbols = symbols 9 in
     let Q : RationalSymbols = record { at = symbols 12; over = variable 15 } in
     ring (coordinates a (coordinates b (coordinates c (coordinates d (coordinates q.at (q.over ∷ ha ∷ hb ∷ hc ∷ hd ∷ []))))))
     (lift' B C A D (variable 17) (variable 18) (variable 16) (variable 19) Q)
@@ -38,10 +34,6 @@ spin_lift a b c d ha hb hc hd q =
 swap_lift : (a b c d : Point) (ha hb hc hd : ℤ) (q : RationalPoint) → lift b a d c hb ha hd hc q ≡ lift a b c d ha hb hc hd q
 unfolding lift side
 swap_lift a b c d ha hb hc hd q =
-    let A : Symbols = symbols 0 in
-    let B : Symbols = symbols 3 in
-    let C : Symbols = symbols 6 in
-    let D : Symbols = symbols 9 in
     let Q : RationalSymbols = record { at = symbols 12; over = variable 15 } in
     ring (coordinates a (coordinates b (coordinates c (coordinates d (coordinates q.at (q.over ∷ ha ∷ hb ∷ hc ∷ hd ∷ []))))))
     (lift' B A D C (variable 17) (variable 16) (variable 19) (variable 18) Q)

@@ -9,21 +9,18 @@
 --   FacetLaw          at most one cell has a given directed facet, at one side
 --   PlaceLaw          each place of the box lies in a cell
 --   OneLaw            a place strictly inside a cell lies in no other
---   six, CornerLaw    the six cells of the box, which are all cells of the corners alone
-use Rattle.std.specs.Prelude.{[], ℕ, ◌<◌, ◌≡◌, ◌⊎◌, ℤ, pos, ◌+ℤ◌, ◌*ℤ◌, ◌<ℤ◌, ◌≤ℤ◌, List, ◌∷◌}
-use Rattle.geo_sign.specs.declared.point.TheConstants.{CORNERS}
+use Rattle.std.specs.Prelude.{ℕ, ◌<◌, ◌≡◌, ◌⊎◌, ℤ, pos, ◌+ℤ◌, ◌*ℤ◌, ◌<ℤ◌, ◌≤ℤ◌}
 use Rattle.geo_sign.specs.Point.{Point}
 use Rattle.geo_sign.specs.Orientation.{orientation}
 use Rattle.geo_sign.specs.Power.{power}
 use Rattle.geo_sign.specs.Rational.{RationalPoint}
 use Rattle.geo_sign.specs.Tetrahedron.{Tetrahedron, tetrahedron, facet, facet_of, IsRotated}
-use Rattle.geo_sign.specs.Vertices.{Vertices, Has, orientation_of, power_of, IsWall}
+use Rattle.geo_sign.specs.Vertices.{Vertices, orientation_of, power_of, IsWall}
 use Rattle.geo_sign.specs.Cells.{IsCell}
 use Rattle.geo_sign.specs.Writings.{IsRewritten, IsVertexOf}
 use Rattle.geo_sign.specs.Boxes.{IsBoxed}
 use Rattle.geo_sign.specs.Places.{IsInBox, IsLyingIn, IsStrictlyIn}
 use Rattle.cell_laws.specs.Lifts.{lift_of}
-use Rattle.cell_laws.specs.Lists.{IsFull}
 
 -- of any five points at any heights
 abbrev pub ThreeTermsLaw : Type 0
@@ -74,13 +71,3 @@ abbrev pub OneLaw : Type 0
 OneLaw =
     (v : Vertices) → IsBoxed v → (t r : Tetrahedron) (q : RationalPoint) → IsCell v t.a t.b t.c t.d → IsCell v r.a r.b r.c r.d →
     IsLyingIn v t q → IsStrictlyIn v r q → IsRewritten t r
-
--- the six cells of the box
-abbrev pub six : List Tetrahedron
-six =
-    tetrahedron 0 1 2 4 ∷ tetrahedron 1 2 4 3 ∷ tetrahedron 1 3 4 5 ∷ tetrahedron 2 3 6 4 ∷ tetrahedron 3 4 5 6
-    ∷ tetrahedron 3 5 7 6 ∷ []
-
--- for every number of vertices, with the corners alone in
-abbrev pub CornerLaw : Type 0
-CornerLaw = (v : Vertices) → IsBoxed v → ((u : ℕ) → Has v u → u < CORNERS) → IsFull v six (λ t. t)

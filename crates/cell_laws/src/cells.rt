@@ -2,7 +2,7 @@
 //! under symbolic perturbation. They suppose only that the corners of the box are in place and in, that the other vertices are
 //! distinct data points, and that heights are those of the perturbation (`IsBoxed`).
 
-ghost use Rattle.cell_laws.specs.CellLaws.{ThreeTermsLaw, GenericLaw, EnvelopeLaw, AcrossLaw, FacetLaw, PlaceLaw, OneLaw, CornerLaw};
+ghost use Rattle.cell_laws.specs.CellLaws.{ThreeTermsLaw, GenericLaw, EnvelopeLaw, AcrossLaw, FacetLaw, PlaceLaw, OneLaw};
 ghost use Rattle.cell_laws.specs.EnvelopeLaws.{StrictEnvelopeLaw, ThreeLiftsLaw};
 ghost use Rattle.cell_laws.specs.TieLaws.{TieLaw};
 
@@ -63,9 +63,4 @@ pub fn place_law()
 /// States that cells do not overlap: a place strictly inside one lies in no other. So point location has one answer.
 pub fn one_law()
     ensures { OneLaw }
-{}
-
-/// States that with the corners alone in, the six cells of the box are exactly the cells, at every exponent.
-pub fn corner_law()
-    ensures { CornerLaw }
 {}

@@ -24,11 +24,11 @@ mod stores;
 mod walks;
 
 pub use cells::{
-    across_law, corner_law, envelope_law, facet_law, generic_law, one_law, place_law,
-    strict_envelope_law, three_lifts_law, three_terms_law, tie_law,
+    across_law, envelope_law, facet_law, generic_law, one_law, place_law, strict_envelope_law,
+    three_lifts_law, three_terms_law, tie_law,
 };
 pub use insertion::{edge_law, fan_law, flood_law, stay_law, vertex_law};
-pub use links::{box_law, cavity_law, closed_law, found_law, linked_law, rim_law};
+pub use links::{cavity_law, closed_law, found_law, linked_law, rim_law};
 pub use stores::{all_law, list_law, row_law, stored_law};
 pub use walks::{
     near_law, path_law, row_sight_law, scanner_law, sight_law, spread_law, step_law,

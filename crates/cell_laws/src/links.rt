@@ -3,12 +3,7 @@
 //! twice (`AreLinked`), and most of them that each name is a cell (`AreCells`).
 
 ghost use Rattle.cell_laws.specs.ClosedLaws.{ClosedLaw};
-ghost use Rattle.cell_laws.specs.LinkLaws.{BoxLaw, LinkedLaw, FoundLaw, CavityLaw, RimLaw};
-
-/// States that with the corners alone in, the six cells of the box, linked as stated, are all cells. A store starts with them.
-pub fn box_law()
-    ensures { BoxLaw }
-{}
+ghost use Rattle.cell_laws.specs.LinkLaws.{LinkedLaw, FoundLaw, CavityLaw, RimLaw};
 
 /// States that linked names, if each is a cell, are all cells, each once. So a store that keeps its links has all cells.
 pub fn linked_law()

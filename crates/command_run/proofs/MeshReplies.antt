@@ -1,14 +1,13 @@
 -- Reading the mesh that a command begins with, and the answers to it.
-use Rattle.std.proofs.Common.{◌≡◌, ◌⊎◌, inl, inr, ℕ, ◌+◌, ◌≤◌, ◌<◌, List, [], length, Option, Some, None, IfSome, false, refl, sym, ap}
-use Rattle.std.proofs.Common.{subst, ◌∙◌, arith, unwrap_or}
-use Rattle.host.specs.State.{State, Told, Files, file_bytes}
-use Rattle.host.specs.Whole.{OnlyReads}
+use Rattle.std.proofs.Common.{◌≡◌, inl, inr, ℕ, ◌≤◌, ◌<◌, List, [], length, Option, Some, None, IfSome, refl, sym, ap}
+use Rattle.std.proofs.Common.{subst, arith, unwrap_or}
+use Rattle.host.specs.State.{State, Told, file_bytes}
 use Rattle.mesh_ply.specs.Meshes.{Surface}
 use Rattle.mesh_ply.specs.declared.mesh.Mesh.{Mesh}
 use Rattle.command_run.specs.Answers.{Answer, IsUnreadMesh, invalid, ToMesh, MayEnd, mesh_task}
 use Rattle.command_run.specs.Lines.{too_long_mesh_line}
 use Rattle.command_run.specs.Replies.{line_bytes, answer_of}
-use Rattle.command_run.specs.Steps.{IsMeshReading, IsUnderstoodMesh, ReadsBy, surface_of, IsReplied, IsAnswered}
+use Rattle.command_run.specs.Steps.{IsMeshReading, IsUnderstoodMesh, surface_of, IsReplied, IsAnswered}
 use Rattle.command_run.specs.declared.reply.Line.{Line}
 use Rattle.command_run.specs.declared.reply.Reply.{Reply}
 use Rattle.command_run.specs.declared.status.Status.{Status}
@@ -51,33 +50,6 @@ pub answered_mesh : (limit : ℕ) (name : List ℕ) (Answers : Surface → Answe
 answered_mesh limit name Answers mesh answer None answers read = tt
 answered_mesh limit name Answers mesh answer (Some told) answers (bytes, there, (within, printed, is)) =
     (bytes, there, inr (record { within = within; mesh = surface_of mesh; printed = printed; text_is = is; answers = answers }))
-
--- an invalid mesh is one file that was read
-pub unread_reads : (limit : ℕ) (bytes : List ℕ) (answer : Answer) → IsUnreadMesh limit bytes answer → answer.reads ≡ 1
-unread_reads limit bytes answer (inl long) = ap (λ (a : Answer). a.reads) long.is
-unread_reads limit bytes answer (inr refused) = ap (λ (a : Answer). a.reads) refused.is
-
--- each answer to a mesh reads one file, if those to a valid one do
-pub mesh_reads : (limit : ℕ) (name : List ℕ) (Answers : Surface → Answer → Type 0) (before after : State)
-    → ((mesh : Surface) (answer : Answer) → Answers mesh answer → answer.reads ≡ 1)
-    → before.writing ≡ false → OnlyReads before after → ReadsBy 1 (ToMesh limit name Answers) before after
-mesh_reads limit name Answers before after one closed only =
-    record {
-      told = only.told;
-      writing = only.writing ∙ closed;
-      opens = omega (arith, only.opens);
-      no_more = by_cases before.told;
-    }
-  where
-    each : (files : Files) (answer : Answer) → ToMesh limit name Answers files answer → answer.reads ≡ 1
-    each files answer (bytes, there, inl unread) = unread_reads limit bytes answer unread
-    each files answer (bytes, there, inr answered) = one answered.mesh answer answered.answers
-
-    by_cases : (o : Option Told)
-        → IfSome o
-        (λ told. (answer : Answer) → ToMesh limit name Answers told.files answer → after.opens ≤ before.opens + answer.reads)
-    by_cases None = tt
-    by_cases (Some told) = λ answer is. omega (arith, only.opens, each told.files answer is)
 
 -- a reply to one file that was read
 one_read : (A : Told → Answer → Type 0) (reply : Reply) (o : Option Told) → IfSome o (λ told. A told (answer_of 1 reply))

@@ -3,20 +3,20 @@
 -- After n steps exactly the first n of the order are in: the order has each number once, so no step meets one that is in. In
 -- the end all are, and then the vertices of the store differ from those of the points in how it is said which are in, which no
 -- cell tells.
-use Rattle.std.proofs.Common.{ℕ, ◌≡◌, ◌<◌, ◌≤◌, ◌+◌, ◌-◌, Bool, true, false, List, ◌++◌, length, refl, ap, ◌∙◌, ⊎_elim, subst}
-use Rattle.std.proofs.Common.{arith, get_or, set, slice_index, slice_index_or}
+use Rattle.std.proofs.Common.{ℕ, ◌≡◌, ◌<◌, ◌≤◌, ◌+◌, ◌-◌, Bool, true, false, List, ◌++◌, length, ap, ◌∙◌, ⊎_elim, subst}
+use Rattle.std.proofs.Common.{arith, set, slice_index, slice_index_or}
 use Rattle.std.specs.Prelude.{nat_lt}
 use Rattle.std.proofs.lemmas.Bool.{cases_lt, le-ltb}
 use Rattle.std.proofs.lemmas.List.{get_or-set_same, get_or-set_other}
 use Rattle.geo_sign.specs.declared.point.TheConstants.{CORNERS}
-use Rattle.geo_sign.specs.Point.{Point, origin}
-use Rattle.geo_sign.specs.Tie.{height}
-use Rattle.geo_sign.specs.Vertices.{boxed_vertices}
-use Rattle.geo_sign.specs.Vertices.{Vertices, corners}
-use Rattle.geo_sign.specs.Cells.{IsCell}
+use Rattle.geo_sign.specs.Point.{Point}
+use Rattle.geo_sign.specs.Boxes.{inserted_vertices}
+use Rattle.geo_sign.specs.Vertices.{Vertices, boxed_vertices, corners}
 use Rattle.geo_sign.proofs.Corners.{vertex_count}
+use Rattle.cell_laws.proofs.Stored.{all_cells, cells_all}
+use Rattle.tetra_store.proofs.BoxStore.{vertices_are}
 use Rattle.tetra_store.specs.Links.{links_of}
-use Rattle.tetra_store.specs.Store.{Store, IsStore, vertices_at, vertices_of}
+use Rattle.tetra_store.specs.Store.{Store, IsStore, vertices_of}
 use Rattle.tetra_store.specs.Delaunay.{IsDelaunay}
 use Rattle.curve_order.specs.Order.{IsOrder}
 
@@ -67,49 +67,15 @@ all_inserted s count order n store points is l h u u_in =
 
 -- ---- the cells of the points
 
-abbrev counted : ℕ → List Point → List Bool → Vertices
-counted n points inserted = record {
-  at = λ u. get_or (corners ++ points) u origin;
-  high = λ u. height n u (get_or (corners ++ points) u origin);
-  count = n;
-  is_in = λ u. slice_index_or inserted u false;
-}
-
-to_points : (points : List Point) (inserted : List Bool)
-    → ((u : ℕ) → u < CORNERS + length points → slice_index_or inserted u false ≡ true) → (a b c d : ℕ)
-    → IsCell (counted (CORNERS + length points) points inserted) a b c d → IsCell (boxed_vertices points) a b c d
-to_points points inserted h a b c d k = record {
-  has_a = (k.has_a.0, refl);
-  has_b = (k.has_b.0, refl);
-  has_c = (k.has_c.0, refl);
-  has_d = (k.has_d.0, refl);
-  positive = k.positive;
-  clear = λ u l. k.clear u (l.0, h u l.0);
-}
-
-of_points : (points : List Point) (inserted : List Bool)
-    → ((u : ℕ) → u < CORNERS + length points → slice_index_or inserted u false ≡ true) → (a b c d : ℕ)
-    → IsCell (boxed_vertices points) a b c d → IsCell (counted (CORNERS + length points) points inserted) a b c d
-of_points points inserted h a b c d k =
-    record {
-      has_a = (k.has_a.0, h a k.has_a.0);
-      has_b = (k.has_b.0, h b k.has_b.0);
-      has_c = (k.has_c.0, h c k.has_c.0);
-      has_d = (k.has_d.0, h d k.has_d.0);
-      positive = k.positive;
-      clear = λ u l. k.clear u (l.0, refl);
-    }
-
 pub of_all : (s : Store) (points : List Point) → s.points ≡ corners ++ points
     → ((u : ℕ) → u < length s.points → slice_index_or s.inserted u false ≡ true) → IsDelaunay (vertices_of s) (links_of s.slots)
     → IsDelaunay (boxed_vertices points) (links_of s.slots)
 of_all s points e h delaunay =
     let h' : (u : ℕ) → u < CORNERS + length points → slice_index_or s.inserted u false ≡ true =
     λ u l. h u (let n = ap length e ∙ vertex_count points in omega arith) in
-    let d : IsDelaunay (counted (CORNERS + length points) points s.inserted) (links_of s.slots) =
-    subst (λ (n : ℕ). IsDelaunay (counted n points s.inserted) (links_of s.slots)) (vertex_count points)
-    (subst (λ (z : List Point). IsDelaunay (vertices_at z s.inserted) (links_of s.slots)) e delaunay) in
+    let d : IsDelaunay (inserted_vertices points s.inserted) (links_of s.slots) =
+    subst (λ (v : Vertices). IsDelaunay v (links_of s.slots)) (vertices_are s.points points s.inserted e) delaunay in
     record {
-      cells = λ id live. (let t = (links_of s.slots).at id in to_points points s.inserted h' t.a t.b t.c t.d (d.cells id live));
-      all = λ a b c d' k. d.all a b c d' (of_points points s.inserted h' a b c d' k);
+      cells = λ id live. (let t = (links_of s.slots).at id in all_cells points s.inserted h' t.a t.b t.c t.d (d.cells id live));
+      all = λ a b c d' k. d.all a b c d' (cells_all points s.inserted h' a b c d' k);
     }

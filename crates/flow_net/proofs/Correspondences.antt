@@ -5,11 +5,10 @@
 -- flows of the same amounts are worth the same and bring the same to each node, so all that is said of them is the same. What
 -- is said of all labels of the one is said of all labels of the other, since these are labels of the one as well: those of the
 -- nodes that stand for its nodes, or of those that its nodes stand for.
-use Rattle.std.proofs.Common.{ℕ, ◌≡◌, ◌≤◌, ◌+◌, ◌↔◌, Bool, cond, not, ◌&&◌, refl, ap, ap₂, sym, subst, ◌∙◌}
-use Rattle.std.proofs.Common.{arith}
+use Rattle.std.proofs.Common.{ℕ, ◌≡◌, ◌≤◌, ◌+◌, ◌↔◌, Bool, cond, not, ◌&&◌, refl, ap, ap₂, sym, subst, ◌∙◌, arith}
 use Rattle.flow_net.specs.Networks.{Network, cost, amount_in, amount_out, value, IsValidFlow, IsAdmissible}
 use Rattle.flow_net.specs.Networks.{IsLeastCost, IsLeastInside, AgreeAsNetworks}
-use Rattle.flow_net.specs.Faults.{IsFixedInside, IsOverCapacity, sink_limit, IsOverSink, total_out, IsUnbalanced, IsNotLeast}
+use Rattle.flow_net.specs.Faults.{sink_limit, total_out}
 
 -- what the nodes and arcs of the one stand for in the other
 pub record Corresponds {Node Arc Place Link : Type 0} (net : Network Node Arc) (far : Network Place Link) : Type 0 where
@@ -97,12 +96,6 @@ module _ {Node Arc Place Link : Type 0} (net : Network Node Arc) (far : Network 
       λ k. record { none_fixed = λ v i e. h v i ∙ k.none_fixed (c.node v) (c.node_there v i) (sym (c.fixed_is v i) ∙ e) },
     )
 
-    pub fixed_inside : (v : Node) → net.HasNode v → IsFixedInside net inside v ↔ IsFixedInside far there (c.node v)
-    fixed_inside v i = (
-      λ f. (sym (c.fixed_is v i) ∙ f.0, sym (h v i) ∙ f.1),
-      λ f. (c.fixed_is v i ∙ f.0, h v i ∙ f.1),
-    )
-
   module _ (inside : Node → Bool) (there : Place → Bool) (h : SameAtNodes c inside there) where
     pub least_cost : IsLeastCost net inside ↔ IsLeastCost far there
     least_cost = (
@@ -139,22 +132,8 @@ module _ {Node Arc Place Link : Type 0} (net : Network Node Arc) (far : Network 
       },
     )
 
-  module _ (inside : Node → Bool) (there : Place → Bool) (h : SameAtNodes c inside there) where
-    pub not_least : (v : Node) → net.HasNode v → IsNotLeast net inside v ↔ IsNotLeast far there (c.node v)
-    not_least v i = (
-      λ f other l.
-          let apart = f (near_labels other) ((least_inside (near_labels other) other (λ w j. refl)).1 l) in
-          (sym (h v i) ∙ apart.0, apart.1),
-      λ f other l.
-          let apart = f (far_labels other) ((least_inside other (far_labels other) (far_same other)).0 l) in
-          (h v i ∙ apart.0, far_same other v i ∙ apart.1),
-    )
-
   -- ---- flows of the same amounts
   module _ (on_arc : Arc → ℕ) (on_link : Link → ℕ) (h : SameOnArcs c on_arc on_link) where
-    pub over_capacity : (a : Arc) → net.HasArc a → IsOverCapacity net on_arc a ↔ IsOverCapacity far on_link (c.arc a)
-    over_capacity a i = let amount = h a i in let cap = c.capacity_is a i in (λ l. omega arith, λ l. omega arith)
-
     pub amount_in_is : (v : Node) → net.HasNode v → amount_in net on_arc v ≡ amount_in far on_link (c.node v)
     amount_in_is v i =
         c.arc_sums _ _
@@ -174,23 +153,11 @@ module _ {Node Arc Place Link : Type 0} (net : Network Node Arc) (far : Network 
         (λ v i. ap₂ (λ b n. cond b n (on_node v)) (c.fixed_is v i) (c.sink_is v i)
         ∙ ap (λ n. cond (far.is_fixed (c.node v)) (far.sink (c.node v)) n) (k v i))
 
-    pub over_sink : (v : Node) → net.HasNode v → IsOverSink net on_node v ↔ IsOverSink far at_place (c.node v)
-    over_sink v i = let amount = k v i in let limit = sink_limit_is v i in (λ l. omega arith, λ l. omega arith)
-
   module _ (on_arc : Arc → ℕ) (on_link : Link → ℕ) (on_node : Node → ℕ) (at_place : Place → ℕ)
       (h : SameOnArcs c on_arc on_link) (k : SameAtNodes c on_node at_place) where
     pub total_out_is : (v : Node) → net.HasNode v
         → total_out net on_arc on_node v ≡ total_out far on_link at_place (c.node v)
     total_out_is v i = ap₂ (λ m n. m + n) (amount_out_is on_arc on_link h v i) (k v i)
-
-    pub unbalanced : (v : Node) → net.HasNode v
-        → IsUnbalanced net on_arc on_node v ↔ IsUnbalanced far on_link at_place (c.node v)
-    unbalanced v i =
-        let entering = amount_in_is on_arc on_link h v i in
-        let leaving = total_out_is v i in (
-          λ f. (sym (c.fixed_is v i) ∙ f.0, λ e. f.1 (entering ∙ e ∙ sym leaving)),
-          λ f. (c.fixed_is v i ∙ f.0, λ e. f.1 (sym entering ∙ e ∙ leaving)),
-        )
 
     pub valid : IsValidFlow net on_arc on_node ↔ IsValidFlow far on_link at_place
     valid = (

@@ -6,7 +6,7 @@ use std::marker::Model;
 
 /// A list over a `Vec`. Contracts see the elements and nothing of its capacity.
 ///
-/// `from` makes one of a `Vec` and `into_vec` gives it back. Neither takes memory.
+/// `from` makes one of a `Vec` and takes no memory.
 #[derive(Debug, Drop)]
 pub struct Sequence<T> {
     items: Vec<T>,
@@ -30,14 +30,6 @@ impl<T> From<Vec<T>> for Sequence<T> {
 }
 
 impl<T> Sequence<T> {
-    /// The elements in a `Vec`.
-    pub fn into_vec(self) -> Vec<T>
-        ensures { result.items ≡ self }
-    {
-        let Sequence { items } = self;
-        items
-    }
-
     /// The elements.
     pub fn as_slice(&self) -> &[T]
         ensures { result.now ≡ self.now }

@@ -6,7 +6,7 @@ use Rattle.geo_sign.specs.Orientation.{orientation}
 use Rattle.geo_sign.specs.Power.{power}
 use Rattle.geo_sign.specs.DeterminantLaws.{CramerLaw, OrientationIsSum, PointIsSum, PowerIsSum}
 use Rattle.geo_sign.proofs.Ring.{ring}
-use Rattle.geo_sign.proofs.Written.{Symbols, symbols, coordinates, step', cross', dot', square', orientation', power'}
+use Rattle.geo_sign.proofs.Written.{Symbols, symbols, coordinates, step', cross', dot', square', orientation', power', A, B, C, D, P}
 
 -- ---- vectors
 abbrev determinant' : (u v w : Symbols) → Polynomial
@@ -43,11 +43,6 @@ five a b c d p = coordinates a (coordinates b (coordinates c (coordinates d (coo
 -- four numbers, each times the orientation in which the fifth point stands in the place of one
 abbrev weighted' : (a b c d : Polynomial) → Polynomial
 weighted' a b c d =
-    let A : Symbols = symbols 0 in
-    let B : Symbols = symbols 3 in
-    let C : Symbols = symbols 6 in
-    let D : Symbols = symbols 9 in
-    let P : Symbols = symbols 12 in
     sum
     (sum (sum (product (orientation' P B C D) a) (product (orientation' A P C D) b)) (product (orientation' A B P D) c))
     (product (orientation' A B C P) d)
@@ -58,11 +53,6 @@ whole' = orientation' (symbols 0) (symbols 3) (symbols 6) (symbols 9)
 pub orientation_is_sum : OrientationIsSum
 unfolding orientation
 orientation_is_sum a b c d p =
-    let A : Symbols = symbols 0 in
-    let B : Symbols = symbols 3 in
-    let C : Symbols = symbols 6 in
-    let D : Symbols = symbols 9 in
-    let P : Symbols = symbols 12 in
     ring (five a b c d p) whole'
     (sum (sum (sum (orientation' P B C D) (orientation' A P C D)) (orientation' A B P D)) (orientation' A B C P)) tt
 
@@ -83,11 +73,6 @@ point_is_sum = record {
 pub power_is_sum : PowerIsSum
 unfolding orientation power
 power_is_sum a b c d p =
-    let A : Symbols = symbols 0 in
-    let B : Symbols = symbols 3 in
-    let C : Symbols = symbols 6 in
-    let D : Symbols = symbols 9 in
-    let P : Symbols = symbols 12 in
     ring (five a b c d p) (power' A B C D P (square' A) (square' B) (square' C) (square' D) (square' P))
     (negation
     (sum

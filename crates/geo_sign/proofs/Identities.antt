@@ -6,7 +6,7 @@ use Rattle.geo_sign.specs.Point.{Point, point, step, cross, dot, square}
 use Rattle.geo_sign.specs.Orientation.{orientation}
 use Rattle.geo_sign.specs.Power.{power, plain_power}
 use Rattle.geo_sign.specs.Rational.{displaced}
-use Rattle.geo_sign.proofs.Written.{Symbols, symbols, coordinates, step', cross', dot', square', power'}
+use Rattle.geo_sign.proofs.Written.{Symbols, symbols, coordinates, step', cross', dot', square', power', A, B, C, D, P}
 
 -- a determinant along its last coordinates
 pub expansion : (u v w : Point)
@@ -27,11 +27,6 @@ pub power_by_differences : (a b c d p : Point)
     ≡ plain_power a b c d p
 unfolding orientation power
 power_by_differences a b c d p =
-    let A : Symbols = symbols 0 in
-    let B : Symbols = symbols 3 in
-    let C : Symbols = symbols 6 in
-    let D : Symbols = symbols 9 in
-    let P : Symbols = symbols 12 in
     let lifted = λ (s u v w : Symbols). product (square' (step' P s)) (dot' (cross' (step' P u) (step' P v)) (step' P w)) in
     ring (coordinates a (coordinates b (coordinates c (coordinates d (coordinates p [])))))
     (difference (sum (difference (lifted D A B C) (lifted C A B D)) (lifted B A C D)) (lifted A B C D))

@@ -21,3 +21,4 @@ pub mod CellRows
 pub mod RowLaws
 pub mod Determinants
 pub mod PowerBounds
+pub mod CornerCells

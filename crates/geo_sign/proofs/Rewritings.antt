@@ -4,6 +4,7 @@
 -- and a side is that of a rotated facet. No premise on the vertices is needed.
 use Rattle.std.proofs.Common.{ℕ, zero, suc, ◌≡◌, ◌<◌, ◌<ℤ◌, ◌≤ℤ◌, refl, ap, ap₂, sym, subst, ◌∙◌, inl, inr, ⊎_elim, arith, Bool}
 use Rattle.std.proofs.Common.{true, false, ◌&&◌, ◌||◌, ◌==◌, ℤ, pos, List, [], ◌∷◌, ◌++◌}
+use Rattle.std.proofs.Math.Bool.{and_assoc, and_comm, or_assoc, or_comm}
 use Rattle.geo_sign.specs.Rational.{RationalPoint}
 use Rattle.geo_sign.specs.Tetrahedron.{Tetrahedron, DirectedFacet, facet, facet_of, vertex_of, IsRotated}
 use Rattle.geo_sign.specs.Vertices.{Vertices, orientation_of, power_of}
@@ -162,38 +163,18 @@ same_strictly v q t r e h =
 
 -- ---- tests of the four facets
 and_spun : (a b c d : Bool) → (b && c && a && d) ≡ (a && b && c && d)
-and_spun true true true d = refl
-and_spun true true false d = refl
-and_spun true false c d = refl
-and_spun false true true d = refl
-and_spun false true false d = refl
-and_spun false false c d = refl
+and_spun a b c d = ap (λ (x : Bool). x && d) (and_comm (b && c) a ∙ sym (and_assoc a b c))
 
 and_swapped : (a b c d : Bool) → (b && a && d && c) ≡ (a && b && c && d)
-and_swapped true true true true = refl
-and_swapped true true true false = refl
-and_swapped true true false true = refl
-and_swapped true true false false = refl
-and_swapped true false c d = refl
-and_swapped false true c d = refl
-and_swapped false false c d = refl
+and_swapped a b c d =
+    and_assoc (b && a) d c ∙ ap₂ (λ (x y : Bool). x && y) (and_comm b a) (and_comm d c) ∙ sym (and_assoc (a && b) c d)
 
 pub or_spun : (a b c d : Bool) → (b || c || a || d) ≡ (a || b || c || d)
-or_spun true true c d = refl
-or_spun true false true d = refl
-or_spun true false false d = refl
-or_spun false true c d = refl
-or_spun false false true d = refl
-or_spun false false false d = refl
+or_spun a b c d = ap (λ (x : Bool). x || d) (or_comm (b || c) a ∙ sym (or_assoc a b c))
 
 pub or_swapped : (a b c d : Bool) → (b || a || d || c) ≡ (a || b || c || d)
-or_swapped true true c d = refl
-or_swapped true false c d = refl
-or_swapped false true c d = refl
-or_swapped false false true true = refl
-or_swapped false false true false = refl
-or_swapped false false false true = refl
-or_swapped false false false false = refl
+or_swapped a b c d =
+    or_assoc (b || a) d c ∙ ap₂ (λ (x y : Bool). x || y) (or_comm b a) (or_comm d c) ∙ sym (or_assoc (a || b) c d)
 
 pub same_has_vertex : (p : ℕ) (t r : Tetrahedron) → IsRewritten t r → has_vertex r p ≡ has_vertex t p
 same_has_vertex p =

@@ -5,7 +5,8 @@
 -- Each of the three vertices can come first, and in two directions: six ways to write a facet. Rotations are the powers of
 -- `round`, whose third is nothing, and a turn is undone by itself up to a rotation; so each statement is one of nine or three
 -- equations. A side is the same one vertex on, and the opposite number where two vertices are exchanged.
-use Rattle.std.proofs.Common.{ℕ, ◌≡◌, refl, ap, ap₂, sym, subst, ◌∙◌, inl, inr, Bool, true, false, ◌&&◌, ℤ}
+use Rattle.std.proofs.Common.{ℕ, ◌≡◌, ap, ap₂, sym, subst, ◌∙◌, inl, inr, Bool, ◌&&◌, ℤ}
+use Rattle.std.proofs.Math.Bool.{and_assoc, and_comm}
 use Rattle.geo_sign.specs.Rational.{RationalPoint, rational, side}
 use Rattle.geo_sign.specs.Tetrahedron.{DirectedFacet, facet, turned, IsRotated, IsTurned}
 use Rattle.geo_sign.specs.Vertices.{Vertices}
@@ -32,7 +33,7 @@ rotated_after f g h (inr (inr e)) (inr (inl k)) = inl (k ∙ ap (λ (x : Directe
 rotated_after f g h (inr (inr e)) (inr (inr k)) = inr (inl (k ∙ ap (λ (x : DirectedFacet). round (round x)) e))
 
 -- a turned facet is a rotation of the one turned at its first vertex
-turned_of : (f g : DirectedFacet) → IsTurned f g → IsRotated (turned f) g
+pub turned_of : (f g : DirectedFacet) → IsTurned f g → IsRotated (turned f) g
 turned_of f g (inl e) = inl e
 turned_of f g (inr (inl e)) = inr (inl e)
 turned_of f g (inr (inr e)) = inr (inr e)
@@ -73,18 +74,10 @@ side_turned v f g q h = side_rotated v (turned f) g q (turned_of f g h) ∙ turn
 
 -- ---- crossings: one vertex on, the three tests of edges are the same in another order
 moved_round : (a b c d e : Bool) → (a && b && d && e && c) ≡ (a && b && c && d && e)
-moved_round true true true true true = refl
-moved_round true true true true false = refl
-moved_round true true true false true = refl
-moved_round true true true false false = refl
-moved_round true true false true e = last e
-  where
-    last : (e : Bool) → (e && false) ≡ false
-    last true = refl
-    last false = refl
-moved_round true true false false e = refl
-moved_round true false c d e = refl
-moved_round false b c d e = refl
+moved_round a b c d e =
+    let x : Bool = a && b in
+    ap (λ (y : Bool). y && c) (and_assoc x d e) ∙ and_assoc x (d && e) c ∙ ap (λ (y : Bool). x && y) (and_comm (d && e) c)
+    ∙ sym (and_assoc x c (d && e)) ∙ sym (and_assoc (x && c) d e)
 
 round_crossed : (v : Vertices) (p : ℕ) (s : RationalPoint) (f : DirectedFacet) → is_crossed v p s (round f) ≡ is_crossed v p s f
 unfolding is_crossed

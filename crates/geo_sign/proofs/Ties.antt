@@ -21,7 +21,7 @@ use Rattle.geo_sign.specs.Power.{power, plain_power}
 use Rattle.geo_sign.specs.Signs.{sign_of, first_sign}
 use Rattle.geo_sign.proofs.Bounds.{orientation_bound}
 use Rattle.geo_sign.proofs.Digits.{sign_above, sign_below, leading_digit}
-use Rattle.geo_sign.proofs.Written.{Symbols, symbols, square', orientation', power', coordinates}
+use Rattle.geo_sign.proofs.Written.{Symbols, square', orientation', power', coordinates, A, B, C, D, P}
 use Rattle.geo_sign.specs.Terms.{Term, leading_of, leading_term, is_below_zero, term, deciding_term}
 use Rattle.geo_sign.specs.Conflict.{AreApart, AreBelow}
 use Rattle.geo_sign.specs.Tie.{tied_power}
@@ -165,11 +165,6 @@ power_is : (n : ℕ) (a b c d p : ℕ × Point)
     → tied_power n a b c d p ≡ pos ((2 ^ 80) ^ n) *ℤ plain_power a.1 b.1 c.1 d.1 p.1 +ℤ ties a b c d p
 unfolding power orientation
 power_is n a b c d p =
-    let A : Symbols = symbols 0 in
-    let B : Symbols = symbols 3 in
-    let C : Symbols = symbols 6 in
-    let D : Symbols = symbols 9 in
-    let P : Symbols = symbols 12 in
     let base : ℕ → ℤ = λ i. pos ((2 ^ 80) ^ i) in
     let high = λ (v : Symbols) (t : Polynomial). sum (product (square' v) (variable 20)) t in
     ring (coordinates a.1

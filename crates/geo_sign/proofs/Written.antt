@@ -2,6 +2,7 @@
 -- word without it, in exactly its shape, so that the value of the one computes to the other.
 --
 --   Symbols, symbols i      a place whose coordinates are polynomials: the variables i, i + 1, i + 2
+--   A, B, C, D, P           the first five of these places
 --   RationalSymbols            such a place over a polynomial
 --   coordinates a numbers   the list of numbers for variables that begins with the coordinates of a
 use Rattle.std.proofs.Common.{ℕ, ◌+◌, ℤ, List, ◌∷◌}
@@ -15,6 +16,21 @@ pub record Symbols : Type 0 where
 
 abbrev pub symbols : ℕ → Symbols
 symbols i = record { x = variable i; y = variable (i + 1); z = variable (i + 2) }
+
+abbrev pub A : Symbols
+A = symbols 0
+
+abbrev pub B : Symbols
+B = symbols 3
+
+abbrev pub C : Symbols
+C = symbols 6
+
+abbrev pub D : Symbols
+D = symbols 9
+
+abbrev pub P : Symbols
+P = symbols 12
 
 pub record RationalSymbols : Type 0 where
   pub at : Symbols

@@ -17,18 +17,14 @@ use Rattle.geo_sign.specs.Rising.{IsBefore}
 use Rattle.geo_sign.proofs.Rising.{not_before_none, before_trans, contains_none, contains_cases}
 use Rattle.geo_sign.proofs.CellRows.{last_below}
 use Rattle.geo_sign.proofs.Members.{here}
+use Rattle.geo_sign.proofs.RowLaws.{by_rising}
 use Rattle.geo_tie.specs.Rising.{IsCellListBefore}
 
 -- ---- a row that is a cell has four numbers
 of_cell : (v : Vertices) (P : List ℕ → Type 0)
     → ((p q r s : ℕ) → p < q → q < r → r < s → FormCell v p q r s → P (p ∷ q ∷ r ∷ s ∷ [])) → (row : List ℕ)
     → IsRisingCell v row → P row
-of_cell v P f [] h = absurd h
-of_cell v P f (p ∷ []) h = absurd h
-of_cell v P f (p ∷ q ∷ []) h = absurd h
-of_cell v P f (p ∷ q ∷ r ∷ []) h = absurd h
-of_cell v P f (p ∷ q ∷ r ∷ s ∷ []) h = f p q r s h.0 h.1 h.2 h.3
-of_cell v P f (p ∷ q ∷ r ∷ s ∷ t ∷ row) h = absurd h
+of_cell v P f = by_rising v P (λ p q r s h. f p q r s h.0 h.1 h.2 h.3)
 
 -- ---- keys that the same cells come before
 abbrev pub Same : (v : Vertices) (key other : List ℕ) → Type 0

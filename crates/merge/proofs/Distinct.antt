@@ -5,18 +5,18 @@
 -- (distinct), and hold what all rows hold (keep). A row more, behind the others, adds its point where it is none of them and
 -- changes nothing else (distinct_push, by whether it is the first row's point).
 use Rattle.std.proofs.Common.{ℤ, ◌≡◌, ◌≢◌, ◌≤◌, ◌&&◌, ◌||◌, not, Bool, true, false, cond, refl, ap, sym, subst, ◌∙◌, arith}
-use Rattle.std.proofs.Common.{List, [], ◌∷◌, ◌++◌, length, filter, All, AllPairs, Contains, ℕ, ◌<◌, ⊎_elim, get_or}
+use Rattle.std.proofs.Common.{List, [], ◌∷◌, ◌++◌, length, filter, All, AllPairs, Contains}
 use Rattle.std.specs.Cmp.{IsEquivalence}
 use Rattle.std.specs.List.{list_any}
 use Rattle.std.specs.Ordering.{int_eq}
-use Rattle.std.proofs.lemmas.Bool.{false≢true, not-true, cases_lt}
+use Rattle.std.proofs.lemmas.Bool.{false≢true, not-true}
 use Rattle.std.proofs.lemmas.List.{append-nil}
 use Rattle.std.proofs.lemmas.Bool.Decides.{Decides-int_eq}
 use Rattle.std.proofs.lemmas.List.Elements.{filter-append, filter_passes, All-filter, All-weaker, All-cons, All-head, All-tail}
 use Rattle.std.proofs.lemmas.List.Kept.{AllPairs-cons, AllPairs-filter}
 use Rattle.std.proofs.lemmas.Map.Views.{any-filter_same, Contains-from_any, All-from_any}
 use Rattle.indexmap.specs.IndexSet.{insert_key}
-use Rattle.geo_sign.specs.Point.{Point, point, origin}
+use Rattle.geo_sign.specs.Point.{Point, point}
 use Rattle.merge.specs.Merging.{is_same_point, distinct_points}
 use Rattle.merge.specs.Laws.{MergedPointsAreFew}
 
@@ -87,11 +87,6 @@ any_distinct q (p ∷ rest) = by (any_distinct q rest) (is_same_point q p) refl
     by behind true e = refl
     by behind false e = any_other p q (distinct_points rest) e ∙ behind
 
-pub each_distinct : (rows : List Point) → All (Contains rows) (distinct_points rows)
-each_distinct rows =
-    All-from_any same_equivalence (Contains rows) (distinct_points rows)
-    (λ q h. Contains-from_any same_is q rows (sym (any_distinct q rows) ∙ h))
-
 pub each_row : (rows : List Point) → All (Contains (distinct_points rows)) rows
 each_row rows =
     All-from_any same_equivalence (Contains (distinct_points rows)) rows
@@ -129,16 +124,6 @@ few_kept test (p ∷ rest) = by (few_kept test rest) (test p)
 pub few : MergedPointsAreFew
 few [] = omega arith
 few (p ∷ rest) = omega (arith, few_kept (is_other p) (distinct_points rest), few rest)
-
--- points of which no two are equal stand at one index each
-pub apart : (list : List Point) → AllPairs (λ p q. p ≢ q) list → (j k : ℕ) → j < length list → k < length list
-    → get_or list j origin ≡ get_or list k origin → j ≡ k
-apart list pairs j k l m h =
-    ⊎_elim (λ (a : j < k). absurd (pairs j k origin a m h))
-    (λ (a : k ≤ j).
-    ⊎_elim (λ (b : k < j). absurd (pairs k j origin b l (sym h))) (λ (b : j ≤ k). let e : j ≡ k = omega (arith, a, b) in e)
-    (cases_lt k j))
-    (cases_lt j k)
 
 -- ---- a row more
 

@@ -17,7 +17,7 @@ pub none_driven : (forms : List Received) (points : List Point) (faces : List (L
 none_driven forms points faces fresh = record { done = λ j d l m. absurd (omega arith); rest = λ j d l m. fresh j d m }
 
 -- the form at k is another
-at_place : (P : Received → Type 0) (k j : ℕ) (forms : List Received) (r d : Received) → j < length forms → (j ≡ k → P r)
+pub at_place : (P : Received → Type 0) (k j : ℕ) (forms : List Received) (r d : Received) → j < length forms → (j ≡ k → P r)
     → (¬ (j ≡ k) → P (get_or forms j d)) → P (get_or (set forms k r) j d)
 at_place P k j forms r d within here other = by (cases_eq j k)
   where

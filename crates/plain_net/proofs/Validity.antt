@@ -6,18 +6,18 @@
 -- else that facet is listed too, and its arc is the reverse of this one (paired, turned_back): the two cases of valid_with.
 -- Capacities and sinks fit because the sights are few and light.
 use Rattle.std.proofs.Common.{ℕ, ◌<◌, ◌≤◌, ◌^◌, ◌≡◌, ◌≢◌, refl, ap, sym, subst, ◌∙◌, arith, Bool, true, false, cond}
-use Rattle.std.proofs.Common.{inl, inr, List, [], ◌∷◌, length, get_or, map, Some, None, Option, Contains, pos}
-use Rattle.std.proofs.Common.{int_lt}
+use Rattle.std.proofs.Common.{inl, inr, List, [], length, get_or, map, Some, None, Option, Contains}
 use Rattle.std.proofs.lemmas.Bool.{false_from_ne_true}
 use Rattle.std.proofs.lemmas.List.{get_or-map, length-map}
 use Rattle.std.proofs.lemmas.List.Sums.{position_or_len_is, passes_at_first}
 use Rattle.geo_sign.proofs.Among.{same_itself, same_means}
 use Rattle.flow_net.specs.Nets.{arc_at, flag_at, no_arc, IsReverseArc, IsValidArc, IsValidNet}
 use Rattle.flow_net.specs.declared.Arc.{Arc}
-use Rattle.geo_sign.specs.Tetrahedron.{Tetrahedron, DirectedFacet, tetrahedron, facet_at, numbers_of, turned}
+use Rattle.geo_sign.specs.Tetrahedron.{Tetrahedron, DirectedFacet, facet_at, numbers_of, turned}
 use Rattle.geo_sign.specs.Tetrahedron.{is_same_facet, is_among}
-use Rattle.geo_sign.specs.Vertices.{Vertices, orientation_of}
-use Rattle.geo_sign.specs.Cells.{IsRisingCell, written}
+use Rattle.geo_sign.proofs.CellRows.{AreDistinct, distinct}
+use Rattle.geo_sign.proofs.RowLaws.{cells_are_rows}
+use Rattle.geo_sign.specs.Cells.{written}
 use Rattle.visibility.specs.Scenes.{Scene}
 use Rattle.visibility.specs.Complexes.{Complex, has_facet, cell_index, cell_of}
 use Rattle.visibility.specs.Votes.{is_fixed, capacity, sink, HasCapacity}
@@ -30,61 +30,24 @@ use Rattle.visibility.proofs.Amounts.{capacity_fits, sink_fits}
 use Rattle.visibility.proofs.Ordered.{OneOf, one_of}
 use Rattle.flow_net.specs.Weights.{IsSightList}
 
--- four numbers of which no two are equal
-pub record AreApart (t : Tetrahedron) : Type 0 where
-  pub a_b : t.a ≢ t.b
-  pub a_c : t.a ≢ t.c
-  pub a_d : t.a ≢ t.d
-  pub b_c : t.b ≢ t.c
-  pub b_d : t.b ≢ t.d
-  pub c_d : t.c ≢ t.d
-
 -- no cell has a facet and the one turned round
-not_both : (t : Tetrahedron) (f : DirectedFacet) → AreApart t → OneOf t f → OneOf t (turned f) → ⊥
-not_both t f o (inl p) (inl q) = omega (arith, o.c_d)
-not_both t f o (inl p) (inr (inl q)) = omega (arith, o.a_b)
-not_both t f o (inl p) (inr (inr (inl q))) = omega (arith, o.a_b)
-not_both t f o (inl p) (inr (inr (inr q))) = omega (arith, o.a_b)
-not_both t f o (inr (inl p)) (inl q) = omega (arith, o.a_b)
-not_both t f o (inr (inl p)) (inr (inl q)) = omega (arith, o.c_d)
-not_both t f o (inr (inl p)) (inr (inr (inl q))) = omega (arith, o.b_c)
-not_both t f o (inr (inl p)) (inr (inr (inr q))) = omega (arith, o.b_d)
-not_both t f o (inr (inr (inl p))) (inl q) = omega (arith, o.a_b)
-not_both t f o (inr (inr (inl p))) (inr (inl q)) = omega (arith, o.b_c)
-not_both t f o (inr (inr (inl p))) (inr (inr (inl q))) = omega (arith, o.b_d)
-not_both t f o (inr (inr (inl p))) (inr (inr (inr q))) = omega (arith, o.c_d)
-not_both t f o (inr (inr (inr p))) (inl q) = omega (arith, o.a_b)
-not_both t f o (inr (inr (inr p))) (inr (inl q)) = omega (arith, o.b_d)
-not_both t f o (inr (inr (inr p))) (inr (inr (inl q))) = omega (arith, o.c_d)
-not_both t f o (inr (inr (inr p))) (inr (inr (inr q))) = omega (arith, o.b_c)
-
--- a cell's numbers, as it is written, are distinct
-pub written_apart : (v : Vertices) (row : List ℕ) → IsRisingCell v row → AreApart (written v row)
-unfolding written
-written_apart v [] h = elim h [ ]
-written_apart v (a ∷ []) h = elim h [ ]
-written_apart v (a ∷ b ∷ []) h = elim h [ ]
-written_apart v (a ∷ b ∷ c ∷ []) h = elim h [ ]
-written_apart v (a ∷ b ∷ c ∷ d ∷ e ∷ rest) h = elim h [ ]
-written_apart v (a ∷ b ∷ c ∷ d ∷ []) h = by (int_lt (pos 0) (orientation_of v a b c d))
-  where
-    by : (positive : Bool) → AreApart (cond positive (tetrahedron a b c d) (tetrahedron a b d c))
-    by true = record {
-      a_b = omega (arith, h.0);
-      a_c = omega (arith, h.0, h.1);
-      a_d = omega (arith, h.0, h.1, h.2);
-      b_c = omega (arith, h.1);
-      b_d = omega (arith, h.1, h.2);
-      c_d = omega (arith, h.2);
-    }
-    by false = record {
-      a_b = omega (arith, h.0);
-      a_c = omega (arith, h.0, h.1, h.2);
-      a_d = omega (arith, h.0, h.1);
-      b_c = omega (arith, h.1, h.2);
-      b_d = omega (arith, h.1);
-      c_d = omega (arith, h.2);
-    }
+not_both : (t : Tetrahedron) (f : DirectedFacet) → AreDistinct t → OneOf t f → OneOf t (turned f) → ⊥
+not_both t f o (inl p) (inl q) = omega (arith, o.d_c)
+not_both t f o (inl p) (inr (inl q)) = omega (arith, o.b_a)
+not_both t f o (inl p) (inr (inr (inl q))) = omega (arith, o.b_a)
+not_both t f o (inl p) (inr (inr (inr q))) = omega (arith, o.b_a)
+not_both t f o (inr (inl p)) (inl q) = omega (arith, o.b_a)
+not_both t f o (inr (inl p)) (inr (inl q)) = omega (arith, o.d_c)
+not_both t f o (inr (inl p)) (inr (inr (inl q))) = omega (arith, o.c_b)
+not_both t f o (inr (inl p)) (inr (inr (inr q))) = omega (arith, o.d_b)
+not_both t f o (inr (inr (inl p))) (inl q) = omega (arith, o.b_a)
+not_both t f o (inr (inr (inl p))) (inr (inl q)) = omega (arith, o.c_b)
+not_both t f o (inr (inr (inl p))) (inr (inr (inl q))) = omega (arith, o.d_b)
+not_both t f o (inr (inr (inl p))) (inr (inr (inr q))) = omega (arith, o.d_c)
+not_both t f o (inr (inr (inr p))) (inl q) = omega (arith, o.b_a)
+not_both t f o (inr (inr (inr p))) (inr (inl q)) = omega (arith, o.d_b)
+not_both t f o (inr (inr (inr p))) (inr (inr (inl q))) = omega (arith, o.d_c)
+not_both t f o (inr (inr (inr p))) (inr (inr (inr q))) = omega (arith, o.c_b)
 
 -- a facet and the one turned round belong to two cells
 cells_differ : (s : Scene) (complex : Complex) (f : List ℕ) → IsListingOf s complex → IsJoined s complex.cells f
@@ -92,8 +55,8 @@ cells_differ : (s : Scene) (complex : Complex) (f : List ℕ) → IsListingOf s 
 cells_differ s complex f o p e =
     let own : ℕ = cell_index s.vertices complex.cells (facet_at f) in
     let row : List ℕ = get_or complex.cells own [] in
-    let apart : AreApart (written s.vertices row) =
-    written_apart s.vertices row (rising_cell s complex o row (index_has complex.cells own p.own)) in
+    let cell = cells_are_rows.cell s.vertices row (rising_cell s complex o row (index_has complex.cells own p.own)) in
+    let apart : AreDistinct (written s.vertices row) = distinct s.vertices (written s.vertices row) cell.positive in
     let first : is_among (written s.vertices row) (facet_at f) ≡ true =
     passes_at_first (λ r. has_facet s.vertices r (facet_at f)) complex.cells [] p.own in
     let second : is_among (written s.vertices row) (turned (facet_at f)) ≡ true =

@@ -1,12 +1,12 @@
 -- The certificate of a scan's network is well formed.
-use Rattle.std.proofs.Common.{ℕ, zero, suc, ◌≡◌, ◌+◌, ◌<◌, ◌≤◌, ◌^◌, not, refl, ap, sym, subst, arith, Bool, true, false, cond}
-use Rattle.std.proofs.Common.{List, [], ◌∷◌, length, map, filter, get_or, eqb, AllPairs, Contains, Option}
-use Rattle.std.proofs.Common.{Some, None}
+use Rattle.std.proofs.Common.{ℕ, zero, suc, ◌≡◌, ◌+◌, ◌<◌, ◌≤◌, ◌^◌, not, refl, ap, sym, subst, arith, Bool, true, false}
+use Rattle.std.proofs.Common.{cond, List, [], ◌∷◌, length, map, filter, get_or, eqb, AllPairs, Contains, Option, Some, None}
 use Rattle.std.proofs.lemmas.Bool.{eqb-false}
 use Rattle.std.proofs.lemmas.List.{get_or-map, length-map}
 use Rattle.std.proofs.lemmas.List.Kept.{AllPairs-filter}
 use Rattle.std.specs.Option.{option_map}
 use Rattle.geo_sign.proofs.CellRows.{last_below}
+use Rattle.geo_sign.proofs.RowLaws.{by_rising}
 use Rattle.cert_text.specs.Stamps.{IsVersion}
 use Rattle.cert_text.specs.declared.stamp.Stamp.{Stamp}
 use Rattle.cert_text.specs.Certificates.{Claim, FitCounts, AreCellRows, IsFlowList, IsSinkList, IsWellFormed, stamp_view}
@@ -60,12 +60,9 @@ facet_is n f few o =
 
 -- a cell of such vertices
 cell_is : (v : Vertices) (row : List ℕ) → v.count ≤ 8 + point_limit → IsRisingCell v row → IsCellRow row
-cell_is v [] few h = elim h [ ]
-cell_is v (a ∷ []) few h = elim h [ ]
-cell_is v (a ∷ b ∷ []) few h = elim h [ ]
-cell_is v (a ∷ b ∷ c ∷ []) few h = elim h [ ]
-cell_is v (a ∷ b ∷ c ∷ d ∷ e ∷ rest) few h = elim h [ ]
-cell_is v (a ∷ b ∷ c ∷ d ∷ []) few h = let below : d < v.count = last_below v a b c d h.3 in (h.0, h.1, h.2, omega arith)
+cell_is v row few =
+    by_rising v IsCellRow
+    (λ a b c d h. let below : d < v.count = last_below v a b c d h.3 in (h.0, h.1, h.2, omega arith)) row
 
 a_cell : (s : Scene) (complex : Complex) → IsComplexOf s complex → s.vertices.count ≤ 8 + point_limit → (row : List ℕ)
     → Contains complex.cells row → IsCellRow row

@@ -10,7 +10,7 @@ use Rattle.std.proofs.Common.{ℕ, zero, suc, ◌<◌, ◌≡◌, ◌⊎◌, inl
 use Rattle.std.proofs.Common.{IsTrue, ◌↔◌, ℤ, pos, ◌<ℤ◌, Bool}
 use Rattle.std.specs.Int.{is_positive}
 use Rattle.std.proofs.lemmas.Int.{ints}
-use Rattle.geo_sign.specs.Rational.{RationalPoint, side}
+use Rattle.geo_sign.specs.Rational.{RationalPoint, side, displaced}
 use Rattle.geo_sign.specs.Cells.{IsCell}
 use Rattle.geo_sign.specs.Sights.{side_of, is_crossed, is_towards, is_cell_of}
 use Rattle.geo_sign.specs.Tetrahedron.{Tetrahedron, DirectedFacet, facet, facet_at, facet_of, vertex_of, turned, IsRotated, IsTurned}
@@ -19,7 +19,7 @@ use Rattle.geo_sign.proofs.Exchanges.{turned_side}
 use Rattle.geo_sign.proofs.Rotations.{side_turned, turned_rotated}
 use Rattle.cell_laws.proofs.Crossings.{IsCrossed}
 use Rattle.geo_sign.specs.Edges.{HasVertex}
-use Rattle.cell_laws.proofs.Sides.{opposite_or_on}
+use Rattle.geo_sign.proofs.Facets.{opposite_or_on}
 use Rattle.cell_laws.proofs.SightTests.{crossed_of, towards_of, strictly_of}
 use Rattle.cell_laws.proofs.SightLaws.{left_of}
 use Rattle.cell_laws.specs.Paths.{IsOnSight}
@@ -27,7 +27,6 @@ use Rattle.cell_laws.specs.WalkLaws.{IsPassedOnce}
 use Rattle.geo_sign.specs.Writings as writings
 use Rattle.std.proofs.Common.{List, [], ◌∷◌, length, set, get_or, slice_index, ap, ◌∙◌}
 use Rattle.geo_sign.specs.Point.{Point, origin}
-use Rattle.geo_sign.specs.Rational.{displaced}
 use Rattle.tetra_store.specs.Links.{tetrahedron_from}
 use Rattle.tetra_store.specs.Store.{Store, vertices_of}
 use Rattle.tetra_store.proofs.Keeps.{vertex_index}

@@ -1,10 +1,11 @@
 -- What holds of the points and the sights of a scan: the points are distinct data points, and each sight is of one of them,
 -- from a scanner that is there.
-use Rattle.std.proofs.Common.{ℕ, ◌≡◌, ◌<◌, arith, sym, subst, List, length, get_or, All}
+use Rattle.std.proofs.Common.{ℕ, ◌≡◌, ◌<◌, arith, sym, subst, length, get_or, All}
 use Rattle.std.proofs.lemmas.List.{get_or-map}
 use Rattle.geo_sign.specs.Point.{IsWithin, origin}
 use Rattle.geo_sign.specs.declared.point.TheConstants.{DATA_LIMIT}
-use Rattle.merge.proofs.Distinct.{distinct, keep, apart}
+use Rattle.geo_sign.proofs.Corners.{apart}
+use Rattle.merge.proofs.Distinct.{distinct, keep}
 use Rattle.scan.specs.Shown.{Shown, IsShown}
 use Rattle.visibility.specs.SceneViews.{IsSightOf}
 use Rattle.solution.specs.Scans.{points_of, sight_of, sights_of}

@@ -25,7 +25,7 @@ filter_same p q (row ∷ rows) same =
     (filter_same p q rows (λ other h. same other (suc h.0, omega (arith, h.1), h.2)))
 
 -- two least insides agree on all cells
-agree : (s : Scene) (complex : Complex) (inside other : List ℕ → Bool) → IsLeastInside s complex inside
+pub agree : (s : Scene) (complex : Complex) (inside other : List ℕ → Bool) → IsLeastInside s complex inside
     → IsLeastInside s complex other → (row : List ℕ) → Contains complex.cells row → inside row ≡ other row
 agree s complex inside other a b row there =
     same_bools (inside row) (other row) (a.within other b.least_cost row there) (b.within inside a.least_cost row there)
@@ -46,57 +46,15 @@ cut_same s complex inside other is same =
     ends_say (network_over s complex) (network_over s complex) (itself (by_itself s complex is)) inside other same f there in
     ap₂ (λ x y. not x && y) ends.0 ends.1)
 
+abbrev counts : (points scanners sights vote smooth cost : ℕ) → Counts
+counts p c s v m n = record { points = p; scanners = c; sights = s; vote = v; smooth = m; cost = n }
+
 same_counts : (a b : Counts) → a.points ≡ b.points → a.scanners ≡ b.scanners → a.sights ≡ b.sights → a.vote ≡ b.vote
     → a.smooth ≡ b.smooth → a.cost ≡ b.cost → a ≡ b
 same_counts a b p q r s t u =
-    ap (λ (n : ℕ). record {
-      points = n;
-      scanners = a.scanners;
-      sights = a.sights;
-      vote = a.vote;
-      smooth = a.smooth;
-      cost = a.cost;
-    }) p
-    ∙ ap (λ (n : ℕ). record {
-      points = b.points;
-      scanners = n;
-      sights = a.sights;
-      vote = a.vote;
-      smooth = a.smooth;
-      cost = a.cost;
-    }) q
-    ∙ ap (λ (n : ℕ). record {
-      points = b.points;
-      scanners = b.scanners;
-      sights = n;
-      vote = a.vote;
-      smooth = a.smooth;
-      cost = a.cost;
-    }) r
-    ∙ ap (λ (n : ℕ). record {
-      points = b.points;
-      scanners = b.scanners;
-      sights = b.sights;
-      vote = n;
-      smooth = a.smooth;
-      cost = a.cost;
-    }) s
-    ∙ ap (λ (n : ℕ). record {
-      points = b.points;
-      scanners = b.scanners;
-      sights = b.sights;
-      vote = b.vote;
-      smooth = n;
-      cost = a.cost;
-    }) t
-    ∙ ap (λ (n : ℕ). record {
-      points = b.points;
-      scanners = b.scanners;
-      sights = b.sights;
-      vote = b.vote;
-      smooth = b.smooth;
-      cost = n;
-    }) u
+    ap₂ (λ (m n : ℕ). counts m n a.sights a.vote a.smooth a.cost) p q
+    ∙ ap₂ (λ (m n : ℕ). counts b.points b.scanners m n a.smooth a.cost) r s
+    ∙ ap₂ (λ (m n : ℕ). counts b.points b.scanners b.sights b.vote m n) t u
 
 pub solution_law : SolutionLaw
 solution_law scan settings mesh other_mesh claim other a b =

@@ -2,24 +2,18 @@
 --
 -- A scene has one list of cells and of facets, and two least insides agree on all cells. So they cut the same facets, and cost the
 -- same.
-use Rattle.std.proofs.Common.{ℕ, ◌≡◌, ◌++◌, ap, sym, subst, ◌∙◌, arith, List, Bool, Contains}
-use Rattle.geo_sign.proofs.Booleans.{same_bools}
+use Rattle.std.proofs.Common.{ℕ, ◌≡◌, ◌++◌, ap, sym, subst, ◌∙◌, arith, List, Bool}
 use Rattle.geo_sign.specs.Point.{Point}
 use Rattle.geo_sign.specs.Vertices.{corners}
 use Rattle.mesh_ply.specs.Meshes.{Surface, mesh_of}
 use Rattle.solution.specs.Scans.{points_of, scene_of_scan}
-use Rattle.solution.proofs.Uniqueness.{cut_same}
+use Rattle.solution.proofs.Uniqueness.{agree, cut_same}
 use Rattle.visibility.specs.Complexes.{Complex}
-use Rattle.visibility.specs.Cuts.{cost, cut_facets, IsLeastInside}
+use Rattle.visibility.specs.Cuts.{cost, cut_facets}
 use Rattle.visibility.specs.Scenes.{Scene}
 use Rattle.visibility.proofs.Ordered.{one_complex}
 use Rattle.sweep.specs.Entries.{CostsLeast, AreBestLabels, IsSurfaceOf}
 use Rattle.sweep.specs.FreshBuilds.{FreshBuildLaw}
-
-agree : (s : Scene) (complex : Complex) (inside other : List ℕ → Bool) → IsLeastInside s complex inside
-    → IsLeastInside s complex other → (row : List ℕ) → Contains complex.cells row → inside row ≡ other row
-agree s complex inside other a b row there =
-    same_bools (inside row) (other row) (a.within other b.least_cost row there) (b.within inside a.least_cost row there)
 
 -- two best labels are over one complex
 over : (s : Scene) (complex other : Complex) (inside far : List ℕ → Bool) → AreBestLabels s complex inside → AreBestLabels s other far

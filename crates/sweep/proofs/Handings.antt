@@ -3,7 +3,7 @@
 -- The first k forms have received the meshes of their entries, and the others are fresh (`AreHanded`). One form more makes it hold
 -- of k + 1 (`one_handed`); where there is no memory for a form, it has a front of its mesh (`one_front`).
 use Rattle.std.proofs.Common.{ℕ, ◌≡◌, ◌<◌, ◌≤◌, ◌+◌, ◌-◌, ◌⊎◌, inl, inr, refl, ap, sym, subst, arith, List, length, set}
-use Rattle.std.proofs.Common.{get_or, map, zero, suc, All}
+use Rattle.std.proofs.Common.{get_or, map, All}
 use Rattle.std.proofs.lemmas.List.{get_or-set_same, get_or-set_other, get_or-map, map-set, length-set, length-map}
 use Rattle.std.proofs.lemmas.Bool.{cases_eq, cases_lt}
 use Rattle.flow_net.specs.declared.votes.Settings.{Settings}
@@ -65,21 +65,6 @@ pub one_back : (from step k : ℕ) → smoothing_of from step (k + 1 - 1) ≡ sm
 one_back from step k =
     let same : k + 1 - 1 ≡ k = omega arith in
     ap (smoothing_of from step) same
-
-up_to : (from step k more : ℕ) → smoothing_of from step k ≤ smoothing_of from step (k + more)
-up_to from step k zero = omega arith
-up_to from step k (suc more) = omega (arith, up_to from step k more)
-
-pub below_last : (from step k n : ℕ) → k < n → smoothing_of from step k ≤ smoothing_of from step (n - 1)
-below_last from step k n l =
-    let up = up_to from step k (n - 1 - k) in
-    let same : k + (n - 1 - k) ≡ n - 1 = omega arith in
-    subst (λ (i : ℕ). smoothing_of from step k ≤ smoothing_of from step i) same up
-
--- an entry's number is at most its smoothing
-pub few_steps : (from step k : ℕ) → 1 ≤ step → k ≤ smoothing_of from step k
-few_steps from step zero rises = omega arith
-few_steps from step (suc k) rises = omega (arith, few_steps from step k rises)
 
 -- ---- forms one after another
 -- the first k forms have received the meshes of their entries, and the others are fresh

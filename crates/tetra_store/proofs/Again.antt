@@ -15,10 +15,9 @@ use Rattle.tetra_store.specs.Links.{Links, IsLive, IsLinked}
 use Rattle.tetra_store.specs.Store.{vertices_at}
 use Rattle.geo_sign.specs.Edges.{over, edge_start, edge_end, HasVertex}
 use Rattle.geo_sign.proofs.Rotations.{rotated_back, rotated_after, turned_back}
-use Rattle.geo_sign.proofs.Facets.{in_rotated, in_of, apex_on}
+use Rattle.geo_sign.proofs.Facets.{in_rotated, in_of, apex_on, IsDistinct}
 use Rattle.tetra_store.specs.Fan.{fan_facet, fan_outer}
-use Rattle.tetra_store.proofs.Facets.{IsDistinct, side_over}
-use Rattle.tetra_store.proofs.Facets.{same_edge, start_in, end_in, over_distinct, over_in, three_or_below}
+use Rattle.tetra_store.proofs.Facets.{side_over, same_edge, start_in, end_in, over_distinct, over_in, three_or_below}
 use Rattle.tetra_store.proofs.Backs.{distinct_at, has_of, cell_live, fan_apart, fan_has, fan_without, not_fan, back}
 use Rattle.tetra_store.proofs.Rebuilt.{IsRebuilding, wall_rotated, wall_turned, wall_below, wall_same}
 

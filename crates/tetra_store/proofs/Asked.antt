@@ -7,7 +7,7 @@ use Rattle.std.proofs.Common.{ℕ, ◌≡◌, ◌<◌, ◌≤◌, ◌^◌, List,
 use Rattle.geo_sign.specs.Tetrahedron.{vertex_of, facet_of}
 use Rattle.geo_sign.specs.Vertices.{Has}
 use Rattle.tetra_store.specs.declared.fan.Facet.{Facet}
-use Rattle.tetra_store.specs.Links.{Links, links_of, IsBack}
+use Rattle.tetra_store.specs.Links.{links_of, IsBack}
 use Rattle.tetra_store.specs.Store.{Store, IsStore, vertices_of}
 use Rattle.geo_sign.specs.Edges.{over, edge_start, edge_end, HasVertex}
 use Rattle.geo_sign.proofs.Rotations.{rotated_back, rotated_turned}
@@ -20,9 +20,6 @@ use Rattle.tetra_store.proofs.Backs.{has_of, distinct_at}
 use Rattle.tetra_store.proofs.Observed.{slot_in}
 
 module _ (s : Store) (old : List ℕ) (fan : List Facet) (p : ℕ) (store : IsStore s) (can : CanReplace s old fan p) where
-  links : Links
-  links = links_of s.slots
-
   pub fan_vertex : (i u : ℕ) → i < length fan → HasVertex (fan_facet fan i) u → Has (vertices_of s) u
   fan_vertex i u l h =
       let m = can.rim.rim i l in

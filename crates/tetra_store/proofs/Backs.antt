@@ -15,11 +15,9 @@ use Rattle.tetra_store.specs.Links.{Links, IsLive, IsBack, IsLinked}
 use Rattle.tetra_store.specs.Store.{vertices_at}
 use Rattle.geo_sign.specs.Edges.{over, HasVertex}
 use Rattle.geo_sign.proofs.Rotations.{rotated_back, rotated_after, turned_back, turned_rotated, turned_turned}
-use Rattle.geo_sign.proofs.Facets.{in_rotated, in_of}
+use Rattle.geo_sign.proofs.Facets.{in_rotated, in_of, IsDistinct, distinct_sides}
 use Rattle.tetra_store.specs.Fan.{fan_facet, fan_outer, IsOutside}
-use Rattle.tetra_store.proofs.Facets.{IsDistinct, IsApart}
-use Rattle.tetra_store.proofs.Facets.{place_of, same_side, edges_turned, facet_apart, apart_rotated}
-use Rattle.tetra_store.proofs.Facets.{three_or_below}
+use Rattle.tetra_store.proofs.Facets.{IsApart, place_of, edges_turned, facet_apart, apart_rotated, three_or_below}
 use Rattle.tetra_store.specs.Steps.{IsRenamed}
 use Rattle.tetra_store.proofs.Rebuilt.{IsRebuilding, listed_or_not}
 
@@ -125,7 +123,7 @@ module _ {points : List Point} {flags flags' : List Bool} {a b : Links} {old : L
       let rot' : IsRotated (facet_of (a.at y) back.side) (facet_of (a.at y) m.side) =
       subst (λ (c : ℕ). IsRotated (facet_of (a.at y) back.side) (facet_of (a.at c) m.side)) (sym same) rot in
       let side : back.side ≡ m.side =
-      same_side (a.at y) (distinct_at r.linked y back.live) back.side m.side back.in_range m.in_range rot' in
+      distinct_sides (a.at y) (distinct_at r.linked y back.live) back.side m.side back.in_range m.in_range rot' in
       let was : a.next y back.side ≡ fan_outer fan f.0 =
       subst (λ (c : ℕ). a.next c back.side ≡ fan_outer fan f.0) (sym same)
       (subst (λ (s : ℕ). a.next m.cell s ≡ fan_outer fan f.0) (sym side) m.neighbor) in
@@ -133,7 +131,7 @@ module _ {points : List Point} {flags flags' : List Bool} {a b : Links} {old : L
       let h = r.rebuilt.named f.0 x f.1 is in
       let turned : IsTurned (facet_of (a.at x) k) (fan_facet fan f.0) =
       turned_rotated (facet_of (a.at x) k) (facet_of (a.at y) back.side) (fan_facet fan f.0) back.turned f.2 in
-      let k_is : h.side ≡ k = same_side (a.at x) (distinct_at r.linked x live) h.side k h.side_in l
+      let k_is : h.side ≡ k = distinct_sides (a.at x) (distinct_at r.linked x live) h.side k h.side_in l
       (turned_turned (facet_of (a.at x) h.side) (fan_facet fan f.0) (facet_of (a.at x) k)
       (turned_back (fan_facet fan f.0) (facet_of (a.at x) h.side) h.turned)
       (turned_back (facet_of (a.at x) k) (fan_facet fan f.0) turned)) in

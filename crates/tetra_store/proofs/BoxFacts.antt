@@ -9,7 +9,6 @@ use Rattle.std.proofs.Common.{if◌then◌else◌, List, [], ◌∷◌, Option, 
 use Rattle.std.proofs.Common.{slice_index, slice_index_or}
 use Rattle.std.proofs.lemmas.Bool.{false≢true, or_cases, and_parts, eq-eqb, ltb-true, eqb-true}
 use Rattle.geo_sign.specs.declared.point.TheConstants.{CORNERS}
-use Rattle.geo_sign.specs.Point.{Point, corner_point}
 use Rattle.geo_sign.specs.Orientation.{orientation}
 use Rattle.geo_sign.specs.Tetrahedron.{Tetrahedron, vertex_of, facet_of, IsRotated, IsTurned}
 use Rattle.geo_sign.specs.Vertices.{Vertices, Has, IsWall, orientation_of}
@@ -20,9 +19,11 @@ use Rattle.geo_sign.specs.Edges.{HasVertex}
 use Rattle.geo_sign.proofs.SignTests.{above_true}
 use Rattle.geo_sign.proofs.Facets.{in_of}
 use Rattle.tetra_store.proofs.Facets.{place_of, at_place}
-use Rattle.tetra_store.proofs.Reflect.{every, every_at, implied, same, same_is}
-use Rattle.tetra_store.proofs.Reflect.{rotated_test, rotated_yes, turned_test, turned_of, wall_test, wall_of}
-use Rattle.tetra_store.proofs.Reflect.{wall_yes}
+use Rattle.geo_sign.proofs.Booleans.{every, every_at}
+use Rattle.geo_sign.proofs.CornerCells.{corner_orientation, corner_orient}
+use Rattle.geo_sign.specs.Boxes.{IsBoxed}
+use Rattle.tetra_store.proofs.Reflect.{implied, same, same_is, rotated_test, rotated_yes, turned_test, turned_of, wall_test}
+use Rattle.tetra_store.proofs.Reflect.{wall_of, wall_yes}
 
 -- the side across which the cell across names the cell back
 abbrev box_backs : List (List ℕ)
@@ -60,18 +61,12 @@ box_distinct i j k l m n e =
     eqb-true j k (implied (vertex_of (box_tetrahedron i) j == vertex_of (box_tetrahedron i) k) (j == k) t
     (eq-eqb (vertex_of (box_tetrahedron i) j) (vertex_of (box_tetrahedron i) k) e))
 
-abbrev pub corner_orientation : Tetrahedron → ℤ
-corner_orientation t = orientation (corner_point t.a) (corner_point t.b) (corner_point t.c) (corner_point t.d)
-
-abbrev positive_test : ℕ → Bool
+abbrev pub positive_test : ℕ → Bool
 positive_test i = int_lt (pos 0) (corner_orientation (box_tetrahedron i))
 
-positive_all : every 6 positive_test ≡ true
+pub positive_all : every 6 positive_test ≡ true
 unfolding orientation
 positive_all = refl
-
-pub box_positive : (i : ℕ) → i < 6 → pos 0 <ℤ corner_orientation (box_tetrahedron i)
-box_positive i l = above_true (corner_orientation (box_tetrahedron i)) (every_at 6 positive_test positive_all i l)
 
 abbrev back_test : ℕ → ℕ → Bool
 back_test i k =
@@ -158,8 +153,7 @@ across_none : (b : Bool) (x : ℕ) → (if b then None else Some x) ≡ (let o :
 across_none true x h = refl
 across_none false x h = absurd cc
 
-module _ (v : Vertices) (links : Links) (ids : List ℕ) (box : AreBoxCells links ids)
-    (corners : (k : ℕ) → k < CORNERS → v.at k ≡ corner_point k) (inside : (k : ℕ) → k < CORNERS → Has v k) where
+module _ (v : Vertices) (boxed : IsBoxed v) (links : Links) (ids : List ℕ) (box : AreBoxCells links ids) where
   facet_below : (i k u : ℕ) → i < 6 → HasVertex (facet_of (box_tetrahedron i) k) u → u < 8
   facet_below i k u l h =
       let o = place_of (box_tetrahedron i) u (in_of (box_tetrahedron i) k u h) in
@@ -169,15 +163,10 @@ module _ (v : Vertices) (links : Links) (ids : List ℕ) (box : AreBoxCells link
       → pos 0 <ℤ orientation_of v (box_tetrahedron i).a (box_tetrahedron i).b (box_tetrahedron i).c (box_tetrahedron i).d
   positive_at i l =
       let t = box_tetrahedron i in
-      let a = corners t.a (box_below i 0 l (omega arith)) in
-      let b = corners t.b (box_below i 1 l (omega arith)) in
-      let c = corners t.c (box_below i 2 l (omega arith)) in
-      let d = corners t.d (box_below i 3 l (omega arith)) in
-      subst (λ (z : Point). pos 0 <ℤ orientation z (v.at t.b) (v.at t.c) (v.at t.d)) (sym a)
-      (subst (λ (z : Point). pos 0 <ℤ orientation (corner_point t.a) z (v.at t.c) (v.at t.d)) (sym b)
-      (subst (λ (z : Point). pos 0 <ℤ orientation (corner_point t.a) (corner_point t.b) z (v.at t.d)) (sym c)
-      (subst (λ (z : Point). pos 0 <ℤ orientation (corner_point t.a) (corner_point t.b) (corner_point t.c) z) (sym d)
-      (box_positive i l))))
+      subst (λ (z : ℤ). pos 0 <ℤ z)
+      (sym (corner_orient v boxed t (box_below i 0 l (omega arith)) (box_below i 1 l (omega arith))
+      (box_below i 2 l (omega arith)) (box_below i 3 l (omega arith))))
+      (above_true (corner_orientation t) (every_at 6 positive_test positive_all i l))
 
   back_at : (i k y : ℕ) → i < 6 → k < 4 → links.next (slice_index ids i) k ≡ Some y → IsBack links (slice_index ids i) k y
   back_at i k y l m e =
@@ -221,13 +210,13 @@ module _ (v : Vertices) (links : Links) (ids : List ℕ) (box : AreBoxCells link
   wall_at i k l m e =
       let six = across_none (box_number i k == 6) (slice_index ids (box_number i k)) (sym (box.next i k l m) ∙ e) in
       let f = facet_of (box_tetrahedron i) k in
-      wall_of v corners f (facet_below i k f.a l (inl refl)) (facet_below i k f.b l (inr (inl refl)))
+      wall_of v boxed.corner_at f (facet_below i k f.a l (inl refl)) (facet_below i k f.b l (inr (inl refl)))
       (facet_below i k f.c l (inr (inr refl))) (sym (box_walled i k l m) ∙ six)
 
   inner_at : (i k : ℕ) → i < 6 → k < 4 → IsWall v (facet_of (box_tetrahedron i) k) → links.next (slice_index ids i) k ≡ None
   inner_at i k l m w =
       box.next i k l m ∙ across_if (box_number i k == 6) (slice_index ids (box_number i k))
-      (box_walled i k l m ∙ wall_yes v corners (facet_of (box_tetrahedron i) k) w)
+      (box_walled i k l m ∙ wall_yes v boxed.corner_at (facet_of (box_tetrahedron i) k) w)
 
   -- what holds of each of the six holds of each
   each : (P : ℕ → Tetrahedron → Type 0) → ((i : ℕ) → i < 6 → P (slice_index ids i) (box_tetrahedron i)) → (x : ℕ)
@@ -252,7 +241,7 @@ module _ (v : Vertices) (links : Links) (ids : List ℕ) (box : AreBoxCells link
   box_linked = record {
     has =
         λ x k live m.
-        each (λ z t. Has v (vertex_of t k)) (λ i l. inside (vertex_of (box_tetrahedron i) k) (box_below i k l m)) x live;
+        each (λ z t. Has v (vertex_of t k)) (λ i l. boxed.corner_in (vertex_of (box_tetrahedron i) k) (box_below i k l m)) x live;
     distinct = λ x j k live m n. each (λ z t. vertex_of t j ≡ vertex_of t k → j ≡ k) (λ i l. box_distinct i j k l m n) x live;
     positive = λ x live. each (λ z t. pos 0 <ℤ orientation_of v t.a t.b t.c t.d) positive_at x live;
     back = λ x k y live m e. let i = box.only x live in

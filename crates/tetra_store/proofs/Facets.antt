@@ -1,15 +1,13 @@
 -- Directed facets, turned and written from another vertex on.
 --
--- A cell has four vertices and a facet three edges, so each lemma goes through the few indices. Of distinct vertices the one
--- opposite to a facet is not in it and the others are (opposite_out, others_in), so a facet is that of one side (same_side).
--- Side e of the new cell over f has f's edge e in the other direction and p (side_over): so two new cells have a facet in
+-- A cell has four vertices and a facet three edges, so each lemma goes through the few indices. Side e of the new cell over f has f's edge e in the other direction and p (side_over): so two new cells have a facet in
 -- common, one turned round, where their edges are each other's reverse (edges_turned, same_edge).
 use Rattle.std.proofs.Common.{ℕ, zero, suc, ◌≡◌, ◌≢◌, ◌<◌, refl, sym, ap, ◌⊎◌, inl, inr, subst, arith}
 use Rattle.geo_sign.specs.Tetrahedron.{Tetrahedron, DirectedFacet, facet, vertex_of, facet_of, IsRotated, IsTurned}
 use Rattle.geo_sign.specs.Writings.{IsVertexOf}
 use Rattle.geo_sign.specs.Edges.{HasVertex, over, edge_start, edge_end}
 use Rattle.geo_sign.proofs.Rotations.{rotated_back, turned_rotated, rotated_turned}
-use Rattle.geo_sign.proofs.Facets.{in_rotated}
+use Rattle.geo_sign.proofs.Facets.{IsDistinct, vertex_in}
 
 abbrev one : DirectedFacet → DirectedFacet
 one f = facet f.b f.c f.a
@@ -26,59 +24,7 @@ place_of t u (inr (inr (inr e))) = (3, omega arith, sym e)
 
 -- what stands at a place is a vertex
 pub at_place : (t : Tetrahedron) (k u : ℕ) → vertex_of t k ≡ u → IsVertexOf t u
-at_place t zero u e = inl (sym e)
-at_place t (suc zero) u e = inr (inl (sym e))
-at_place t (suc (suc zero)) u e = inr (inr (inl (sym e)))
-at_place t (suc (suc (suc k))) u e = inr (inr (inr (sym e)))
-
-abbrev pub IsDistinct : Tetrahedron → Type 0
-IsDistinct t = (j k : ℕ) → j < 4 → k < 4 → vertex_of t j ≡ vertex_of t k → j ≡ k
-
--- the vertex opposite to a facet is not in it
-pub opposite_out : (t : Tetrahedron) → IsDistinct t → (k : ℕ) → k < 4 → HasVertex (facet_of t k) (vertex_of t k) → ⊥
-opposite_out t d zero l (inl h) = let e = d 0 1 (omega arith) (omega arith) h in omega arith
-opposite_out t d zero l (inr (inl h)) = let e = d 0 3 (omega arith) (omega arith) h in omega arith
-opposite_out t d zero l (inr (inr h)) = let e = d 0 2 (omega arith) (omega arith) h in omega arith
-opposite_out t d (suc zero) l (inl h) = let e = d 1 0 (omega arith) (omega arith) h in omega arith
-opposite_out t d (suc zero) l (inr (inl h)) = let e = d 1 2 (omega arith) (omega arith) h in omega arith
-opposite_out t d (suc zero) l (inr (inr h)) = let e = d 1 3 (omega arith) (omega arith) h in omega arith
-opposite_out t d (suc (suc zero)) l (inl h) = let e = d 2 0 (omega arith) (omega arith) h in omega arith
-opposite_out t d (suc (suc zero)) l (inr (inl h)) = let e = d 2 3 (omega arith) (omega arith) h in omega arith
-opposite_out t d (suc (suc zero)) l (inr (inr h)) = let e = d 2 1 (omega arith) (omega arith) h in omega arith
-opposite_out t d (suc (suc (suc zero))) l (inl h) = let e = d 3 0 (omega arith) (omega arith) h in omega arith
-opposite_out t d (suc (suc (suc zero))) l (inr (inl h)) = let e = d 3 1 (omega arith) (omega arith) h in omega arith
-opposite_out t d (suc (suc (suc zero))) l (inr (inr h)) = let e = d 3 2 (omega arith) (omega arith) h in omega arith
-opposite_out t d (suc (suc (suc (suc k)))) l h = omega arith
-
--- each other vertex is
-pub others_in : (t : Tetrahedron) (j k : ℕ) → j < 4 → k < 4 → (j ≡ k) ⊎ HasVertex (facet_of t k) (vertex_of t j)
-others_in t zero zero l m = inl refl
-others_in t zero (suc zero) l m = inr (inl refl)
-others_in t zero (suc (suc zero)) l m = inr (inl refl)
-others_in t zero (suc (suc (suc k))) l m = inr (inl refl)
-others_in t (suc zero) zero l m = inr (inl refl)
-others_in t (suc zero) (suc zero) l m = inl refl
-others_in t (suc zero) (suc (suc zero)) l m = inr (inr (inr refl))
-others_in t (suc zero) (suc (suc (suc k))) l m = inr (inr (inl refl))
-others_in t (suc (suc zero)) zero l m = inr (inr (inr refl))
-others_in t (suc (suc zero)) (suc zero) l m = inr (inr (inl refl))
-others_in t (suc (suc zero)) (suc (suc zero)) l m = inl refl
-others_in t (suc (suc zero)) (suc (suc (suc k))) l m = inr (inr (inr refl))
-others_in t (suc (suc (suc zero))) zero l m = inr (inr (inl refl))
-others_in t (suc (suc (suc zero))) (suc zero) l m = inr (inr (inr refl))
-others_in t (suc (suc (suc zero))) (suc (suc zero)) l m = inr (inr (inl refl))
-others_in t (suc (suc (suc zero))) (suc (suc (suc zero))) l m = inl refl
-others_in t (suc (suc (suc (suc j)))) k l m = absurd (omega arith)
-others_in t j (suc (suc (suc (suc k)))) l m = absurd (omega arith)
-
--- one side of a cell has the facet
-pub same_side : (t : Tetrahedron) → IsDistinct t → (j k : ℕ) → j < 4 → k < 4 → IsRotated (facet_of t j) (facet_of t k) → j ≡ k
-same_side t d j k l m r = elim (others_in t j k l m) [
-  | inl e ↦ e
-  | inr h ↦
-      absurd (opposite_out t d j l
-      (in_rotated (facet_of t k) (facet_of t j) (vertex_of t j) (rotated_back (facet_of t j) (facet_of t k) r) h))
-]
+at_place t k u e = subst (IsVertexOf t) e (vertex_in t k)
 
 -- ---- cells over a facet with p
 

@@ -6,7 +6,7 @@ use Rattle.std.proofs.lemmas.Bool.{cases_eq}
 use Rattle.geo_sign.specs.declared.point.TheConstants.{CORNERS}
 use Rattle.geo_sign.specs.Point.{Point}
 use Rattle.geo_sign.specs.Tetrahedron as geo
-use Rattle.geo_sign.specs.Tetrahedron.{Tetrahedron, facet, IsRotated, IsTurned}
+use Rattle.geo_sign.specs.Tetrahedron.{facet, IsRotated, IsTurned}
 use Rattle.geo_sign.specs.Vertices.{Vertices, Has, IsWall, orientation_of}
 use Rattle.tetra_store.specs.declared.fan.Facet.{Facet}
 use Rattle.tetra_store.specs.Links.{Links, IsLive, IsLinked}

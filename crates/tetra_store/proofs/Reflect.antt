@@ -1,17 +1,13 @@
 -- Tests of small tables that are computed, and what they say.
-use Rattle.std.proofs.Common.{ℕ, zero, suc, ◌≡◌, ◌<◌, Bool, true, false, not, cond, ◌&&◌, ◌||◌, ◌==◌, bit_and, ℤ, pos}
+use Rattle.std.proofs.Common.{ℕ, ◌≡◌, ◌<◌, Bool, true, false, not, cond, ◌&&◌, ◌||◌, ◌==◌, bit_and, ℤ, pos}
 use Rattle.std.proofs.Common.{neg_ℤ, refl, sym, ap, ◌∙◌, inl, inr, subst, arith}
-use Rattle.std.proofs.lemmas.Bool.{cases_lt, eqb-true, eq-eqb, false≢true, or_left, or_right, and_from, or_cases, and_parts}
+use Rattle.std.proofs.lemmas.Bool.{eqb-true, eq-eqb, false≢true, or_left, or_right, and_from, or_cases, and_parts}
 use Rattle.std.proofs.lemmas.Int.{ints}
 use Rattle.geo_sign.specs.Point.{Point, corner_point}
 use Rattle.geo_sign.specs.declared.point.TheConstants.{BOX_LIMIT, CORNERS}
 use Rattle.geo_sign.specs.Tetrahedron as geo
 use Rattle.geo_sign.specs.Tetrahedron.{facet, IsRotated, IsTurned}
 use Rattle.geo_sign.specs.Vertices.{Vertices, IsWall}
-
-abbrev pub every : ℕ → (ℕ → Bool) → Bool
-every zero f = true
-every (suc n) f = every n f && f n
 
 -- not a, or b
 pub implied : (a b : Bool) → (not a || b) ≡ true → a ≡ true → b ≡ true
@@ -26,13 +22,6 @@ pub same_is : (a b : Bool) → same a b ≡ true → a ≡ b
 same_is true b h = sym h
 same_is false true h = absurd (false≢true h)
 same_is false false h = refl
-
-pub every_at : (n : ℕ) (f : ℕ → Bool) → every n f ≡ true → (k : ℕ) → k < n → f k ≡ true
-every_at zero f h k l = absurd (omega arith)
-every_at (suc n) f h k l = elim (cases_lt k n) [
-  | inl less ↦ every_at n f (and_parts (every n f) (f n) h).0 k less
-  | inr more ↦ let e : n ≡ k = omega arith in subst (λ (i : ℕ). f i ≡ true) e (and_parts (every n f) (f n) h).1
-]
 
 -- ---- facets
 

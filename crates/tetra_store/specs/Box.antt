@@ -5,9 +5,15 @@
 --   across_in ids i k             the number of the adjacent cell at side k of cell i
 --   AreBoxCells links ids         the cells are these six, linked
 --   box_keeper u                  one of the six that has corner u
+--   CornerLaw                     the six cells are all cells of the corners alone
 use Rattle.std.specs.Prelude.{ℕ, ◌≡◌, ◌≢◌, ◌<◌, ◌≤◌, ◌+◌, ◌*◌, ◌==◌, ◌⊎◌, if◌then◌else◌, List, [], ◌∷◌, Option, Some, None}
 use Rattle.std.specs.Prelude.{slice_index, slice_index_or}
-use Rattle.geo_sign.specs.Tetrahedron.{Tetrahedron}
+use Rattle.geo_sign.specs.declared.point.TheConstants.{CORNERS}
+use Rattle.geo_sign.specs.Tetrahedron.{Tetrahedron, tetrahedron}
+use Rattle.geo_sign.specs.Vertices.{Vertices, Has}
+use Rattle.geo_sign.specs.Cells.{IsCell}
+use Rattle.geo_sign.specs.Writings.{IsRewritten}
+use Rattle.geo_sign.specs.Boxes.{IsBoxed}
 use Rattle.tetra_store.specs.declared.link.Cell.{Cell}
 use Rattle.tetra_store.specs.Links.{Links, tetrahedron_from, IsLive}
 
@@ -65,3 +71,13 @@ pub record AreBoxCells (links : Links) (ids : List ℕ) : Type 0 where
   pub at : (i : ℕ) → i < 6 → links.at (slice_index ids i) ≡ box_tetrahedron i
   pub next : (i k : ℕ) → i < 6 → k < 4 → links.next (slice_index ids i) k ≡ across_in ids i k
   pub only : (x : ℕ) → IsLive links x → (i : ℕ) × (i < 6) × (slice_index ids i ≡ x)
+
+-- the six are cells, and each cell is one of them up to an even permutation
+pub record AreBoxCorners (v : Vertices) : Type 0 where
+  pub cells : (i : ℕ) → i < 6
+      → IsCell v (box_tetrahedron i).a (box_tetrahedron i).b (box_tetrahedron i).c (box_tetrahedron i).d
+  pub all : (a b c d : ℕ) → IsCell v a b c d → (i : ℕ) × (i < 6) × IsRewritten (box_tetrahedron i) (tetrahedron a b c d)
+
+-- for every number of vertices, with the corners alone in
+abbrev pub CornerLaw : Type 0
+CornerLaw = (v : Vertices) → IsBoxed v → ((u : ℕ) → Has v u → u < CORNERS) → AreBoxCorners v

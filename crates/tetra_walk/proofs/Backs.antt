@@ -4,60 +4,18 @@
 -- turned round. If m were another side, the vertex u of y opposite to b would be on the facet of m, which is a facet of x
 -- turned round, so u would be a vertex of x. But u is strictly before facet b of y, so strictly behind facet k of x, and no
 -- vertex of x is.
-use Rattle.std.proofs.Common.{ℕ, zero, suc, ◌<◌, ◌≡◌, ◌≢◌, ◌⊎◌, inl, inr, ⊎_elim, refl, sym, ap, subst, arith, Some, pos, ◌<ℤ◌}
+use Rattle.std.proofs.Common.{ℕ, ◌<◌, ◌≡◌, ◌≢◌, ◌⊎◌, inl, inr, ⊎_elim, sym, ap, subst, arith, Some, pos, ◌<ℤ◌}
 use Rattle.std.proofs.lemmas.Int.{ints}
 use Rattle.geo_sign.specs.Rational.{rational}
 use Rattle.geo_sign.specs.Sights.{side_of}
-use Rattle.geo_sign.specs.Tetrahedron.{Tetrahedron, DirectedFacet, facet, facet_of, vertex_of, IsTurned}
+use Rattle.geo_sign.specs.Tetrahedron.{Tetrahedron, facet_of, vertex_of, IsTurned}
 use Rattle.geo_sign.specs.Vertices.{Vertices}
 use Rattle.geo_sign.specs.Writings as writings
 use Rattle.geo_sign.specs.Edges.{HasVertex}
 use Rattle.geo_sign.proofs.Rotations.{side_turned}
-use Rattle.cell_laws.proofs.Sides.{opposite, opposite_or_on, on_facet}
+use Rattle.geo_sign.proofs.Facets.{in_of, in_turned, opposite_or_on, vertex_in}
+use Rattle.cell_laws.proofs.Sides.{opposite, on_facet}
 use Rattle.tetra_store.specs.Links.{Links, IsLive, IsBack, IsLinked}
-
--- a facet has the vertices of its other direction
-turned_has : (f g : DirectedFacet) (u : ℕ) → IsTurned f g → HasVertex f u → HasVertex g u
-turned_has f g u (inl e) h = subst (λ (x : DirectedFacet). HasVertex x u) (sym e) (by h)
-  where
-    by : HasVertex f u → HasVertex (facet f.a f.c f.b) u
-    by (inl i) = inl i
-    by (inr (inl i)) = inr (inr i)
-    by (inr (inr i)) = inr (inl i)
-turned_has f g u (inr (inl e)) h = subst (λ (x : DirectedFacet). HasVertex x u) (sym e) (by h)
-  where
-    by : HasVertex f u → HasVertex (facet f.c f.b f.a) u
-    by (inl i) = inr (inr i)
-    by (inr (inl i)) = inr (inl i)
-    by (inr (inr i)) = inl i
-turned_has f g u (inr (inr e)) h = subst (λ (x : DirectedFacet). HasVertex x u) (sym e) (by h)
-  where
-    by : HasVertex f u → HasVertex (facet f.b f.a f.c) u
-    by (inl i) = inr (inl i)
-    by (inr (inl i)) = inl i
-    by (inr (inr i)) = inr (inr i)
-
--- a vertex of a facet of t is one of t
-of_facet : (t : Tetrahedron) (k u : ℕ) → HasVertex (facet_of t k) u → writings.IsVertexOf t u
-of_facet t zero u (inl e) = inr (inl e)
-of_facet t zero u (inr (inl e)) = inr (inr (inr e))
-of_facet t zero u (inr (inr e)) = inr (inr (inl e))
-of_facet t (suc zero) u (inl e) = inl e
-of_facet t (suc zero) u (inr (inl e)) = inr (inr (inl e))
-of_facet t (suc zero) u (inr (inr e)) = inr (inr (inr e))
-of_facet t (suc (suc zero)) u (inl e) = inl e
-of_facet t (suc (suc zero)) u (inr (inl e)) = inr (inr (inr e))
-of_facet t (suc (suc zero)) u (inr (inr e)) = inr (inl e)
-of_facet t (suc (suc (suc k))) u (inl e) = inl e
-of_facet t (suc (suc (suc k))) u (inr (inl e)) = inr (inl e)
-of_facet t (suc (suc (suc k))) u (inr (inr e)) = inr (inr (inl e))
-
--- vertex k is a vertex
-own : (t : Tetrahedron) (k : ℕ) → writings.IsVertexOf t (vertex_of t k)
-own t zero = inl refl
-own t (suc zero) = inr (inl refl)
-own t (suc (suc zero)) = inr (inr (inl refl))
-own t (suc (suc (suc k))) = inr (inr (inr refl))
 
 -- a side of y that names x faces the side of x that names y
 pub one_back : (v : Vertices) (links : Links) → IsLinked v links → (x k y m : ℕ) → IsLive links x → k < 4
@@ -105,5 +63,5 @@ one_back v links l x k y m i hk e j hm f = by h
         ⊎_elim
         (λ (q : u ≡ vertex_of r m). absurd (n (sym (l.distinct y b.side m j b.in_range hm q))))
         (λ (q : HasVertex (facet_of r m) u).
-        absurd (none (of_facet t d.side u (turned_has (facet_of r m) (facet_of t d.side) u d.turned q))))
-        (opposite_or_on r m u (own r b.side))
+        absurd (none (in_of t d.side u (in_turned (facet_of r m) (facet_of t d.side) u d.turned q))))
+        (opposite_or_on r m u (vertex_in r b.side))

@@ -33,8 +33,8 @@ conflict-requires-clause-apart c =
     c.point-4.result c.point-5.result
     (beside c.args.t.now c.args.p c.args.id c.cell.result c.facts.ensures c.requires.out c.cell.ensures)
 
-pub returns-clause-inside : goal.returns-clause-inside
-returns-clause-inside c =
+pub returns : goal.returns
+returns c =
     let s = c.args.t.now in
     let p = c.args.p in
     let t = tetrahedron_from c.cell.result.v in
@@ -44,26 +44,14 @@ returns-clause-inside c =
     let e =
     power_same s p t c.point.result c.point-2.result c.point-3.result c.point-4.result c.point-5.result c.point.ensures
     c.point-2.ensures c.point-3.ensures c.point-4.ensures c.point-5.ensures in
+    let at = sym (ap vertices_in c.cell.ensures) in
     let i : IsTrue c.conflict.result ↔ IsInConflict (vertices_of s) p t =
     subst (λ (z : ℤ). IsTrue c.conflict.result ↔ (z <ℤ pos 0)) e (c.conflict.ensures.inside (length s.points) b) in
-    subst (λ (u : Tetrahedron). IsTrue c.conflict.result ↔ IsInConflict (vertices_of s) p u)
-    (sym (ap vertices_in c.cell.ensures)) i
-
-pub returns-clause-outside : goal.returns-clause-outside
-returns-clause-outside c =
-    let s = c.args.t.now in
-    let p = c.args.p in
-    let t = tetrahedron_from c.cell.result.v in
-    let h = beside s p c.args.id c.cell.result c.facts.ensures c.requires.out c.cell.ensures in
-    let b =
-    all_below s p t c.point.result c.point-2.result c.point-3.result c.point-4.result c.point-5.result h c.requires.below in
-    let e =
-    power_same s p t c.point.result c.point-2.result c.point-3.result c.point-4.result c.point-5.result c.point.ensures
-    c.point-2.ensures c.point-3.ensures c.point-4.ensures c.point-5.ensures in
-    let i =
-    outside c.conflict.result _ (c.conflict.ensures.inside (length s.points) b)
-    (c.conflict.ensures.outside (length s.points) b) in
-    let j : IsFalse c.conflict.result ↔ IsClearOf (vertices_of s) p t =
-    subst (λ (z : ℤ). IsFalse c.conflict.result ↔ (pos 0 ≤ℤ z)) e i in
-    subst (λ (u : Tetrahedron). IsFalse c.conflict.result ↔ IsClearOf (vertices_of s) p u)
-    (sym (ap vertices_in c.cell.ensures)) j
+    let o : IsFalse c.conflict.result ↔ IsClearOf (vertices_of s) p t =
+    subst (λ (z : ℤ). IsFalse c.conflict.result ↔ (pos 0 ≤ℤ z)) e
+    (outside c.conflict.result _ (c.conflict.ensures.inside (length s.points) b)
+    (c.conflict.ensures.outside (length s.points) b)) in
+    record {
+      inside = subst (λ (u : Tetrahedron). IsTrue c.conflict.result ↔ IsInConflict (vertices_of s) p u) at i;
+      outside = subst (λ (u : Tetrahedron). IsFalse c.conflict.result ↔ IsClearOf (vertices_of s) p u) at o;
+    }

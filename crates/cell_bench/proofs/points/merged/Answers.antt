@@ -1,7 +1,8 @@
 use Rattle.std.proofs.Common.{ℕ, ◌≡◌, ◌<◌, List, All, sym, subst, length, get_or}
 use Rattle.geo_sign.specs.Point.{Point, IsWithin, origin}
 use Rattle.geo_sign.specs.declared.point.TheConstants.{DATA_LIMIT}
-use Rattle.merge.proofs.Distinct.{distinct, keep, apart}
+use Rattle.geo_sign.proofs.Corners.{apart}
+use Rattle.merge.proofs.Distinct.{distinct, keep}
 use Rattle.cell_bench.proofs.points.merged.Goals as goal
 
 pub returns-3-clause-within : goal.returns-3-clause-within

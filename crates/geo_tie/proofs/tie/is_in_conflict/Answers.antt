@@ -9,46 +9,30 @@ use Rattle.geo_sign.specs.Terms.{is_below_zero, deciding_term}
 use Rattle.geo_sign.proofs.Ties.{decided, five_kept}
 use Rattle.geo_tie.proofs.tie.is_in_conflict.Goals as goal
 
-pub returns-in-Neg-clause-inside : goal.returns-in-Neg-clause-inside
-returns-in-Neg-clause-inside c = λ n h.
-    (decided c.args.a c.args.b c.args.c c.args.d c.args.p true c.requires.apart (five_kept _ _ _ _ _ c.in-Neg.ensures.kept)
+pub returns-in-Neg : goal.returns-in-Neg
+returns-in-Neg c =
+    let both =
+    decided c.args.a c.args.b c.args.c c.args.d c.args.p true c.requires.apart (five_kept _ _ _ _ _ c.in-Neg.ensures.kept)
     c.requires.positive
     (ap (λ s. is_below_zero (first_sign s (deciding_term c.args.a c.args.b c.args.c c.args.d c.args.p).sign))
-    c.in-Neg.ensures.value) n h).0
+    c.in-Neg.ensures.value) in
+    record { inside = λ n h. (both n h).0; outside = λ n h. (both n h).1 }
 
-pub returns-in-Neg-clause-outside : goal.returns-in-Neg-clause-outside
-returns-in-Neg-clause-outside c = λ n h.
-    (decided c.args.a c.args.b c.args.c c.args.d c.args.p true c.requires.apart (five_kept _ _ _ _ _ c.in-Neg.ensures.kept)
+pub returns-in-Zero : goal.returns-in-Zero
+returns-in-Zero c =
+    let both =
+    decided c.args.a c.args.b c.args.c c.args.d c.args.p c.is_below.result c.requires.apart (five_kept _ _ _ _ _ c.in-Zero.ensures.kept)
     c.requires.positive
-    (ap (λ s. is_below_zero (first_sign s (deciding_term c.args.a c.args.b c.args.c c.args.d c.args.p).sign))
-    c.in-Neg.ensures.value) n h).1
-
-pub returns-in-Zero-clause-inside : goal.returns-in-Zero-clause-inside
-returns-in-Zero-clause-inside c = λ n h.
-    (decided c.args.a c.args.b c.args.c c.args.d c.args.p c.is_below.result c.requires.apart
-    (five_kept _ _ _ _ _ c.in-Zero.ensures.kept) c.requires.positive
     (c.is_below.ensures ∙ ap is_below_zero c.tie_sign.ensures
     ∙ ap (λ s. is_below_zero (first_sign s (deciding_term c.args.a c.args.b c.args.c c.args.d c.args.p).sign))
-    c.in-Zero.ensures.value) n h).0
+    c.in-Zero.ensures.value) in
+    record { inside = λ n h. (both n h).0; outside = λ n h. (both n h).1 }
 
-pub returns-in-Zero-clause-outside : goal.returns-in-Zero-clause-outside
-returns-in-Zero-clause-outside c = λ n h.
-    (decided c.args.a c.args.b c.args.c c.args.d c.args.p c.is_below.result c.requires.apart
-    (five_kept _ _ _ _ _ c.in-Zero.ensures.kept) c.requires.positive
-    (c.is_below.ensures ∙ ap is_below_zero c.tie_sign.ensures
-    ∙ ap (λ s. is_below_zero (first_sign s (deciding_term c.args.a c.args.b c.args.c c.args.d c.args.p).sign))
-    c.in-Zero.ensures.value) n h).1
-
-pub returns-in-Pos-clause-inside : goal.returns-in-Pos-clause-inside
-returns-in-Pos-clause-inside c = λ n h.
-    (decided c.args.a c.args.b c.args.c c.args.d c.args.p false c.requires.apart (five_kept _ _ _ _ _ c.in-Pos.ensures.kept)
+pub returns-in-Pos : goal.returns-in-Pos
+returns-in-Pos c =
+    let both =
+    decided c.args.a c.args.b c.args.c c.args.d c.args.p false c.requires.apart (five_kept _ _ _ _ _ c.in-Pos.ensures.kept)
     c.requires.positive
     (ap (λ s. is_below_zero (first_sign s (deciding_term c.args.a c.args.b c.args.c c.args.d c.args.p).sign))
-    c.in-Pos.ensures.value) n h).0
-
-pub returns-in-Pos-clause-outside : goal.returns-in-Pos-clause-outside
-returns-in-Pos-clause-outside c = λ n h.
-    (decided c.args.a c.args.b c.args.c c.args.d c.args.p false c.requires.apart (five_kept _ _ _ _ _ c.in-Pos.ensures.kept)
-    c.requires.positive
-    (ap (λ s. is_below_zero (first_sign s (deciding_term c.args.a c.args.b c.args.c c.args.d c.args.p).sign))
-    c.in-Pos.ensures.value) n h).1
+    c.in-Pos.ensures.value) in
+    record { inside = λ n h. (both n h).0; outside = λ n h. (both n h).1 }

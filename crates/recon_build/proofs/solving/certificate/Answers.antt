@@ -1,22 +1,16 @@
 -- The counts are those of the scan: the store has eight vertices more than the scan has points (corner_count). What the rows state: labels
 -- and amounts by the numbers of cells and sides say what the cut says of cells and facets by their vertices, so the rows found on a walk
--- are those of the stored complex in another order (inside_moved, flow_moved, sinks_moved: the same by another name of each list). Sorted,
--- they are the certificate's (inside_are, flow_are, sinks_are), and certificate_is puts them together. It is well formed, since its
--- numbers fit: the cost by the least there is (cost_fits), the rows since their lists are in memory.
-use Rattle.std.proofs.Common.{ℕ, ◌≡◌, ◌<◌, ◌≤◌, ◌^◌, refl, sym, subst, arith, Bool, List, Option, filter, slice_index}
-use Rattle.std.specs.List.Sorted.{IsPermutation}
-use Rattle.cert_text.specs.declared.certificate.FlowRow.{FlowRow}
-use Rattle.cert_text.specs.declared.certificate.SinkRow.{SinkRow}
+-- are those of the stored complex in another order, whatever their lists are called. Sorted, they are the certificate's (inside_are,
+-- flow_are, sinks_are), and certificate_is puts them together. It is well formed, since its numbers fit: the cost by the least there is
+-- (cost_fits), the rows since their lists are in memory.
+use Rattle.std.proofs.Common.{ℕ, ◌<◌, ◌≤◌, ◌^◌, refl, sym, subst, arith, Bool, List, slice_index}
 use Rattle.flow_net.specs.Nets.{flag_at}
 use Rattle.scan.proofs.ShownLemmas.{scan_is_shown}
 use Rattle.scan.specs.Views.{shown_of}
-use Rattle.tetra_store.specs.declared.link.Cell.{Cell}
 use Rattle.visibility.specs.Scenes.{Scene}
 use Rattle.cell_net.specs.ByNumber.{SaysOfCells, SaysOfSides, IsZeroElsewhere}
-use Rattle.cell_net.specs.StoredComplexes.{stored_cells, stored_facets}
 use Rattle.cell_net.specs.StoredComplexes.{stored_complex}
 use Rattle.solution.specs.Scans.{points_of, scene_of_scan}
-use Rattle.solution.specs.Solutions.{flow_rows, sink_rows}
 use Rattle.solution.proofs.Certificates.{certificate_is}
 use Rattle.solution.proofs.SightLists.{few_vertices, few_sights}
 use Rattle.solution.proofs.CellCuts.{cost_fits}
@@ -49,38 +43,20 @@ returns-clause-states c = λ is.
     let few : s.vertices.count ≤ 2 ^ 32 = omega (arith, few_vertices c.args.scan.now c.args.settings) in
     certificate_is s complex is.listing is.inside is.on_facet is.on_cell _ is.valid is.equal is.cost_is
     (inside_are s few complex is.listing is.inside _
-    (inside_moved _ _ _ _ _ c.as_slice.ensures is.labels_say c.in_ok-inside_rows.ensures.moved)
+    (c.in_ok-inside_rows.ensures.moved is.inside
+    (subst (λ (flags : List Bool). SaysOfCells slots (flag_at flags) is.inside) (sym c.as_slice.ensures) is.labels_say))
     c.in_ok-inside_rows.ensures.sorted)
     (flow_are s few complex is.listing is.on_facet _
-    (flow_moved _ _ _ _ _ _ c.as_slice-2.ensures is.arcs_say is.zero_elsewhere c.in_ok-flow_rows.ensures.moved)
+    (c.in_ok-flow_rows.ensures.moved is.fixed is.on_facet
+    (subst (λ (amounts : List ℕ). SaysOfSides slots is.fixed (slice_index amounts) is.on_facet) (sym c.as_slice-2.ensures)
+    is.arcs_say)
+    (subst (λ (amounts : List ℕ). IsZeroElsewhere slots is.fixed (slice_index amounts)) (sym c.as_slice-2.ensures)
+    is.zero_elsewhere))
     c.in_ok-flow_rows.ensures.sorted)
     (sinks_are s few complex is.listing is.on_cell _
-    (sinks_moved _ _ _ _ _ c.as_slice-3.ensures is.sinks_say c.in_ok-sink_rows.ensures.moved)
+    (c.in_ok-sink_rows.ensures.moved is.on_cell
+    (subst (λ (amounts : List ℕ). SaysOfCells slots (slice_index amounts) is.on_cell) (sym c.as_slice-3.ensures) is.sinks_say))
     c.in_ok-sink_rows.ensures.sorted))
-  where
-    inside_moved : (slots : List (Option Cell)) (rows : List (List ℕ)) (given flags : List Bool) (test : List ℕ → Bool)
-        → given ≡ flags → SaysOfCells slots (flag_at flags) test
-        → ((t : List ℕ → Bool) → SaysOfCells slots (flag_at given) t → IsPermutation (filter t (stored_cells slots)) rows)
-        → IsPermutation (filter test (stored_cells slots)) rows
-    inside_moved slots rows given flags test a says moved =
-        moved test (subst (λ (xs : List Bool). SaysOfCells slots (flag_at xs) test) (sym a) says)
-
-    flow_moved : (slots : List (Option Cell)) (fixed : List Bool) (rows : List FlowRow) (given amounts : List ℕ)
-        (on : List ℕ → ℕ) → given ≡ amounts → SaysOfSides slots fixed (slice_index amounts) on
-        → IsZeroElsewhere slots fixed (slice_index amounts)
-        → ((flags : List Bool) (t : List ℕ → ℕ) → SaysOfSides slots flags (slice_index given) t
-        → IsZeroElsewhere slots flags (slice_index given) → IsPermutation (flow_rows (stored_facets flags slots) t) rows)
-        → IsPermutation (flow_rows (stored_facets fixed slots) on) rows
-    flow_moved slots fixed rows given amounts on a says zero moved =
-        moved fixed on (subst (λ (xs : List ℕ). SaysOfSides slots fixed (slice_index xs) on) (sym a) says)
-        (subst (λ (xs : List ℕ). IsZeroElsewhere slots fixed (slice_index xs)) (sym a) zero)
-
-    sinks_moved : (slots : List (Option Cell)) (rows : List SinkRow) (given amounts : List ℕ) (at : List ℕ → ℕ)
-        → given ≡ amounts → SaysOfCells slots (slice_index amounts) at
-        → ((t : List ℕ → ℕ) → SaysOfCells slots (slice_index given) t → IsPermutation (sink_rows (stored_cells slots) t) rows)
-        → IsPermutation (sink_rows (stored_cells slots) at) rows
-    sinks_moved slots rows given amounts at a says moved =
-        moved at (subst (λ (xs : List ℕ). SaysOfCells slots (slice_index xs) at) (sym a) says)
 
 pub returns-clause-well_formed : goal.returns-clause-well_formed
 returns-clause-well_formed c = λ is.

@@ -106,8 +106,8 @@ invariant_of-self c =
     subst (λ (z : List ℕ). IsStore (here z))
     (sym (items_written i.kept.len kept2 (take i.kept.len (kept1 ++ drop (length kept1) i.kept.items)) n2)) again
 
-pub returns-clause-replaced : goal.returns-clause-replaced
-returns-clause-replaced c =
+pub returns : goal.returns
+returns c =
     let i = c.self.inside in
     let s : Store =
     store_from i.points.items i.inserted.items i.cells i.kept.items (vec_capacity i.ids) (vec_capacity i.edges) in
@@ -155,65 +155,18 @@ returns-clause-replaced c =
     let whole =
     subst (λ (z : List ℕ). IsReplaced s (here z) old fan p)
     (sym (items_written i.kept.len kept2 (take i.kept.len (kept1 ++ drop (length kept1) i.kept.items)) n2)) done in
-    subst (λ (t : Store).
-    IsReplaced t
-    (here (take i.kept.len (kept2 ++ drop (length kept2) (take i.kept.len (kept1 ++ drop (length kept1) i.kept.items))))) old
-    fan p) c.self.view_is whole
-
-pub returns-clause-live : goal.returns-clause-live
-returns-clause-live c =
-    let i = c.self.inside in
-    let s : Store =
-    store_from i.points.items i.inserted.items i.cells i.kept.items (vec_capacity i.ids) (vec_capacity i.edges) in
-    let old = c.args.old.now in
-    let fan = c.args.fan.now in
-    let p = c.args.p in
-    let can : CanReplace s old fan p = subst (λ (t : Store). CanReplace t old fan p) (sym c.self.view_is) c.requires in
-    let ids = c.grow.new.ids.items in
-    let kept1 = c.keep_new.new.kept in
-    let kept2 = c.mend.new.kept in
-    let links1 = links_of c.grow.new.cells.slots in
-    let keeps : AreKeptNew i.kept.items kept1 fan ids p (length fan) =
-    subst (λ (z : List ℕ). AreKeptNew z kept1 fan ids p (length fan)) c.deref_mut.ensures.value
-    (subst (λ (z : List ℕ). AreKeptNew c.deref_mut.result.now kept1 fan z p (length fan)) c.deref.ensures.value
-    c.keep_new.ensures) in
-    let n1 : length kept1 ≡ i.kept.len = omega (arith, keeps.count, i.kept.ok.0) in
-    let same : c.deref_mut-2.result.now ≡ kept1 =
-    c.deref_mut-2.ensures.value ∙ items_written i.kept.len kept1 i.kept.items n1 in
-    let mends : AreMended links1 old kept1 kept2 (length old) =
-    subst (λ (z : List ℕ). AreMended links1 old z kept2 (length old)) same c.mend.ensures in
     let new =
     first_new s old fan p c.self.invariant can c.grow.new.cells.slots ids kept1 c.grow.ensures.grown c.grow.ensures.count keeps
     c.take_out.new.cells.slots kept2 mends c.take_out.ensures.out in
     let l : 0 < length ids = omega (arith, c.grow.ensures.count, can.some_facet) in
     let is : slice_index ids 0 ≡ c.index.result.now = get_or_default ids 0 0 c.index.result.now l ∙ sym c.index.ensures in
-    subst (λ (z : ℕ). IsLive (links_of c.take_out.new.cells.slots) z) is new.0
-
-pub returns-clause-new : goal.returns-clause-new
-returns-clause-new c =
-    let i = c.self.inside in
-    let s : Store =
-    store_from i.points.items i.inserted.items i.cells i.kept.items (vec_capacity i.ids) (vec_capacity i.edges) in
-    let old = c.args.old.now in
-    let fan = c.args.fan.now in
-    let p = c.args.p in
-    let can : CanReplace s old fan p = subst (λ (t : Store). CanReplace t old fan p) (sym c.self.view_is) c.requires in
-    let ids = c.grow.new.ids.items in
-    let kept1 = c.keep_new.new.kept in
-    let kept2 = c.mend.new.kept in
-    let links1 = links_of c.grow.new.cells.slots in
-    let keeps : AreKeptNew i.kept.items kept1 fan ids p (length fan) =
-    subst (λ (z : List ℕ). AreKeptNew z kept1 fan ids p (length fan)) c.deref_mut.ensures.value
-    (subst (λ (z : List ℕ). AreKeptNew c.deref_mut.result.now kept1 fan z p (length fan)) c.deref.ensures.value
-    c.keep_new.ensures) in
-    let n1 : length kept1 ≡ i.kept.len = omega (arith, keeps.count, i.kept.ok.0) in
-    let same : c.deref_mut-2.result.now ≡ kept1 =
-    c.deref_mut-2.ensures.value ∙ items_written i.kept.len kept1 i.kept.items n1 in
-    let mends : AreMended links1 old kept1 kept2 (length old) =
-    subst (λ (z : List ℕ). AreMended links1 old z kept2 (length old)) same c.mend.ensures in
-    let new =
-    first_new s old fan p c.self.invariant can c.grow.new.cells.slots ids kept1 c.grow.ensures.grown c.grow.ensures.count keeps
-    c.take_out.new.cells.slots kept2 mends c.take_out.ensures.out in
-    let l : 0 < length ids = omega (arith, c.grow.ensures.count, can.some_facet) in
-    let is : slice_index ids 0 ≡ c.index.result.now = get_or_default ids 0 0 c.index.result.now l ∙ sym c.index.ensures in
-    subst (λ (z : ℕ). IsOver (links_of c.take_out.new.cells.slots) fan p z) is new.1
+    record {
+      replaced =
+          subst (λ (t : Store).
+          IsReplaced t
+          (here (take i.kept.len (kept2 ++ drop (length kept2) (take i.kept.len (kept1 ++ drop (length kept1) i.kept.items)))))
+          old fan p) c.self.view_is whole;
+      live = subst (λ (z : ℕ). IsLive (links_of c.take_out.new.cells.slots) z) is new.0;
+      new = subst (λ (z : ℕ). IsOver (links_of c.take_out.new.cells.slots) fan p z) is new.1;
+      capacity = sym cap ∙ ap (λ (t : Store). t.capacity) c.self.view_is;
+    }
