@@ -23,6 +23,12 @@ const ROOT: u32 = u32::MAX - 1;
 /// The number of arcs that may be examined for each arc of the network.
 const FUEL: usize = 8;
 
+/// That number if less than one node in `FEW` has a sink with residual capacity: then nearly all of the forest leads nowhere.
+const FUEL_TO_FEW: usize = 1;
+
+/// The number of nodes for each sink with residual capacity from which on these are few.
+const FEW: usize = 256;
+
 /// The position of a node in the forest.
 #[derive(Clone, Copy, Debug, PartialEq, Eq)]
 struct Branch {
@@ -72,7 +78,9 @@ impl<'a, N: FlowNetwork> Forest<'a, N> {
         ensures { IfOk result (λ forest. forest.preflow ≡ preflow.entry) }
     {
         let nodes = preflow.wiring.nodes;
-        let fuel = preflow.wiring.arcs.saturating_mul(FUEL);
+        let is_few = preflow.open_count() < nodes / FEW;
+        let each = if is_few { FUEL_TO_FEW } else { FUEL };
+        let fuel = preflow.wiring.arcs.saturating_mul(each);
         let outside = Branch {
             parent: FREE,
             distance: 0,

@@ -1,4 +1,4 @@
-//! The hint. Depends on the forest and the rounds, and on the sweep and the walks.
+//! The hint. Depends on the forest and the rounds, and on the sweep.
 
 ghost use Rattle.std.specs.Prelude.{◌≡◌, length, IfOk, IfSome};
 
@@ -9,7 +9,6 @@ use crate::levels::Levels;
 use crate::preflow::{Preflow, Start};
 use crate::rounds::Rounds;
 use crate::sweep::Sweep;
-use crate::walk::Walk;
 use flow_net::{Flow, FlowNetwork};
 use host::{Silent, Watch};
 use std::alloc::Global;
@@ -34,7 +33,7 @@ fn sent<'a, N: FlowNetwork, W: Watch>(
 ) -> Result<(Preflow<'a, N>, Levels), NoMemory>
     ensures { IfOk result (λ made. made.0.wiring ≡ preflow.entry.wiring) }
 {
-    if !preflow.has_room() {
+    if preflow.open_count() == 0 {
         let levels = Levels::none(alloc, preflow.wiring.nodes)?;
         return Ok((preflow, levels));
     }
@@ -74,12 +73,6 @@ fn given_back<'a, N: FlowNetwork>(
     let mut sweep = Sweep::new(alloc, preflow)?;
     sweep.run();
     let Sweep { preflow, .. } = sweep;
-    if preflow.is_settled() {
-        return Ok(preflow);
-    }
-    let mut walk = Walk::new(alloc, preflow)?;
-    walk.run();
-    let Walk { preflow, .. } = walk;
     Ok(preflow)
 }
 

@@ -8,7 +8,7 @@
 //!
 //! `survey` adds up capacities, `wiring` lists the arcs that leave a node, `amounts` stores numbers in few bits, `preflow`
 //! holds the amounts and excesses, `kept` resumes from an earlier preflow, `forest` and `rounds` move excess into sinks,
-//! `refund` computes what can go back, `sweep` and `walk` send it back, and `hinting` combines them. `levels` finds the levels of
+//! `refund` computes what can go back, `sweep` sends it back, and `hinting` combines them. `levels` finds the levels of
 //! nodes in the residual network of a flow. The crate depends on `flow_net`, and reports its progress to a callback of `host`.
 #![tactic(auto)]
 
@@ -22,7 +22,6 @@ mod refund;
 mod rounds;
 mod survey;
 mod sweep;
-mod walk;
 mod wiring;
 
 pub use hinting::{

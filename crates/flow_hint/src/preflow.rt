@@ -139,9 +139,13 @@ impl<'a, N: FlowNetwork> Preflow<'a, N> {
         self.settle();
     }
 
-    /// Returns whether a node's sink has residual capacity.
-    pub fn has_room(&self) -> bool {
-        self.sink.iter().any(|amount| *amount > 0)
+    /// Returns the number of nodes whose sink has residual capacity.
+    pub fn open_count(&self) -> usize {
+        let mut count: usize = 0;
+        for amount in self.sink.iter() {
+            count = count.saturating_add(usize::from(*amount > 0));
+        }
+        count
     }
 
     /// Moves the excess of each node into its sink, as far as that has residual capacity.

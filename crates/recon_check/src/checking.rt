@@ -24,7 +24,7 @@ use crate::texts::first_difference;
 use crate::{Answer, NoMemory, Reason};
 use cell_net::CellNetwork;
 use cert_text::{CertRefusal, Certificate, Stamp, read_cert};
-use flow_net::{Labels, Settings, cost};
+use flow_net::{Labels, Settings, value};
 use host::{Silent, Watch};
 use mesh_ply::{Mesh, push_mesh};
 use scan::Scan;
@@ -79,7 +79,8 @@ fn best_labels(
     let net = CellNetwork::new(tetra, votes.store_counts(), settings);
     let stated = stated_by(alloc, tetra, &votes.fixed, cert)?;
     show_best(alloc, tetra, &net, cert, &stated)?;
-    let cost = cost(&net, &stated.labels) as u64;
+    // `show_best` has found that the value of the flow is the cost of the labels.
+    let cost = value(&net, &stated.flow) as u64;
     if cert.cost != cost {
         return Err(Stop::Fault(Reason::WrongCost {
             stated: cert.cost,

@@ -1,5 +1,6 @@
 -- The network is made of the scan's cells and counts, which have a complex, so what is stated by number is stated over it (checked_at). A
--- reason that is told of it is a fault, and where there is none the labels are the best (told_at), so their cost is small.
+-- reason that is told of it is a fault, and where there is none the labels are the best (told_at): the value of the flow is their cost, which is
+-- small.
 use Rattle.std.proofs.Common.{◌≡◌, ◌∙◌, refl, arith}
 use Rattle.cert_text.specs.Certificates.{claim_of}
 use Rattle.scan.proofs.ShownLemmas.{scan_is_shown}
@@ -13,12 +14,12 @@ use Rattle.recon_check.specs.Claims.{is_inside}
 use Rattle.recon_check.specs.Faults.{IsBest}
 use Rattle.recon_check.specs.Stated.{IsFlaggedFor}
 use Rattle.recon_check.proofs.BestLabels.{IsChecked, checked, cost_fits, flagged}
-use Rattle.recon_check.proofs.CellFaults.{cost_is}
+use Rattle.recon_check.proofs.CellFaults.{value_is}
 use Rattle.recon_check.proofs.StatedRows.{listing}
 use Rattle.recon_check.proofs.Stopped.{passed_on, stop_weaker}
 use Rattle.recon_check.proofs.Whole.{reason_fault}
 use Rattle.recon_check.proofs.checking.best_labels.Goals as goal
-use Rattle.recon_check.proofs.checking.best_labels.Goals.{After-cost-cost, After-deref, In_ok-stated}
+use Rattle.recon_check.proofs.checking.best_labels.Goals.{After-value-cost, After-deref, In_ok-stated}
 
 -- ---- what is shared
 flagged_at : (c : After-deref)
@@ -40,18 +41,21 @@ checked_at c =
     }) refl (claim_of c.args.cert.now) c.in_ok-stated.stated c.deref.result.now c.requires.formed c.deref.ensures.value
     c.in_ok-stated.ensures.stated (c.in_ok-stated.ensures.there (scene_of_scan (shown_of c.args.scan.now) c.args.settings))
 
-told_at : (c : After-cost-cost)
+told_at : (c : After-value-cost)
     → (complex : Complex) × IsComplexOf (scene_of_scan (shown_of c.args.scan.now) c.args.settings) complex
     × IsBest (scene_of_scan (shown_of c.args.scan.now) c.args.settings) complex (claim_of c.args.cert.now)
-    × (c.cost-cost.result ≡ cost (scene_of_scan (shown_of c.args.scan.now) c.args.settings) complex (is_inside (claim_of c.args.cert.now)))
+    × (c.value-cost.result ≡ cost (scene_of_scan (shown_of c.args.scan.now) c.args.settings) complex (is_inside (claim_of c.args.cert.now)))
 told_at c =
-    let is = checked_at (goal.at.overflow_cast-cost c).In_ok-stated in (
+    let is = checked_at (goal.at.overflow_cast-cost c).In_ok-stated in
+    let best =
+    c.in_ok-show_best.ensures.best (scene_of_scan (shown_of c.args.scan.now) c.args.settings) is.complex is.over is.there in (
       is.complex,
       is.complex_is,
-      c.in_ok-show_best.ensures.best (scene_of_scan (shown_of c.args.scan.now) c.args.settings) is.complex is.over is.there,
-      c.cost-cost.ensures.sum
-          ∙ cost_is (scene_of_scan (shown_of c.args.scan.now) c.args.settings) is.complex c.new-net.result (claim_of c.args.cert.now)
-          c.in_ok-stated.stated is.over,
+      best,
+      c.value-cost.ensures.sum
+          ∙ value_is (scene_of_scan (shown_of c.args.scan.now) c.args.settings) is.complex c.new-net.result (claim_of c.args.cert.now)
+          c.in_ok-stated.stated is.over
+          ∙ best.certified.equal,
     )
 
 -- ---- the goals
@@ -93,13 +97,13 @@ pub overflow_cast-cost : goal.overflow_cast-cost
 overflow_cast-cost c =
     let told = told_at c in
     let few =
-    cost_fits (shown_of c.args.scan.now) c.args.settings told.0 (claim_of c.args.cert.now) c.cost-cost.result (scan_is_shown c.args.scan.now)
+    cost_fits (shown_of c.args.scan.now) c.args.settings told.0 (claim_of c.args.cert.now) c.value-cost.result (scan_is_shown c.args.scan.now)
     told.1 told.2 told.3 in
     omega (arith, few)
 
 pub returns-then-cert-cost-clause-fault : goal.returns-then-cert-cost-clause-fault
 returns-then-cert-cost-clause-fault c = λ mesh.
-    let told = told_at (goal.at.returns-then-cert-cost-clause-fault c).After-cost-cost in
+    let told = told_at (goal.at.returns-then-cert-cost-clause-fault c).After-value-cost in
     record {
       counts = c.requires.stated;
       complex = told.0;
@@ -109,7 +113,7 @@ returns-then-cert-cost-clause-fault c = λ mesh.
 
 pub returns-clause-best : goal.returns-clause-best
 returns-clause-best c =
-    let told = told_at (goal.at.returns-clause-best c).After-cost-cost in
+    let told = told_at (goal.at.returns-clause-best c).After-value-cost in
     record {
       complex = told.0;
       complex_is = told.1;

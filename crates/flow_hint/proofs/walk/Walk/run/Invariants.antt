@@ -1,5 +1,0 @@
-use Rattle.std.proofs.Common.{◌≡◌}
-use Rattle.flow_hint.proofs.walk.Walk.run.Given as goal
-
-abbrev pub invariant-loop-node : goal.invariant-loop-node
-invariant-loop-node g l = l.self.preflow.wiring ≡ l.initial.self.preflow.wiring
