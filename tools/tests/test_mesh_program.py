@@ -1,4 +1,5 @@
-"""The built `recon-mesh`: arguments, statuses, lines and files, and what no clause says: that flips lower the angles between faces.
+"""The built `recon-mesh`: arguments, statuses, lines and files, and what no clause says: that flips and smoothing lower the angles
+between faces.
 They run where it is built (the path in RECON_MESH, ./recon-mesh, or what is left in crates/mesh_main/out)."""
 from __future__ import annotations
 
@@ -22,6 +23,11 @@ FACES = [(0, 1, 2), (0, 2, 3), (0, 3, 1), (1, 3, 2)]
 CUBE = [(x, y, z) for x in (0, 1) for y in (0, 1) for z in (0, 1)]
 SIDES = [(0, 1, 3, 2), (4, 6, 7, 5), (0, 4, 5, 1), (2, 3, 7, 6), (0, 2, 6, 4), (1, 5, 7, 3)]
 CUBE_FACES = [face for a, b, c, d in SIDES for face in ((a, b, c), (a, c, d))]
+
+# options that are invalid: one of the two numbers alone, a number out of range, an option twice
+NO_SMOOTHING = [('smooth=1',), ('within=1',), ('smooth=0', 'within=1'), ('smooth=101', 'within=1'), ('smooth=1', 'within=0'),
+                ('smooth=1', 'within=8388609'), ('smooth=', 'within=1'), ('smooth=1', 'within=-1'), ('smooth=1', 'within=1.5'),
+                ('smooth=1', 'smooth=1', 'within=1'), ('smooth=1', 'within=1', 'within=2'), ('smooth', 'within=1'), ('smooth=1', 'flips=no')]
 
 
 def moved(points: Sequence[Any], by: Sequence[int]) -> list[tuple[int, ...]]:
@@ -83,12 +89,13 @@ class MeshProgram(InFolder):
                       ('finish', 'mesh.ply', 'out.ply', 'pieces=0'), ('finish', 'mesh.ply', 'out.ply', 'pieces=-1'),
                       ('finish', 'mesh.ply', 'out.ply', 'pieces=4294967296'), ('finish', 'mesh.ply', 'out.ply', 'pieces=1', 'pieces=1'),
                       ('finish', 'mesh.ply', 'out.ply', 'manifold=no'), ('finish', 'mesh.ply', 'out.ply', 'manifold=yes', 'manifold=yes'),
-                      ('finish', 'mesh.ply', 'out.ply', 'smooth=1', 'within=1'),
+                      *(('finish', 'mesh.ply', 'out.ply', *words) for words in NO_SMOOTHING),
                       ('Finish', 'mesh.ply', 'out.ply'), ('check', 'mesh.ply', 'out.ply'), ('inspect',), ('inspect', ''),
                       ('inspect', 'mesh.ply', 'out.ply')):
             status, line, error = mesh_program(*words)
             equal((status, line), (2, 'refused words\n'))
-            equal('usage: recon-mesh finish MESH OUT [pieces=N] [manifold=yes] [flips=no]\nusage: recon-mesh inspect MESH\n' in error, True)
+            usage = 'usage: recon-mesh finish MESH OUT [pieces=N] [manifold=yes] [flips=no] [smooth=N within=D]\nusage: recon-mesh inspect MESH\n'
+            equal(usage in error, True)
         equal(os.listdir('.'), ['mesh.ply'])
 
     def test_invalid_meshes(self) -> None:
@@ -147,10 +154,40 @@ class MeshProgram(InFolder):
             equal(len(crossing_pairs(places, after)) <= len(crossing_pairs(places, before)), True)
             equal(total_angle(places, after) < 0.9 * total_angle(places, before), True)
 
+    def test_smoothing_lowers_the_angles(self) -> None:
+        for size, roughness, within, fine in ((3000, 0.1, 300, 1024), (1000000, 0.1, 100000, 2), (4000000, 0.1, 400000, 1), (300, 0.3, 30, 1024)):
+            places, faces = ball(6, size, roughness)
+            faces = [turned(face) for face in faces]
+            write('mesh.ply', mesh_text(places, faces))
+            equal(mesh_program('finish', 'mesh.ply', 'flat.ply')[0], 0)
+            for options in (('smooth=3', f'within={within}'), (f'within={within}', 'flips=no', 'smooth=1')):
+                line = f'finished points {len(places)} faces {len(faces)} fine {fine}\n'
+                equal(mesh_program('finish', 'mesh.ply', 'out.ply', *options), (0, line, ''))
+                points, finished = rows_of(read('out.ply'))
+                home = [tuple(fine * x for x in place) for place in places]
+                equal(max(sum(x * x for x in difference(p, q)) for p, q in zip(home, points)) <= (fine * within) ** 2, True)
+                equal(edges_of(finished), Counter((b, a) for a, b in edges_of(finished).elements()))
+                equal(set(edges_of(finished).values()), {1})
+                start = faces if 'flips=no' in options else rows_of(read('flat.ply'))[1]
+                equal(finished == faces, 'flips=no' in options)
+                before, after = np.array(flat(start)), np.array(flat(finished))
+                equal(len(crossing_pairs(points, after)) <= len(crossing_pairs(home, before)), True)
+                equal(total_angle(points, after) < 0.9 * total_angle(home, before), True)
+
+    def test_smoothing_at_its_limits(self) -> None:
+        far = 8388608
+        for points, faces, within, fine in (([], [], 1, 1024), (CUBE, CUBE_FACES, 1, 1024), (CUBE, CUBE_FACES, far, 1024),
+                                            ([tuple(far * (2 * x - 1) for x in p) for p in CUBE], CUBE_FACES, far, 1)):
+            write('mesh.ply', mesh_text(points, faces))
+            line = f'finished points {len(points)} faces {len(faces)} fine {fine}\n'
+            equal(mesh_program('finish', 'mesh.ply', 'out.ply', f'within={within}', 'manifold=yes', 'smooth=100'), (0, line, ''))
+            moves = [difference([fine * x for x in p], q) for p, q in zip(points, rows_of(read('out.ply'))[0])]
+            equal(all(sum(x * x for x in move) <= (fine * within) ** 2 for move in moves), True)
+
     def test_a_mesh_that_is_not_closed(self) -> None:
         write('mesh.ply', mesh_text(POINTS, FACES[1:]))
         write('out.ply', 'as it was')
-        for options in ((), ('flips=no',), ('pieces=1',), ('manifold=yes', 'pieces=2')):
+        for options in ((), ('flips=no',), ('pieces=1',), ('manifold=yes', 'pieces=2'), ('smooth=1', 'within=1')):
             status, said, _ = mesh_program('finish', 'mesh.ply', 'out.ply', *options)
             equal((status, said, read('out.ply')), (3, 'refused 28 unbalanced from 0 to 1 there 0 back 1\n', 'as it was'))
 

@@ -7,7 +7,7 @@ use Rattle.mesh_finish.specs.declared.options.Step.{Step}
 use Rattle.command_run.specs.Answers.{Answer, invalid}
 use Rattle.command_run.specs.declared.status.Status.{Status}
 use Rattle.command_run.specs.declared.status.Status.TheVariants.{Done, Refused}
-use Rattle.mesh_cmd.specs.Finish.{FinishAnswer, not_closed_line, unverified_line}
+use Rattle.mesh_cmd.specs.Finish.{FinishAnswer, IsNotFinished, not_closed_line, unverified_line}
 
 -- it is done or refused
 pub answer_ends : (output : List ℕ) (options : FinishOptions) (mesh : Surface) (answer : Answer)
@@ -21,19 +21,19 @@ done_or_refused P s done refused (inl e) = subst P (sym e) done
 done_or_refused P s done refused (inr e) = subst P (sym e) refused
 
 -- the line says of an edge that it is the first that is not balanced
-pub answers_open : (output : List ℕ) (options : FinishOptions) (mesh : Surface) (answer : Answer) (line : List ℕ)
-    (from to there back : ℕ) → IsFirstUnbalanced mesh.faces from to there back → line ≡ not_closed_line from to there back
-    → answer ≡ invalid 1 line → FinishAnswer output options mesh answer
-answers_open output options mesh answer line from to there back first e is =
-    inr (inl (record {
+pub answers_open : (mesh : Surface) (answer : Answer) (line : List ℕ) (from to there back : ℕ)
+    → IsFirstUnbalanced mesh.faces from to there back → line ≡ not_closed_line from to there back → answer ≡ invalid 1 line
+    → IsNotFinished mesh answer
+answers_open mesh answer line from to there back first e is =
+    inl (record {
       from = from;
       to = to;
       there = there;
       back = back;
       first = first;
       is = is ∙ ap (invalid 1) e;
-    }))
+    })
 
-pub answers_unverified : (output : List ℕ) (options : FinishOptions) (mesh : Surface) (answer : Answer) (line : List ℕ)
-    (step : Step) → line ≡ unverified_line step → answer ≡ invalid 1 line → FinishAnswer output options mesh answer
-answers_unverified output options mesh answer line step e is = inr (inr (step, is ∙ ap (invalid 1) e))
+pub answers_unverified : (mesh : Surface) (answer : Answer) (line : List ℕ) (step : Step) → line ≡ unverified_line step
+    → answer ≡ invalid 1 line → IsNotFinished mesh answer
+answers_unverified mesh answer line step e is = inr (step, is ∙ ap (invalid 1) e)

@@ -3,6 +3,7 @@
 --   ArePiecesIf pieces points faces ..      pieces are kept, or all is as it was
 --   IsSplitIf manifold points faces ..      vertices are split, or all is as it was
 --   AreFlippedIf flips points old new       edges are flipped, or the faces are as they were
+--   IsSmoothedIf smoothing points faces ..  points are moved, or all is as it was
 --   AreFinished options points faces ..     what the options ask for, step after step
 --   ExplainsFinish faces error                    what an error says of the faces
 use Rattle.std.specs.Prelude.{ℕ, ◌≡◌, Bool, true, false, Option, None, Some, List, ⊤}
@@ -10,10 +11,11 @@ use Rattle.geo_sign.specs.Point.{Point}
 use Rattle.mesh_edges.specs.Edges.{IsBalanced, IsFirstUnbalanced}
 use Rattle.mesh_pieces.specs.Pieces.{ArePieces}
 use Rattle.mesh_split.specs.Splits.{IsSplit, HasTwoFaces}
-use Rattle.mesh_finish.specs.Finished.{IsFinished}
+use Rattle.mesh_finish.specs.Finished.{IsFinished, AreSmoothed}
 use Rattle.mesh_finish.specs.declared.options.FinishError.{FinishError}
 use Rattle.mesh_finish.specs.declared.options.FinishError.TheVariants.{NotClosed, Unverified, NoMemory}
 use Rattle.mesh_finish.specs.declared.options.FinishOptions.{FinishOptions}
+use Rattle.mesh_finish.specs.declared.options.SmoothOptions.{SmoothOptions}
 
 -- pieces are kept, or all is as it was
 abbrev pub ArePiecesIf : Option ℕ → List Point → List (List ℕ) → List Point → List (List ℕ) → Type 0
@@ -30,16 +32,26 @@ abbrev pub AreFlippedIf : (flips : Bool) → List Point → (old new : List (Lis
 AreFlippedIf true points old new = IsFinished points old new
 AreFlippedIf false points old new = new ≡ old
 
--- Pieces are kept, then vertices are split, then edges are flipped, each if the options ask for it. The mesh was closed and is, and after
--- a split each edge has two faces. Flips keep apart what is apart in the mesh after the split.
+-- with smoothing each point moves by at most a distance, and by none two faces meet that were apart; without all is as it was
+abbrev pub IsSmoothedIf : Option SmoothOptions → List Point → List (List ℕ) → List Point → List (List ℕ) → (fine : ℕ) → Type 0
+IsSmoothedIf None points faces new_points new_faces fine = (new_points ≡ points) × (new_faces ≡ faces) × (fine ≡ 1)
+IsSmoothedIf (Some s) points faces new_points new_faces fine = AreSmoothed points faces new_points new_faces fine s.within
+
+-- Pieces are kept, then vertices are split, then edges are flipped, then points move, each if the options ask for it. One unit of the
+-- mesh is `fine` units of the new one. The mesh was closed and is, and after a split each edge has two faces. Without flips the faces
+-- are those after the split. Flips and moves keep apart what is apart in the mesh before them.
 pub record AreFinished (options : FinishOptions) (points : List Point) (faces : List (List ℕ)) (new_points : List Point)
-    (new_faces : List (List ℕ)) : Type 0 where
+    (new_faces : List (List ℕ)) (fine : ℕ) : Type 0 where
   pub kept_points : List Point
   pub kept_faces : List (List ℕ)
+  pub split_points : List Point
   pub split_faces : List (List ℕ)
+  pub flipped_faces : List (List ℕ)
   pub pieces : ArePiecesIf options.pieces points faces kept_points kept_faces
-  pub split : IsSplitIf options.manifold kept_points kept_faces new_points split_faces
-  pub flips : AreFlippedIf options.flips new_points split_faces new_faces
+  pub split : IsSplitIf options.manifold kept_points kept_faces split_points split_faces
+  pub flips : AreFlippedIf options.flips split_points split_faces flipped_faces
+  pub smooth : IsSmoothedIf options.smoothing split_points flipped_faces new_points new_faces fine
+  pub still : options.flips ≡ false → new_faces ≡ split_faces
   pub was_closed : IsBalanced faces
   pub closed : IsBalanced new_faces
   pub two : options.manifold ≡ true → HasTwoFaces new_faces

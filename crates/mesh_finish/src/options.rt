@@ -15,6 +15,18 @@ pub struct FinishOptions {
     pub manifold: bool,
     /// Edges are flipped where the angles between faces fall (default: true).
     pub flips: bool,
+    /// Vertices move so that neighboring faces agree on their directions, and after each step edges are flipped, if edges are flipped at
+    /// all (default: none).
+    pub smoothing: Option<SmoothOptions>,
+}
+
+/// How a mesh is smoothed.
+#[derive(Clone, Copy, Debug, PartialEq, Eq)]
+pub struct SmoothOptions {
+    /// How many steps there are.
+    pub steps: u32,
+    /// How far a vertex may be from where it was, in units of the mesh.
+    pub within: u32,
 }
 
 /// A step whose result is found by a search and then verified.

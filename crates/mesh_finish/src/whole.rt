@@ -12,6 +12,7 @@ ghost use Rattle.mesh_finish.specs.Steps.{AreFlippedIf, AreFinished, ExplainsFin
 use crate::NoMemory;
 use crate::options::{FinishError, FinishOptions};
 use crate::order::in_order;
+use crate::smoothed::{FinishedMesh, smoothed};
 use crate::steps::{kept, paired, split};
 use crate::turned::turned_faces;
 use geo_sign::Point;
@@ -70,21 +71,25 @@ fn flipped(alloc: Global, mesh: Mesh, flips: bool) -> Result<Mesh, NoMemory>
     Ok(new)
 }
 
-/// Returns the mesh after what the options ask for.
+/// Returns the mesh after what the options ask for, and its scale.
 ///
-/// Half edges are paired first, so a mesh that is not closed is an error in any case. Then pieces are kept, vertices split and edges
-/// flipped.
-pub fn finish_mesh(alloc: Global, mesh: Mesh, options: FinishOptions) -> Result<Mesh, FinishError>
+/// Half edges are paired first, so a mesh that is not closed is an error in any case. Then pieces are kept, vertices split, edges
+/// flipped and points moved.
+pub fn finish_mesh(
+    alloc: Global,
+    mesh: Mesh,
+    options: FinishOptions,
+) -> Result<FinishedMesh, FinishError>
     requires { IsMesh mesh.points.items mesh.faces.items }
-    ensures finished { IfOk result (λ new. AreFinished options mesh.points.items mesh.faces.items new.points.items new.faces.items) }
-    ensures valid { IfOk result (λ new. IsMesh new.points.items new.faces.items) }
-    ensures boxed { All (IsWithin BOX_LIMIT) mesh.points.items → IfOk result (λ new. All (IsWithin BOX_LIMIT) new.points.items) }
+    ensures finished { IfOk result (λ new. AreFinished options mesh.points.items mesh.faces.items new.mesh.points.items new.mesh.faces.items new.fine) }
+    ensures valid { IfOk result (λ new. IsMesh new.mesh.points.items new.mesh.faces.items) }
+    ensures boxed { All (IsWithin BOX_LIMIT) mesh.points.items → IfOk result (λ new. All (IsWithin BOX_LIMIT) new.mesh.points.items) }
     ensures why { IfErr result (λ error. ExplainsFinish mesh.faces.items error) }
 {
     let twins = paired(alloc, &mesh)?;
     let kept = kept(alloc, mesh, twins, options.pieces)?;
     let split = split(alloc, kept, options.manifold)?;
-    // Smoothing follows the flips: it moves the points of this mesh and leaves its faces.
-    let new = flipped(alloc, split.mesh, options.flips)?;
+    let flipped = flipped(alloc, split.mesh, options.flips)?;
+    let new = smoothed(alloc, flipped, options)?;
     Ok(new)
 }

@@ -5,7 +5,10 @@ use real_host::Advice;
 
 /// The commands, each with its arguments.
 const USES: [(&str, &str); 2] = [
-    ("finish", "MESH OUT [pieces=N] [manifold=yes] [flips=no]"),
+    (
+        "finish",
+        "MESH OUT [pieces=N] [manifold=yes] [flips=no] [smooth=N within=D]",
+    ),
     ("inspect", "MESH"),
 ];
 

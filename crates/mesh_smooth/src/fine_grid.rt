@@ -108,3 +108,12 @@ pub(crate) fn magnified_points(
     }
     Ok(new)
 }
+
+/// Does nothing. Its clause is what each point keeps, for the proofs of callers.
+pub(crate) fn keep_box(points: &[Point])
+    ensures { All (IsWithin BOX_LIMIT) points.now }
+{
+    for p in points {
+        p.facts();
+    }
+}

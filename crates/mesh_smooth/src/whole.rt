@@ -1,12 +1,14 @@
 //! All steps of smoothing, on a finer grid.
 
-ghost use Rattle.std.specs.Prelude.{◌≡◌, ◌<◌, ◌*◌, ◌^◌, All, IfOk, OnOk, length};
+ghost use Rattle.std.specs.Prelude.{◌≡◌, ◌<◌, ◌*◌, ◌^◌, All, IfOk, OnOk, length, false};
+ghost use Rattle.geo_sign.specs.Point.{IsWithin};
+ghost use Rattle.geo_sign.specs.declared.point.TheConstants.{BOX_LIMIT};
 ghost use Rattle.mesh_flips.specs.Turns.{IsTriangle};
 ghost use Rattle.mesh_smooth.specs.Near.{AreNearHome};
 ghost use Rattle.mesh_smooth.specs.Smoothed.{IsReshaped, IsSmoothedMesh};
 
 use crate::NoMemory;
-use crate::fine_grid::{finest, greatest, magnified_points};
+use crate::fine_grid::{finest, greatest, keep_box, magnified_points};
 use crate::step::smooth;
 use geo_sign::Point;
 use mesh_flips::flip_edges;
@@ -48,6 +50,7 @@ fn smooth_and_flip(
     ensures each { All (IsTriangle (length points.old)) faces.new }
     ensures near { AreNearHome home.now points.new within }
     ensures shape { OnOk result (IsReshaped points.old points.new faces.old faces.new) }
+    ensures still { flips ≡ false → faces.new ≡ faces.old }
 {
     smooth(alloc, points, faces, &twins, home, within)?;
     if !flips {
@@ -73,6 +76,7 @@ fn all_steps(
     ensures each { All (IsTriangle (length points.old)) faces.new }
     ensures near { AreNearHome home.now points.new within }
     ensures shape { OnOk result (IsReshaped points.old points.new faces.old faces.new) }
+    ensures still { smoothing.flips ≡ false → faces.new ≡ faces.old }
 {
     let mut twins = twins;
     for _ in 0..smoothing.steps {
@@ -93,7 +97,8 @@ fn fine_distance(fine: u32, within: u32) -> u64
 /// between faces.
 ///
 /// Each point stays at most `within` units of the mesh from where it was, exactly. Faces that were apart stay apart, no directed
-/// edge occurs twice that did not, and the faces are reached by flips alone. `twins` is a hint, as for [`smooth`] and [`flip_edges`].
+/// edge occurs twice that did not, and the faces are reached by flips alone; without flips they are as they were. `twins` is a hint, as
+/// for [`smooth`] and [`flip_edges`].
 pub fn smooth_mesh(
     alloc: Global,
     points: &[Point],
@@ -105,6 +110,8 @@ pub fn smooth_mesh(
     requires few { length faces.old < 2 ^ 60 }
     ensures smoothed { IfOk result (λ s. IsSmoothedMesh points.now s.points.items faces.old faces.new s.fine smoothing.within) }
     ensures each { All (IsTriangle (length points.now)) faces.new }
+    ensures boxed { IfOk result (λ s. All (IsWithin BOX_LIMIT) s.points.items) }
+    ensures still { smoothing.flips ≡ false → faces.new ≡ faces.old }
 {
     let reach = greatest(points);
     let fine = finest(reach);
@@ -112,6 +119,7 @@ pub fn smooth_mesh(
     let mut moved = Vec::from_slice(alloc, &home)?;
     let within = fine_distance(fine, smoothing.within);
     all_steps(alloc, &mut moved, faces, twins, &home, within, smoothing)?;
+    keep_box(&moved);
     Ok(Smoothed {
         points: moved,
         fine,

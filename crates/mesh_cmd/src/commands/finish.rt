@@ -1,11 +1,13 @@
-//! `finish MESH OUT [pieces=N] [manifold=yes] [flips=no]`: its arguments, its answer and its lines.
+//! `finish MESH OUT [pieces=N] [manifold=yes] [flips=no] [smooth=N within=D]`: its arguments, its answer and its lines.
 ghost use Rattle.std.specs.Option.{option_map};
-ghost use Rattle.std.specs.Prelude.{◌≡◌, false, map, string_bytes, IfOk};
+ghost use Rattle.std.specs.Prelude.{◌≡◌, ◌++◌, false, length, map, string_bytes, IfOk, OnOk};
+ghost use Rattle.mesh_ply.specs.Meshes.{Surface};
 ghost use Rattle.mesh_ply.specs.Texts.{IsPrinted};
+ghost use Rattle.mesh_finish.specs.Steps.{ExplainsFinish};
 ghost use Rattle.command_run.specs.Replies.{answer_of};
 ghost use Rattle.command_run.specs.Steps.{IsReplied, ReadsFor, CountsFaults, surface_of};
 ghost use Rattle.mesh_cmd.specs.Commands.{asked, finish_of};
-ghost use Rattle.mesh_cmd.specs.Finish.{finish_names, finish_task, finished_line, finish_done, not_closed_line, unverified_line, FinishAnswer};
+ghost use Rattle.mesh_cmd.specs.Finish.{finish_names, finish_task, scale_text, finished_line, finish_done, not_closed_line, unverified_line, IsNotFinished, FinishAnswer};
 
 use crate::commands::Command;
 use crate::options::options_in;
@@ -14,7 +16,7 @@ use command_run::{
     line_of_text, push_labelled, read_mesh_file,
 };
 use host::Host;
-use mesh_finish::{FinishError, FinishOptions, Step, finish_mesh};
+use mesh_finish::{FinishError, FinishOptions, FinishedMesh, SmoothOptions, Step, finish_mesh};
 use mesh_ply::{Mesh, push_mesh};
 use std::alloc::{AllocError, Global};
 
@@ -75,27 +77,42 @@ fn reply_to_mesh<'a>(
     ensures { IfOk result (λ reply. FinishAnswer output.now options (surface_of mesh) (answer_of 1 reply)) }
 {
     match finish_mesh(alloc, mesh, options) {
-        Ok(finished) => Ok(reply_of_mesh(alloc, &finished, output)?),
-        Err(FinishError::NotClosed(edge)) => {
+        Ok(finished) => Ok(reply_of_mesh(alloc, &finished, options.smoothing, output)?),
+        Err(error) => Ok(reply_to_error(alloc, error)?),
+    }
+}
+
+/// Makes the answer that says why a mesh is not finished. Out of memory has none.
+fn reply_to_error<'a>(alloc: Global, error: FinishError) -> Result<Reply<'a>, NoMemory>
+    ensures { (mesh : Surface) → ExplainsFinish mesh.faces error → IfOk result (λ reply. IsNotFinished mesh (answer_of 1 reply)) }
+{
+    match error {
+        FinishError::NotClosed(edge) => {
             let line = line_of_open_mesh(alloc, edge.from, edge.to, edge.there, edge.back)?;
             Ok(invalid_input(alloc, Line::Made(line)))
         }
-        Err(FinishError::Unverified(step)) => {
+        FinishError::Unverified(step) => {
             let line = line_of_unverified(alloc, step)?;
             Ok(invalid_input(alloc, Line::Made(line)))
         }
-        Err(FinishError::NoMemory) => Err(AllocError),
+        FinishError::NoMemory => Err(AllocError),
     }
 }
 
 /// Makes the answer that writes this mesh.
-fn reply_of_mesh<'a>(alloc: Global, mesh: &Mesh, output: &'a str) -> Result<Reply<'a>, NoMemory>
-    requires { IsPrinted mesh.now.points.items mesh.now.faces.items }
-    ensures { IfOk result (λ reply. answer_of 1 reply ≡ finish_done output.now (surface_of mesh.now)) }
+fn reply_of_mesh<'a>(
+    alloc: Global,
+    finished: &FinishedMesh,
+    smoothing: Option<SmoothOptions>,
+    output: &'a str,
+) -> Result<Reply<'a>, NoMemory>
+    requires { IsPrinted finished.now.mesh.points.items finished.now.mesh.faces.items }
+    ensures { IfOk result (λ reply. answer_of 1 reply ≡ finish_done output.now smoothing (surface_of finished.now.mesh) finished.now.fine) }
 {
+    let mesh = &finished.mesh;
     let mut text = Vec::new(alloc);
     push_mesh(&mut text, mesh)?;
-    let line = line_of_finish(alloc, mesh.points.len() as u64, mesh.faces.len() as u64)?;
+    let line = line_of_finish(alloc, mesh, smoothing, finished.fine)?;
     let mut texts = Vec::new(alloc);
     texts.push(Text {
         name: output,
@@ -108,14 +125,35 @@ fn reply_of_mesh<'a>(alloc: Global, mesh: &Mesh, output: &'a str) -> Result<Repl
     })
 }
 
-/// Returns the line of `finish`: the numbers of points and faces that were written.
+/// Appends how many units of the new mesh one unit of the mesh has, if it was smoothed.
+#[tactic(auto, unfolding(crate::specs::Finish::scale_text))]
+fn push_scale(
+    line: &mut Vec<u8>,
+    smoothing: Option<SmoothOptions>,
+    fine: u32,
+) -> Result<(), NoMemory>
+    ensures { OnOk result (line.new.items ≡ line.old.items ++ scale_text smoothing fine) }
+{
+    match smoothing {
+        None => Ok(()),
+        Some(_) => push_labelled(line, b" fine ", u64::from(fine)),
+    }
+}
+
+/// Returns the line of `finish`: the numbers of points and faces that were written, and the scale of a smoothed mesh.
 #[tactic(auto, unfolding(crate::specs::Finish::finished_line))]
-fn line_of_finish(alloc: Global, points: u64, faces: u64) -> Result<Vec<u8>, NoMemory>
-    ensures { IfOk result (λ line. line.items ≡ finished_line points faces) }
+fn line_of_finish(
+    alloc: Global,
+    mesh: &Mesh,
+    smoothing: Option<SmoothOptions>,
+    fine: u32,
+) -> Result<Vec<u8>, NoMemory>
+    ensures { IfOk result (λ line. line.items ≡ finished_line smoothing (length mesh.now.points.items) (length mesh.now.faces.items) fine) }
 {
     let mut line = Vec::new(alloc);
-    push_labelled(&mut line, b"finished points ", points)?;
-    push_labelled(&mut line, b" faces ", faces)?;
+    push_labelled(&mut line, b"finished points ", mesh.points.len() as u64)?;
+    push_labelled(&mut line, b" faces ", mesh.faces.len() as u64)?;
+    push_scale(&mut line, smoothing, fine)?;
     line.push(b'\n')?;
     Ok(line)
 }

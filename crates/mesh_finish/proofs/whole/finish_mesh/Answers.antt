@@ -5,26 +5,32 @@ use Rattle.geo_sign.specs.Point.{Point, IsWithin}
 use Rattle.geo_sign.specs.declared.point.TheConstants.{BOX_LIMIT}
 use Rattle.half_edges.proofs.Paired.{paired_closed}
 use Rattle.mesh_finish.proofs.Composed.{composed}
+use Rattle.mesh_finish.proofs.Rewritten.{faces_triangles}
 use Rattle.mesh_finish.proofs.whole.finish_mesh.Goals as goal
 
 pub returns-clause-finished : goal.returns-clause-finished
 returns-clause-finished c =
+    let kept = c.in_ok-kept in
     let split = c.in_ok-split in
+    let flipped = c.in_ok-flipped in
     let new = c.in_ok-new in
-    composed c.args.options c.args.mesh.points.items c.args.mesh.faces.items c.in_ok-kept.kept.mesh.points.items
-    c.in_ok-kept.kept.mesh.faces.items split.split.mesh.points.items split.split.mesh.faces.items new.new.points.items
-    new.new.faces.items c.in_ok-kept.ensures.pieces split.ensures.split new.ensures.points new.ensures.flips
+    composed c.args.options c.args.mesh.points.items c.args.mesh.faces.items kept.kept.mesh.points.items kept.kept.mesh.faces.items
+    split.split.mesh.points.items split.split.mesh.faces.items flipped.flipped.points.items flipped.flipped.faces.items
+    new.new.mesh.points.items new.new.mesh.faces.items new.new.fine kept.ensures.pieces split.ensures.split flipped.ensures.points
+    flipped.ensures.flips new.ensures.smoothed new.ensures.still
+    (faces_triangles (length flipped.flipped.points.items) flipped.flipped.faces.items flipped.ensures.valid.each)
     (paired_closed (length c.args.mesh.points.items) c.args.mesh.faces.items c.in_ok-twins.twins.items c.requires.each
     c.in_ok-twins.ensures.paired)
-    (new.ensures.closed
+    (flipped.ensures.closed
     (paired_closed (length split.split.mesh.points.items) split.split.mesh.faces.items split.split.twins.items
     split.ensures.valid.each split.ensures.paired))
-    new.ensures.single
+    flipped.ensures.single
 
 pub returns-clause-boxed : goal.returns-clause-boxed
 returns-clause-boxed c = λ boxed.
-    subst (λ (ps : List Point). All (IsWithin BOX_LIMIT) ps) (sym c.in_ok-new.ensures.points)
-    (c.in_ok-split.ensures.boxed (c.in_ok-kept.ensures.boxed boxed))
+    c.in_ok-new.ensures.boxed
+    (subst (λ (ps : List Point). All (IsWithin BOX_LIMIT) ps) (sym c.in_ok-flipped.ensures.points)
+    (c.in_ok-split.ensures.boxed (c.in_ok-kept.ensures.boxed boxed)))
 
 pub returns-in_err-kept-clause-why : goal.returns-in_err-kept-clause-why
 returns-in_err-kept-clause-why c = search (rules, c.in_err-kept.ensures.why c.args.mesh.faces.items)

@@ -1,4 +1,4 @@
-use Rattle.std.proofs.Common.{length}
+use Rattle.std.proofs.Common.{◌≡◌, length, false}
 use Rattle.std.specs.List.{All}
 use Rattle.mesh_flips.specs.Turns.{IsTriangle}
 use Rattle.mesh_smooth.specs.Near.{AreNearHome}
@@ -11,4 +11,5 @@ invariant-loop l =
       each : All (IsTriangle (length l.points)) l.faces;
       near : AreNearHome l.home l.points l.within;
       shape : IsReshaped l.fn.points l.points l.fn.faces l.faces;
+      still : l.smoothing.flips ≡ false → l.faces ≡ l.fn.faces;
     }
