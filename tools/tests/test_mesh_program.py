@@ -42,18 +42,20 @@ def two_cubes(by: Sequence[int]) -> tuple[list[tuple[int, ...]], list[tuple[int,
     return points, CUBE_FACES + [(number[a], number[b], number[c]) for a, b, c in CUBE_FACES]
 
 
-# points, faces, whether closed, faces without area, and six times the volume
-INSPECTED: list[tuple[Any, Any, str, int, int]] = [
-    ([], [], 'yes', 0, 0),
-    (POINTS, FACES, 'yes', 0, 16000000),
-    (POINTS, [(a, c, b) for a, b, c in FACES], 'yes', 0, -16000000),
-    (moved(POINTS, (8000000, -8000000, 7)), FACES, 'yes', 0, 16000000),
-    (POINTS, FACES[1:], 'no edge 0 1 there 0 back 1', 0, 12000000),
-    (POINTS, FACES + FACES[3:], 'no edge 1 2 there 1 back 2', 0, 20000000),
-    (CUBE, CUBE_FACES, 'yes', 0, 6),
-    (*two_cubes((1, 1, 1)), 'yes', 0, 12),
-    (*two_cubes((1, 1, 0)), 'yes', 0, 12),
-    ([(0, 0, 0), (1, 1, 1), (3, 3, 3), (0, 0, 0)], [(0, 1, 2), (0, 2, 1), (0, 3, 1), (0, 1, 3)], 'yes', 4, 0),
+# points, faces, whether closed, non-manifold edges and vertices, pieces, faces without area, and six times the volume
+INSPECTED: list[tuple[Any, Any, str, int, int, int, int, int]] = [
+    ([], [], 'yes', 0, 0, 0, 0, 0),
+    (POINTS, [], 'yes', 0, 0, 0, 0, 0),
+    (POINTS, FACES, 'yes', 0, 0, 1, 0, 16000000),
+    (POINTS, [(a, c, b) for a, b, c in FACES], 'yes', 0, 0, 1, 0, -16000000),
+    (moved(POINTS, (8000000, -8000000, 7)), FACES, 'yes', 0, 0, 1, 0, 16000000),
+    (POINTS, FACES[1:], 'no edge 0 1 there 0 back 1', 3, 3, 1, 0, 12000000),
+    (POINTS, FACES[:3] + [(1, 2, 3)], 'no edge 1 2 there 2 back 0', 0, 0, 1, 0, 8000000),
+    (POINTS, FACES + FACES[3:], 'no edge 1 2 there 1 back 2', 3, 3, 1, 0, 20000000),
+    (CUBE, CUBE_FACES, 'yes', 0, 0, 1, 0, 6),
+    (*two_cubes((1, 1, 1)), 'yes', 0, 1, 2, 0, 12),
+    (*two_cubes((1, 1, 0)), 'yes', 1, 2, 1, 0, 12),
+    ([(0, 0, 0), (1, 1, 1), (3, 3, 3), (0, 0, 0)], [(0, 1, 2), (0, 2, 1), (0, 3, 1), (0, 1, 3)], 'yes', 1, 2, 1, 4, 0),
 ]
 
 
@@ -125,9 +127,10 @@ class MeshProgram(InFolder):
             equal((status, said.startswith('finished points '), read('out.ply')), (0, True, text))
 
     def test_inspections(self) -> None:
-        for points, faces, closed, flat, volume in INSPECTED:
+        for points, faces, closed, edges, vertices, pieces, flat, volume in INSPECTED:
             write('mesh.ply', mesh_text(points, [turned(face) for face in faces]))
-            line = f'inspected points {len(points)} faces {len(faces)} closed {closed} flat_faces {flat} volume {volume}/6\n'
+            topology = f'nonmanifold_edges {edges} nonmanifold_vertices {vertices} pieces {pieces}'
+            line = f'inspected points {len(points)} faces {len(faces)} closed {closed} {topology} flat_faces {flat} volume {volume}/6\n'
             equal(mesh_program('inspect', 'mesh.ply'), (0, line, ''))
         equal(os.listdir('.'), ['mesh.ply'])
 
@@ -264,7 +267,27 @@ def inspected(points: Sequence[Any], faces: Sequence[Any]) -> str:
     corners = [[points[v] for v in face] for face in faces]
     flat_faces = sum(not any(product(difference(a, b), difference(a, c))) for a, b, c in corners)
     volume = sum(sum(x * y for x, y in zip(a, product(b, c))) for a, b, c in corners)
-    return f'inspected points {len(points)} faces {len(faces)} {closed} flat_faces {flat_faces} volume {volume}/6\n'
+    return f'inspected points {len(points)} faces {len(faces)} {closed} {topology(faces)} flat_faces {flat_faces} volume {volume}/6\n'
+
+
+def topology(faces: Sequence[Any]) -> str:
+    """The numbers of non-manifold edges and vertices and of pieces, by their definitions."""
+    sides = [{frozenset((a, b)), frozenset((b, c)), frozenset((c, a))} for a, b, c in faces]
+    odd = {edge for edge, count in Counter(edge for face in sides for edge in face).items() if count != 2}
+    vertices = 0
+    for v in {v for face in faces for v in face}:
+        around = [{edge for edge in face if v in edge} for face in sides if any(v in edge for edge in face)]
+        vertices += any(v in edge for edge in odd) or pieces_of(around) > 1
+    return f'nonmanifold_edges {len(odd)} nonmanifold_vertices {vertices} pieces {pieces_of(sides)}'
+
+
+def pieces_of(sets: Sequence[set[Any]]) -> int:
+    """The number of pieces that the sets are, where those with a common element are of one."""
+    pieces: list[set[Any]] = []
+    for one in sets:
+        touched = [piece for piece in pieces if piece & one]
+        pieces = [piece for piece in pieces if not piece & one] + [one.union(*touched)]
+    return len(pieces)
 
 
 def difference(a: Sequence[int], b: Sequence[int]) -> tuple[int, ...]:

@@ -2,29 +2,33 @@
 --
 --   AreMeasuresOf mesh m         m are the measures of a mesh
 --   closed_text unbalanced       the part of the line on the first unbalanced edge
+--   topology_text t              its part on how the faces are connected
 --   sizes_text, volume_text, measures_text   its other parts
 --   inspected_line points faces m   the line
 --   IsInspection mesh answer     the answer says the measures of a mesh
 --   inspect_task name            the command
-use Rattle.std.specs.Prelude.{ℕ, ℤ, List, [], ◌∷◌, Option, Some, None, ◌++◌, codes, ◌≡◌, ◌<◌, length, IfNone, IfSome}
+use Rattle.std.specs.Prelude.{ℕ, ℤ, List, [], Option, Some, None, ◌++◌, codes, ◌≡◌, ◌<◌, length, IfNone, IfSome}
 use Rattle.std.specs.Fmt.{signed_decimal}
 use Rattle.mesh_ply.specs.Meshes.{Surface}
 use Rattle.mesh_edges.specs.Edges.{face_at, IsBalanced, IsFirstUnbalanced}
 use Rattle.mesh_edges.specs.declared.balance.UnbalancedEdge.{UnbalancedEdge}
 use Rattle.counting.specs.Sets.{AreSoMany}
 use Rattle.mesh_measures.specs.Flat.{IsFlat}
+use Rattle.mesh_measures.specs.Topology.{IsTopologyOf}
 use Rattle.mesh_measures.specs.Volumes.{six_volume}
+use Rattle.mesh_measures.specs.declared.topology.Topology.{Topology}
 use Rattle.command_run.specs.Answers.{Answer, Task, mesh_task}
 use Rattle.command_run.specs.Lines.{labelled}
 use Rattle.command_run.specs.declared.meshes.TheConstants.{FILE_LIMIT}
 use Rattle.command_run.specs.declared.status.Status.TheVariants.{Done}
 use Rattle.mesh_cmd.specs.declared.commands.inspect.Measures.{Measures}
 
--- The first edge that occurs another number of times than its reverse, if the mesh is not closed; how many faces have their three
--- corners on one line; and six times the signed volume.
+-- The first edge that occurs another number of times than its reverse, if the mesh is not closed; the numbers of non-manifold edges and
+-- vertices and of pieces; how many faces have their three corners on one line; and six times the signed volume.
 pub record AreMeasuresOf (mesh : Surface) (m : Measures) : Type 0 where
   pub closed : IfNone m.unbalanced (IsBalanced mesh.faces)
   pub unbalanced : IfSome m.unbalanced (λ e. IsFirstUnbalanced mesh.faces e.from e.to e.there e.back)
+  pub topology : IsTopologyOf mesh.points mesh.faces m.topology
   pub flat : AreSoMany (λ f. (f < length mesh.faces) × IsFlat mesh.points (face_at mesh.faces f)) m.flat_faces
   pub volume : m.six_volume ≡ six_volume mesh.points mesh.faces
 
@@ -34,6 +38,12 @@ closed_text None = codes " closed yes"
 closed_text (Some e) =
     labelled (codes " closed no edge ") e.from
     ++ (labelled (codes " ") e.to ++ (labelled (codes " there ") e.there ++ labelled (codes " back ") e.back))
+
+-- the numbers of non-manifold edges and vertices and of pieces
+unfoldable pub topology_text : Topology → List ℕ
+topology_text t =
+    labelled (codes " nonmanifold_edges ") t.nonmanifold_edges
+    ++ (labelled (codes " nonmanifold_vertices ") t.nonmanifold_vertices ++ labelled (codes " pieces ") t.pieces)
 
 -- the numbers of points and faces
 unfoldable pub sizes_text : (points faces : ℕ) → List ℕ
@@ -45,9 +55,11 @@ volume_text six = codes " volume " ++ (signed_decimal six ++ codes "/6\n")
 
 -- the measures
 unfoldable pub measures_text : Measures → List ℕ
-measures_text m = closed_text m.unbalanced ++ (labelled (codes " flat_faces ") m.flat_faces ++ volume_text m.six_volume)
+measures_text m =
+    closed_text m.unbalanced
+    ++ (topology_text m.topology ++ (labelled (codes " flat_faces ") m.flat_faces ++ volume_text m.six_volume))
 
--- `inspected points N faces M closed yes flat_faces D volume V/6`
+-- `inspected points N faces M closed yes nonmanifold_edges E nonmanifold_vertices W pieces P flat_faces D volume V/6`
 unfoldable pub inspected_line : (points faces : ℕ) → Measures → List ℕ
 inspected_line points faces m = sizes_text points faces ++ measures_text m
 

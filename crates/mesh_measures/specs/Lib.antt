@@ -1,2 +1,9 @@
 pub mod Volumes
 pub mod Flat
+pub mod Corners
+pub mod Pieces
+pub mod Manifolds
+pub mod Sides
+pub mod Merges
+pub mod Marks
+pub mod Topology

@@ -5,7 +5,7 @@ ghost use Rattle.mesh_ply.specs.Texts.{IsPrinted};
 ghost use Rattle.command_run.specs.Replies.{answer_of};
 ghost use Rattle.command_run.specs.Steps.{IsReplied, ReadsFor, CountsFaults, surface_of};
 ghost use Rattle.mesh_cmd.specs.Commands.{asked, inspect_of};
-ghost use Rattle.mesh_cmd.specs.Inspect.{inspect_task, inspected_line, closed_text, sizes_text, volume_text, measures_text, IsInspection, AreMeasuresOf};
+ghost use Rattle.mesh_cmd.specs.Inspect.{inspect_task, inspected_line, closed_text, sizes_text, topology_text, volume_text, measures_text, IsInspection, AreMeasuresOf};
 
 use crate::commands::Command;
 use command_run::{
@@ -14,7 +14,7 @@ use command_run::{
 };
 use host::Host;
 use mesh_edges::{UnbalancedEdge, first_unbalanced};
-use mesh_measures::{count_flat_faces, six_volume};
+use mesh_measures::{Topology, count_flat_faces, measure_topology, six_volume};
 use mesh_ply::Mesh;
 use num_text::push_whole;
 use std::alloc::Global;
@@ -31,6 +31,8 @@ pub struct InspectWords<'a> {
 pub struct Measures {
     /// The first edge that occurs another number of times than its reverse; none if the mesh is closed.
     pub unbalanced: Option<UnbalancedEdge>,
+    /// The numbers of non-manifold edges and vertices and of pieces.
+    pub topology: Topology,
     /// How many faces have their three corners on one line.
     pub flat_faces: usize,
     /// Six times the signed volume, in cubes of a scaled unit.
@@ -94,10 +96,12 @@ fn measure(alloc: Global, mesh: &Mesh) -> Result<Measures, NoMemory>
     ensures { IfOk result (λ m. AreMeasuresOf (surface_of mesh.now) m) }
 {
     let unbalanced = first_unbalanced(alloc, mesh)?;
+    let topology = measure_topology(alloc, mesh)?;
     let flat_faces = count_flat_faces(mesh);
     let six_volume = six_volume(mesh);
     Ok(Measures {
         unbalanced,
+        topology,
         flat_faces,
         six_volume,
     })
@@ -121,6 +125,25 @@ fn push_closed(line: &mut Vec<u8>, unbalanced: Option<UnbalancedEdge>) -> Result
             Ok(())
         }
     }
+}
+
+/// Appends the numbers of non-manifold edges and vertices and of pieces.
+#[tactic(auto, unfolding(crate::specs::Inspect::topology_text))]
+fn push_topology(line: &mut Vec<u8>, topology: Topology) -> Result<(), NoMemory>
+    ensures { OnOk result (line.new.items ≡ line.old.items ++ topology_text topology) }
+{
+    push_labelled(
+        line,
+        b" nonmanifold_edges ",
+        topology.nonmanifold_edges as u64,
+    )?;
+    push_labelled(
+        line,
+        b" nonmanifold_vertices ",
+        topology.nonmanifold_vertices as u64,
+    )?;
+    push_labelled(line, b" pieces ", topology.pieces as u64)?;
+    Ok(())
 }
 
 /// Appends the numbers of points and faces.
@@ -150,6 +173,7 @@ fn push_measures(line: &mut Vec<u8>, measures: Measures) -> Result<(), NoMemory>
     ensures { OnOk result (line.new.items ≡ line.old.items ++ measures_text measures) }
 {
     push_closed(line, measures.unbalanced)?;
+    push_topology(line, measures.topology)?;
     push_labelled(line, b" flat_faces ", measures.flat_faces as u64)?;
     push_volume(line, measures.six_volume)?;
     Ok(())

@@ -1,19 +1,14 @@
-use Rattle.std.proofs.Common.{◌≡◌, ◌++◌, List, ℕ, ℤ, append_assoc, ap, ◌∙◌, FitsSigned, rules}
+use Rattle.std.proofs.Common.{◌++◌, ℤ, ap, ◌∙◌, FitsSigned, rules}
 use Rattle.std.proofs.lemmas.Int.{to_z-of_z}
 use mir.Syntax.{w128}
 use Rattle.mesh_cmd.specs.Inspect.{measures_text, volume_text}
+use Rattle.mesh_cmd.proofs.Texts.{four_after}
 use Rattle.mesh_cmd.proofs.commands.inspect.push_measures.Goals as goal
-
--- three texts after another
-three_after : (a b c d x y z : List ℕ) → b ≡ a ++ x → c ≡ b ++ y → d ≡ c ++ z → d ≡ a ++ (x ++ (y ++ z))
-three_after a b c d x y z e f g =
-    g ∙ (ap (λ (t : List ℕ). t ++ z) (f ∙ ap (λ (t : List ℕ). t ++ y) e)
-    ∙ (append_assoc (a ++ x) y z ∙ append_assoc a x (y ++ z)))
 
 pub returns : goal.returns
 unfolding measures_text
 returns c =
     let fits : FitsSigned w128 c.args.measures.six_volume = search rules in
-    three_after _ _ _ _ _ _ _ c.in_ok-push_closed.ensures c.in_ok-push_labelled.ensures
+    four_after _ _ _ _ _ _ _ _ _ c.in_ok-push_closed.ensures c.in_ok-push_topology.ensures c.in_ok-push_labelled.ensures
     (c.in_ok-push_volume.ensures
     ∙ ap (λ (v : ℤ). c.push_labelled.new.line.items ++ volume_text v) (to_z-of_z w128 c.args.measures.six_volume fits))
