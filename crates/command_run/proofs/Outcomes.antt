@@ -3,7 +3,8 @@
 -- A run reads, and then carries an answer out, or its reading is all that it does. Reading leaves every file and what was
 -- said (same_told), so an answer that is carried out behind it, whole or up to a failed call, is so from the beginning
 -- (carried_after, stopped_after by the files to be written). A host may tell nothing: told_so and told_after_reading take
--- the cases of what is told before, between and after. obeyed_by joins both steps. All of it holds for any set of answers.
+-- the cases of what is told before, between and after. obeyed_by joins both steps, and starved_by is for a run that found no
+-- memory for what it read. All of it holds for any set of answers.
 use Rattle.std.proofs.Common.{◌≡◌, ◌⊎◌, inl, inr, ℕ, ◌+◌, ◌≤◌, List, [], ◌∷◌, ◌++◌, take, Option, Some, None, IfSome, refl, sym, ap}
 use Rattle.std.proofs.Common.{subst, ◌∙◌}
 use Rattle.std.specs.Option.{IsSomeAnd}
@@ -46,6 +47,13 @@ told_after_reading None mid after P Q each only p = tt
 told_after_reading (Some old) None after P Q each only p = cc
 told_after_reading (Some old) (Some now) None P Q each only p = p
 told_after_reading (Some old) (Some now) (Some new) P Q each only p = each old now new (same_told now old only) p
+
+-- only readings: all else is as it was
+untouched : (before after : Option Told) → apart_from_left after ≡ apart_from_left before
+    → IfSome before (λ old. IsSomeAnd after (λ new. IsUntouched old new))
+untouched None after only = tt
+untouched (Some old) None only = cc
+untouched (Some old) (Some new) only = same_told new old only
 
 -- an answer is carried out after a reading as before it
 carried_after : (writes : List Write) (line : List ℕ) (old now new : Told) → IsUntouched old now
@@ -157,3 +165,16 @@ obeyed_by Fits most Answers status writes line result before mid after fails fit
           (stopped_after writes line) reads.told stopped.told);
       reads = opens_as Answers before mid after stopped.opens reads.no_more;
     })
+
+-- there was no memory for an answer
+pub starved_by : (Fits : Status → Type 0) (most : ℕ) (Answers : Files → Answer → Type 0) (before after : State) → Fits NoMemory
+    → ReadsBy most Answers before after → after.faults ≡ before.faults → Run Fits most Answers NoMemory before after
+starved_by Fits most Answers before after fits reads same =
+    record {
+      fits = fits;
+      faults = same;
+      opens = reads.opens;
+      writing = reads.writing;
+      tells = untouched before.told after.told reads.told;
+      reads = reads.no_more;
+    }

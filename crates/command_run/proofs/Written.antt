@@ -2,21 +2,21 @@
 --
 -- IsWritten says that some files were written and nothing else has changed. It holds before the first (written_none), and
 -- one file more keeps it (written_more). A call that fails on a file leaves it as it was or with a front of its bytes,
--- behind those that are whole (stopped_at, by stopped_behind); with all of them written a front of the line is said
--- (said_front). What a host tells is optional, and told_through takes its cases once. texts_next and texts_split
+-- behind those that are whole (stopped_at, by stopped_behind); with all of them written the line is said, whole or a front
+-- (said_whole, said_front). What a host tells is optional, and told_through takes its cases once. texts_next and texts_split
 -- cut a list of texts at a place.
 use Rattle.std.proofs.Common.{◌≡◌, inl, inr, ℕ, suc, zero, ◌+◌, ◌<◌, List, [], ◌∷◌, ◌++◌, length, take, drop, get_or, Option, Some, None}
 use Rattle.std.proofs.Common.{IfSome, false, refl, sym, ap, subst, ◌∙◌, arith}
 use Rattle.std.specs.Option.{IsSomeAnd}
 use Rattle.std.proofs.lemmas.List.{take_more, map-append}
 use Rattle.host.specs.Counts.{Rose}
-use Rattle.host.specs.State.{State, Told, Files, FailedFrom, after_change, stops_reading, with_file}
+use Rattle.host.specs.State.{State, Told, Files, FailedFrom, after_change, says, stops_reading, with_file}
 use Rattle.host.specs.Whole.{writes, WritesFront, SaysFront}
 use Rattle.command_run.specs.Answers.{Write}
-use Rattle.command_run.specs.Outcome.{StoppedIn, SaidFront, all_written}
+use Rattle.command_run.specs.Outcome.{StoppedIn, IsCarriedOut, SaidFront, all_written}
 use Rattle.command_run.specs.Replies.{write_of, texts_of}
 use Rattle.command_run.specs.declared.reply.Text.{Text}
-use Rattle.command_run.specs.Steps.{IsWritten, StopsOnTheWay}
+use Rattle.command_run.specs.Steps.{IsWritten, CarriesAllOut, StopsOnTheWay}
 
 -- files written after others
 pub all_written-append : (done rest : List Write) (files : Files)
@@ -115,6 +115,21 @@ stopped_at done rest name bytes line before now after written (inl failed) =
     stopped_before done rest name bytes line before now after written failed
 stopped_at done rest name bytes line before now after written (inr (count, within, failed)) =
     stopped_inside done rest name bytes line count before now after written failed
+
+-- all files are whole, and the line was said
+pub said_whole : (all : List Write) (line : List ℕ) (before now after : State) → IsWritten all before now
+    → after ≡ says line now → CarriesAllOut all line before after
+said_whole all line before now after written is =
+    record {
+      faults = ap (λ (s : State). s.faults) is ∙ written.faults;
+      opens = ap (λ (s : State). s.opens) is ∙ written.opens;
+      writing = ap (λ (s : State). s.writing) is ∙ written.writing;
+      told =
+          told_through before.told now.told after.told (λ (t : Told). record t { said = t.said ++ line }) (HasWritten all)
+          (IsCarriedOut all line)
+          (λ old mid p. record { files = p.0; said = ap (λ (said : List ℕ). said ++ line) p.1 })
+          (ap (λ (s : State). s.told) is) written.told;
+    }
 
 -- all files are whole, and a front of the line was said
 pub said_front : (all : List Write) (line : List ℕ) (before now after : State) → IsWritten all before now

@@ -1,4 +1,4 @@
--- Answers as the program holds them in memory.
+-- The answers that the program holds in memory.
 --
 --   line_bytes line            the bytes of a line
 --   write_of, texts_of         a text and texts, as what is written
@@ -23,7 +23,7 @@ write_of text = (text.name.now, text.bytes.items)
 abbrev pub texts_of : List Text → List Write
 texts_of texts = map write_of texts
 
--- a reply after this number of files were read, as an answer
+-- a reply after this number of files was read, as an answer
 abbrev pub answer_of : ℕ → Reply → Answer
 answer_of reads reply =
     record { status = reply.status; reads = reads; writes = texts_of reply.texts.items; line = line_bytes reply.line }

@@ -1,13 +1,13 @@
--- The names of files among the arguments of a command.
+-- The names of files in the arguments of a command.
 --
---   Names                 a file that is read, and one that is written
+--   Names                 an input file, and an output file
 --   is_other name others  it is none of these
 --   is_name name others   it is not empty, and none of these
 --   are_names names       none is empty, and no two are equal
 use Rattle.std.specs.Prelude.{ℕ, List, [], ◌∷◌, Bool, true, not, ◌&&◌, ◌==◌, length}
 use Rattle.std.specs.Str.{bytes_eq}
 
--- a file that is read, and one that is written
+-- an input file, and an output file
 pub record Names : Type 0 where
   pub input : List ℕ
   pub output : List ℕ

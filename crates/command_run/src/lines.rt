@@ -1,4 +1,4 @@
-//! The lines that commands share, and the parts of lines.
+//! The lines that commands share, and their parts, in memory. Depends on `num_text`, which prints integers.
 ghost use Rattle.std.specs.Prelude.{◌≡◌, ◌++◌, IfOk, OnOk, Some};
 ghost use Rattle.command_run.specs.Lines.{bad_arguments_line, too_long_mesh_line, labelled, mesh_error_line, text_line, number_line};
 
@@ -7,7 +7,7 @@ use mesh_ply::MeshRefusal;
 use num_text::push_whole;
 use std::alloc::{AllocError, Global};
 
-/// Returns the line of invalid arguments.
+/// Returns the line for arguments that are no command.
 #[tactic(auto, unfolding(crate::specs::Lines::bad_arguments_line))]
 pub fn line_of_bad_arguments() -> &'static [u8]
     ensures { result.now ≡ bad_arguments_line }
@@ -15,7 +15,7 @@ pub fn line_of_bad_arguments() -> &'static [u8]
     b"refused words\n"
 }
 
-/// Returns the line of a mesh whose file is longer than the limit.
+/// Returns the line for a mesh's file that is longer than the limit.
 #[tactic(auto, unfolding(crate::specs::Lines::too_long_mesh_line))]
 pub fn line_of_too_long_mesh() -> &'static [u8]
     ensures { result.now ≡ too_long_mesh_line }
@@ -23,7 +23,7 @@ pub fn line_of_too_long_mesh() -> &'static [u8]
     b"refused 19 too_long mesh\n"
 }
 
-/// Appends a label and a number.
+/// Appends a label, and a number after it.
 pub fn push_labelled(line: &mut Vec<u8>, label: &[u8], number: u64) -> Result<(), NoMemory>
     ensures { OnOk result (line.new.items ≡ line.old.items ++ labelled label.now number) }
 {
@@ -32,7 +32,7 @@ pub fn push_labelled(line: &mut Vec<u8>, label: &[u8], number: u64) -> Result<()
     Ok(())
 }
 
-/// Returns the line of an invalid mesh. Out of memory has no line.
+/// Returns the line for a mesh that is rejected. Out of memory has no line.
 pub fn line_of_mesh_error(alloc: Global, why: MeshRefusal) -> Result<Vec<u8>, NoMemory>
     ensures { IfOk result (λ line. mesh_error_line why ≡ Some line.items) }
 {
@@ -45,7 +45,7 @@ pub fn line_of_mesh_error(alloc: Global, why: MeshRefusal) -> Result<Vec<u8>, No
     }
 }
 
-/// Returns a text as a line.
+/// Returns a text alone.
 #[tactic(auto, unfolding(crate::specs::Lines::text_line))]
 pub fn line_of_text(alloc: Global, text: &[u8]) -> Result<Vec<u8>, NoMemory>
     ensures { IfOk result (λ line. line.items ≡ text_line text.now) }
@@ -56,7 +56,7 @@ pub fn line_of_text(alloc: Global, text: &[u8]) -> Result<Vec<u8>, NoMemory>
     Ok(line)
 }
 
-/// Returns a text and a number as a line.
+/// Returns a text, and a number after it.
 #[tactic(auto, unfolding(crate::specs::Lines::number_line))]
 pub fn line_of_number(alloc: Global, text: &[u8], number: u64) -> Result<Vec<u8>, NoMemory>
     ensures { IfOk result (λ line. line.items ≡ number_line text.now number) }

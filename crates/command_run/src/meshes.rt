@@ -1,4 +1,4 @@
-//! Reads the mesh that a command begins with.
+//! Reads the input mesh of a command. Depends on `mesh_ply`, which parses the bytes of a file.
 ghost use Rattle.std.specs.Prelude.{◌≡◌, false, IfOk, IfSome, ◌≤◌, length, ℕ};
 ghost use Rattle.host.specs.Whole.{OnlyReads};
 ghost use Rattle.command_run.specs.Steps.{IsMeshReading, IsPrintedIfRead, CountsFaults, IsUnderstoodMesh};
@@ -10,19 +10,19 @@ use host::{Host, ReadRefusal, read_all};
 use mesh_ply::{Mesh, read_mesh};
 use std::alloc::Global;
 
-/// How many bytes a file that a command reads may have.
+/// The maximal size of an input file in bytes.
 pub const FILE_LIMIT: u64 = 4_294_967_296;
 
-/// The outcome of reading a mesh.
+/// The result of reading a mesh.
 #[derive(Drop)]
 pub enum MeshReading {
     /// The mesh of the file.
     Mesh(Mesh),
-    /// The file is invalid, and this line says why.
+    /// The file is rejected, and this line states why.
     Refused(Line),
 }
 
-/// Reads the mesh of the named file, which may have as many bytes as the limit. Its bytes are freed.
+/// Reads the mesh of the named file. Its bytes are freed. The file may be as long as the limit.
 pub fn read_mesh_file<H: Host>(
     alloc: Global,
     host: &mut H,
@@ -46,7 +46,7 @@ pub fn read_mesh_file<H: Host>(
     Ok(understand_mesh(alloc, &bytes)?)
 }
 
-/// Reads the mesh from the bytes of its file.
+/// Parses the bytes of a mesh's file.
 fn understand_mesh(alloc: Global, bytes: &[u8]) -> Result<MeshReading, NoMemory>
     ensures understood { (limit : ℕ) → length bytes.now ≤ limit → IfOk result (IsUnderstoodMesh limit bytes.now) }
     ensures printed { IfOk result IsPrintedIfRead }

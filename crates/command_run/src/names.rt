@@ -2,7 +2,7 @@
 ghost use Rattle.std.specs.Prelude.{◌≡◌, map, string_bytes};
 ghost use Rattle.command_run.specs.Words.{are_names, is_name, is_other};
 
-/// Returns whether no name is empty and no two names are equal. Two spellings of one path are two names.
+/// Returns whether none of the names is empty, and no two are equal. Two spellings of one path are two names.
 pub fn are_names(names: &[String]) -> bool
     ensures { result ≡ are_names (map string_bytes names.now) }
 {
@@ -15,7 +15,7 @@ pub fn are_names(names: &[String]) -> bool
 }
 
 /// Returns whether the name is not empty, and none of these.
-fn is_name(name: &str, others: &[String]) -> bool
+pub fn is_name(name: &str, others: &[String]) -> bool
     ensures { result ≡ is_name name.now (map string_bytes others.now) }
 {
     !name.is_empty() && is_none_of(name, others)

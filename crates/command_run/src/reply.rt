@@ -1,4 +1,4 @@
-//! The answer of a command, in memory.
+//! The result of a command, in memory.
 ghost use Rattle.std.specs.Prelude.{◌≡◌, ℕ};
 ghost use Rattle.command_run.specs.Answers.{invalid};
 ghost use Rattle.command_run.specs.Replies.{line_bytes, answer_of};
@@ -7,12 +7,12 @@ ghost use Rattle.command_run.specs.declared.reply.Stop.TheVariants as stops;
 use crate::status::Status;
 use std::alloc::{AllocError, Global};
 
-/// The line on standard output, which is said last.
+/// The line that is printed last.
 #[derive(Drop)]
 pub enum Line {
-    /// A fixed text.
+    /// A line without numbers.
     Fixed(&'static [u8]),
-    /// A text with numbers.
+    /// A line that was made in memory.
     Made(Vec<u8>),
 }
 
@@ -28,7 +28,7 @@ impl Line {
     }
 }
 
-/// A text that is written as a file of this name.
+/// A text to be written to the file of this name.
 #[derive(Drop)]
 pub struct Text<'a> {
     /// The name of the file.
@@ -37,18 +37,18 @@ pub struct Text<'a> {
     pub bytes: Vec<u8>,
 }
 
-/// The answer of a command.
+/// The result of a command.
 #[derive(Drop)]
 pub struct Reply<'a> {
-    /// The exit status if everything is written and said.
+    /// The exit status if every call succeeds.
     pub status: Status,
-    /// The files to write, in order.
+    /// The texts to write, in order.
     pub texts: Vec<Text<'a>>,
-    /// The line to say after them.
+    /// The line to print after them.
     pub line: Line,
 }
 
-/// Why there is no answer.
+/// Why a command has no result.
 #[derive(Clone, Copy, Debug, PartialEq, Eq)]
 pub enum Stop {
     /// A call of the host failed.
@@ -65,7 +65,7 @@ impl From<AllocError> for Stop {
     }
 }
 
-/// Returns the answer to an invalid input: no file is written, and this line is printed.
+/// Returns the reply to an invalid input: no file is written, and this line is printed.
 pub fn invalid_input<'a>(alloc: Global, line: Line) -> Reply<'a>
     ensures { (reads : ℕ) → answer_of reads result ≡ invalid reads (line_bytes line) }
 {

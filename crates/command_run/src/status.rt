@@ -1,15 +1,15 @@
-//! How a run ends.
+//! The end of a run.
 
-/// How a run ends: the exit status of the program.
+/// The exit status of the program.
 #[derive(Clone, Copy, Debug, PartialEq, Eq)]
 pub enum Status {
     /// 0: the command is done.
     Done,
-    /// 1: what the command checked does not hold.
+    /// 1: the answer of the verification is no.
     No,
-    /// 2: invalid arguments.
+    /// 2: the arguments are invalid.
     BadArguments,
-    /// 3: an input is invalid, or longer than the limit.
+    /// 3: an input is rejected, or is longer than the limit.
     Refused,
     /// 4: a call of the host failed.
     Failed,
@@ -21,7 +21,7 @@ impl Status {
     ghost use Rattle.std.specs.Prelude.{◌≡◌};
     ghost use Rattle.command_run.specs.Status.{code_of};
 
-    /// The exit status as a number.
+    /// Returns the exit status as a number.
     pub fn code(self) -> u8
         ensures { result ≡ code_of self }
     {

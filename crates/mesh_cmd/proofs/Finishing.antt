@@ -1,11 +1,10 @@
 -- The answers of `finish`: how they end, and what is written.
-use Rattle.std.proofs.Common.{ℕ, ◌≡◌, ◌⊎◌, inl, inr, ap, sym, ◌∙◌, subst, List}
+use Rattle.std.proofs.Common.{ℕ, ◌≡◌, ◌⊎◌, inl, inr, ap, ◌∙◌, List}
 use Rattle.mesh_ply.specs.Meshes.{Surface}
 use Rattle.mesh_edges.specs.Edges.{IsFirstUnbalanced}
 use Rattle.mesh_finish.specs.declared.options.FinishOptions.{FinishOptions}
 use Rattle.mesh_finish.specs.declared.options.Step.{Step}
 use Rattle.command_run.specs.Answers.{Answer, invalid}
-use Rattle.command_run.specs.declared.status.Status.{Status}
 use Rattle.command_run.specs.declared.status.Status.TheVariants.{Done, Refused}
 use Rattle.mesh_cmd.specs.Finish.{FinishAnswer, IsNotFinished, not_closed_line, unverified_line}
 
@@ -15,10 +14,6 @@ pub answer_ends : (output : List ℕ) (options : FinishOptions) (mesh : Surface)
 answer_ends output options mesh answer (inl writes) = inl (ap (λ (a : Answer). a.status) writes.is)
 answer_ends output options mesh answer (inr (inl edge)) = inr (ap (λ (a : Answer). a.status) edge.is)
 answer_ends output options mesh answer (inr (inr step)) = inr (ap (λ (a : Answer). a.status) step.1)
-
-pub done_or_refused : (P : Status → Type 0) (s : Status) → P Done → P Refused → (s ≡ Done) ⊎ (s ≡ Refused) → P s
-done_or_refused P s done refused (inl e) = subst P (sym e) done
-done_or_refused P s done refused (inr e) = subst P (sym e) refused
 
 -- the line says of an edge that it is the first that is not balanced
 pub answers_open : (mesh : Surface) (answer : Answer) (line : List ℕ) (from to there back : ℕ)

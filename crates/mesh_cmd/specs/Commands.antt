@@ -6,7 +6,6 @@
 --   command_of words             the command that the arguments ask for, if they are valid
 --   asked command                a command as the program holds it
 --   task_of asked                what a command is apart from its arguments
---   bad_arguments_answer         the answer to invalid arguments
 --   AnswerOf asked files answer  the answer of a command, or to invalid arguments, where the files are these
 --   most_reads asked             how many files it reads at most
 --   StatusFits status asked      the statuses that a run of it may end with
@@ -15,8 +14,7 @@ use Rattle.std.specs.Option.{option_map}
 use Rattle.std.specs.Prelude.{ℕ, List, [], ◌∷◌, if◌then◌else◌, Option, Some, None, codes, ◌≡◌, ⊤}
 use Rattle.std.specs.Str.{bytes_eq}
 use Rattle.host.specs.State.{Files, State}
-use Rattle.command_run.specs.Answers.{Answer, Task, MayEnd}
-use Rattle.command_run.specs.Lines.{bad_arguments_line}
+use Rattle.command_run.specs.Answers.{Answer, Task, MayEnd, bad_arguments_answer, file_limit}
 use Rattle.command_run.specs.Outcome.{Run}
 use Rattle.command_run.specs.Words.{Names, are_names}
 use Rattle.command_run.specs.declared.status.Status.{Status}
@@ -66,14 +64,10 @@ abbrev pub task_of : Asked → Task
 task_of (finish names options) = finish_task names options
 task_of (inspect name) = inspect_task name
 
--- invalid arguments: nothing is read or written
-abbrev pub bad_arguments_answer : Answer
-bad_arguments_answer = record { status = BadArguments; reads = 0; writes = []; line = bad_arguments_line }
-
 -- the answer of a command, or to invalid arguments, where the files are these
 abbrev pub AnswerOf : Option Asked → Files → Answer → Type 0
 AnswerOf None files answer = answer ≡ bad_arguments_answer
-AnswerOf (Some asked) files answer = (task_of asked).Answers files answer
+AnswerOf (Some asked) files answer = (task_of asked).Answers file_limit files answer
 
 -- how many files a command reads at most
 abbrev pub most_reads : Option Asked → ℕ

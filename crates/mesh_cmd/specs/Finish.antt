@@ -24,7 +24,6 @@ use Rattle.mesh_finish.specs.declared.options.Step.TheVariants.{Pairing, Pieces,
 use Rattle.command_run.specs.Answers.{Answer, Task, mesh_task, invalid}
 use Rattle.command_run.specs.Lines.{labelled, text_line}
 use Rattle.command_run.specs.Words.{Names}
-use Rattle.command_run.specs.declared.meshes.TheConstants.{FILE_LIMIT}
 use Rattle.command_run.specs.declared.status.Status.TheVariants.{Done}
 use Rattle.mesh_cmd.specs.declared.commands.finish.FinishWords.{FinishWords}
 
@@ -96,4 +95,4 @@ FinishAnswer output options mesh answer = WritesFinished output options mesh ans
 
 -- it reads the mesh, and writes a finished one if the mesh is valid
 abbrev pub finish_task : Names → FinishOptions → Task
-finish_task names options = mesh_task ⊥ FILE_LIMIT names.input (FinishAnswer names.output options)
+finish_task names options = mesh_task ⊥ names.input (FinishAnswer names.output options)

@@ -19,7 +19,6 @@ use Rattle.mesh_measures.specs.Volumes.{six_volume}
 use Rattle.mesh_measures.specs.declared.topology.Topology.{Topology}
 use Rattle.command_run.specs.Answers.{Answer, Task, mesh_task}
 use Rattle.command_run.specs.Lines.{labelled}
-use Rattle.command_run.specs.declared.meshes.TheConstants.{FILE_LIMIT}
 use Rattle.command_run.specs.declared.status.Status.TheVariants.{Done}
 use Rattle.mesh_cmd.specs.declared.commands.inspect.Measures.{Measures}
 
@@ -73,4 +72,4 @@ pub record IsInspection (mesh : Surface) (answer : Answer) : Type 0 where
 
 -- it reads the mesh, and says its measures if the mesh is valid
 abbrev pub inspect_task : List ℕ → Task
-inspect_task name = mesh_task ⊥ FILE_LIMIT name IsInspection
+inspect_task name = mesh_task ⊥ name IsInspection

@@ -1,6 +1,7 @@
 //! The commands: the arguments that ask for each, and the making of its answer.
 ghost use Rattle.std.specs.Option.{option_map};
 ghost use Rattle.std.specs.Prelude.{◌≡◌, false, map, string_bytes, IfOk};
+ghost use Rattle.command_run.specs.Answers.{file_limit};
 ghost use Rattle.command_run.specs.Steps.{IsReplied, ReadsFor, CountsFaults};
 ghost use Rattle.mesh_cmd.specs.Commands.{command_of, asked, task_of};
 
@@ -49,8 +50,8 @@ pub fn reply_to<'a, H: Host>(
     command: &Command<'a>,
 ) -> Result<Reply<'a>, Stop>
     requires { (H.state host.old).writing ≡ false }
-    ensures replied { IfOk result (λ reply. IsReplied (task_of (asked command.now)) reply (H.state host.old)) }
-    ensures reads { ReadsFor (task_of (asked command.now)) (H.state host.old) (H.state host.new) }
+    ensures replied { IfOk result (λ reply. IsReplied file_limit (task_of (asked command.now)) reply (H.state host.old)) }
+    ensures reads { ReadsFor file_limit (task_of (asked command.now)) (H.state host.old) (H.state host.new) }
     ensures cause { CountsFaults result (H.state host.old).faults (H.state host.new).faults }
 {
     match command {

@@ -5,18 +5,18 @@ use Rattle.host.specs.State.{State}
 use Rattle.mesh_form.specs.Received.{Received}
 use Rattle.mesh_ply.specs.Meshes.{Surface}
 use Rattle.scan.specs.Shown.{Shown}
+use Rattle.command_run.specs.Status.{code_of}
+use Rattle.command_run.specs.Steps.{CarriesOut}
+use Rattle.command_run.specs.declared.status.Status.{Status}
+use Rattle.command_run.specs.declared.status.Status.TheVariants.{Done, No, BadArguments, Refused, Failed, NoMemory}
 use Rattle.recon_cmd.specs.Export.{FormsHandOut}
-use Rattle.recon_cmd.specs.Status.{code_of}
-use Rattle.recon_cmd.specs.Steps.{CarriesOut}
 use Rattle.recon_cmd.specs.Sweep.{SweepAsked, SweepHandOut, sweep_line}
-use Rattle.recon_cmd.specs.declared.status.Status.{Status}
-use Rattle.recon_cmd.specs.declared.status.Status.TheVariants.{Done, No, BadWords, Refused, Failed, NoMemory}
 
 -- the code of a status is that of a refusal
 pub refused_by_code : (status : Status) → code_of status ≡ code_of Refused → status ≡ Refused
 refused_by_code Done e = absurd (omega (arith, e))
 refused_by_code No e = absurd (omega (arith, e))
-refused_by_code BadWords e = absurd (omega (arith, e))
+refused_by_code BadArguments e = absurd (omega (arith, e))
 refused_by_code Refused e = refl
 refused_by_code Failed e = absurd (omega (arith, e))
 refused_by_code NoMemory e = absurd (omega (arith, e))

@@ -2,7 +2,7 @@
 --
 -- A file is one scan, weights are one settings, and a scan has one best surface at its settings, which is that of a fresh build. Forms
 -- that have received all of one mesh have received the same.
-use Rattle.std.proofs.Common.{◌≡◌, inl, inr, ℕ, ◌-◌, ◌≤◌, List, length, get_or, Some, Ok, sym, ap, subst, ◌∙◌, arith}
+use Rattle.std.proofs.Common.{◌≡◌, ℕ, ◌-◌, List, length, get_or, Some, Ok, sym, ap, subst, ◌∙◌, arith}
 use Rattle.std.specs.List.{zip}
 use Rattle.std.proofs.lemmas.List.{same_lists}
 use Rattle.flow_net.specs.declared.votes.Settings.{Settings}
@@ -14,15 +14,17 @@ use Rattle.solution.specs.Scans.{points_of}
 use Rattle.sweep.proofs.FreshBuilds.{fresh_build_law, one_cost, one_surface}
 use Rattle.sweep.specs.Entries.{AreWeights, CostsAt, CostsLeast, Given, HasEntry, HaveEntries, IsSurfaceAt, IsSurfaceOf, given_by}
 use Rattle.sweep.specs.Entries.{given_scene, smoothing_of}
-use Rattle.recon_cmd.specs.Answers.{Answer, ScanAnswer, file_limit, read_as, ToScan}
+use Rattle.command_run.specs.Answers.{Answer, file_limit}
+use Rattle.command_run.specs.declared.status.Status.TheVariants.{Done}
+use Rattle.recon_cmd.specs.Answers.{scan_within}
 use Rattle.recon_cmd.specs.Build.{WritesSurface}
 use Rattle.recon_cmd.specs.Laws.{texts_by}
 use Rattle.recon_cmd.specs.SweepLaws.{AreBuilt, Builds, EntriesAreBuilt, HasBuiltCost, HasBuiltMesh, SweepAnswerIsOne, entry_options}
 use Rattle.recon_cmd.specs.Sweep.{SweepAsked, WritesSweep, sweep_line}
 use Rattle.recon_cmd.specs.Words.{SurfaceNames}
-use Rattle.recon_cmd.specs.declared.status.Status.TheVariants.{Done}
-use Rattle.recon_cmd.proofs.Completeness.{not_unread, unread_not_done, why_unread}
-use Rattle.recon_cmd.proofs.OneAnswer.{same_settings, unread_one}
+use Rattle.recon_cmd.proofs.Completeness.{scan_opened}
+use Rattle.recon_cmd.proofs.FileAnswers.{file_cases, file_one}
+use Rattle.recon_cmd.proofs.OneAnswer.{same_settings}
 use Rattle.recon_cmd.proofs.OneMeshAnswer.{all_of, has_all}
 
 -- ---- one surface and one cost at weights
@@ -77,27 +79,11 @@ written_one asked makes forms others scan answer other size a b =
       line = sweep_line (length asked.outputs) first last;
     }
 
-answers_one : (asked : SweepAsked) (makes : List (Received → List ℕ)) (forms others : List Received) (bytes : List ℕ)
-    (answer other : Answer) → length forms ≡ length others
-    → ScanAnswer file_limit asked.options (λ _. WritesSweep asked forms (texts_by makes forms)) bytes answer
-    → ScanAnswer file_limit asked.options (λ _. WritesSweep asked others (texts_by makes others)) bytes other → answer ≡ other
-answers_one asked makes forms others bytes answer other size (inl a) (inl b) =
-    unread_one asked.options bytes answer other a b
-answers_one asked makes forms others bytes answer other size (inl a) (inr b) =
-    absurd (not_unread asked.options bytes b.scan b.within b.read (why_unread asked.options bytes answer a))
-answers_one asked makes forms others bytes answer other size (inr a) (inl b) =
-    absurd (not_unread asked.options bytes a.scan a.within a.read (why_unread asked.options bytes other b))
-answers_one asked makes forms others bytes answer other size (inr a) (inr b) =
-    let scan : b.scan ≡ a.scan = cc (a.read, b.read) in
-    written_one asked makes forms others a.scan answer other size a.answers
-    (subst (λ (s : Shown). WritesSweep asked others (texts_by makes others) s other) scan b.answers)
-
 pub sweep_answer_is_one : SweepAnswerIsOne
-sweep_answer_is_one = λ asked makes forms others files answer other size (bytes, has, a) (found, there, b).
-    (let same : found ≡ bytes = cc (has, there) in
-    answers_one asked makes forms others bytes answer other size a
-    (subst (λ (l : List ℕ). ScanAnswer file_limit asked.options (λ _. WritesSweep asked others (texts_by makes others)) l other)
-    same b))
+sweep_answer_is_one = λ asked makes forms others files answer other size.
+    file_one 1 asked.input (scan_within file_limit asked.options) (λ _. WritesSweep asked forms (texts_by makes forms))
+    (λ _. WritesSweep asked others (texts_by makes others)) (λ x y. x ≡ y) files answer other (λ e. e)
+    (λ bytes scan. written_one asked makes forms others scan answer other size)
 
 -- ---- what `build` writes
 module _ (asked : SweepAsked) (names : SurfaceNames) (scan : Shown) (bytes : List ℕ) (built : Answer) (k : ℕ)
@@ -137,53 +123,36 @@ module _ (asked : SweepAsked) (names : SurfaceNames) (scan : Shown) (bytes : Lis
 
 -- to the scan of these bytes `build` writes
 writes_of : (asked : SweepAsked) (k : ℕ) (names : SurfaceNames) (files : Files) (built : Answer) (bytes : List ℕ)
-    (scan : Shown) → files asked.input ≡ Some bytes
-    → length bytes ≤ file_limit → read_as asked.options bytes ≡ Ok scan → Builds asked k names files built
-    → WritesSurface names (entry_options asked k) bytes scan built
-writes_of asked k names files built bytes scan has within read builds = by_answer builds.answers
-  where
-    by_scan : ScanAnswer file_limit (entry_options asked k) (WritesSurface names (entry_options asked k)) bytes built
-        → WritesSurface names (entry_options asked k) bytes scan built
-    by_scan (inl unread) =
-        absurd (not_unread (entry_options asked k) bytes scan within read
-        (why_unread (entry_options asked k) bytes built unread))
-    by_scan (inr answered) =
-        let same : answered.scan ≡ scan = cc (answered.read, read) in
-        subst (λ (s : Shown). WritesSurface names (entry_options asked k) bytes s built) same answered.answers
-
-    by_answer : ToScan file_limit names.input (entry_options asked k) (WritesSurface names (entry_options asked k)) files built
-        → WritesSurface names (entry_options asked k) bytes scan built
-    by_answer (found, there, answers) =
-        let same : found ≡ bytes = cc (there, has, ap files builds.input) in
-        by_scan (subst (λ (l : List ℕ).
-        ScanAnswer file_limit (entry_options asked k) (WritesSurface names (entry_options asked k)) l built) same answers)
+    (scan : Shown) → files asked.input ≡ Some bytes → scan_within file_limit asked.options bytes ≡ Ok scan
+    → Builds asked k names files built → WritesSurface names (entry_options asked k) bytes scan built
+writes_of asked k names files built bytes scan has so builds =
+    scan_opened names.input (entry_options asked k) (WritesSurface names (entry_options asked k)) files bytes scan built
+    (ap files builds.input ∙ has) so builds.answers
 
 pub entries_are_built : EntriesAreBuilt
-entries_are_built = λ asked forms texts files answer (bytes, has, answers) done.
-    by_answer asked forms texts files answer bytes has done answers
+entries_are_built = λ asked forms texts files answer answers done.
+    file_cases 1 asked.input (scan_within file_limit asked.options) (λ _. WritesSweep asked forms texts) files answer
+    (AreBuilt asked forms files answer)
+    (λ bytes line has so is. absurd (cc (done, ap (λ (a : Answer). a.status) is)))
+    (by_answer asked forms texts files answer) answers
   where
     by_answer : (asked : SweepAsked) (forms : List Received) (texts : List (List ℕ)) (files : Files) (answer : Answer)
-        (bytes : List ℕ) → files asked.input ≡ Some bytes → answer.status ≡ Done
-        → ScanAnswer file_limit asked.options (λ _. WritesSweep asked forms texts) bytes answer → AreBuilt asked forms files answer
-    by_answer asked forms texts files answer bytes has done (inl unread) =
-        absurd (unread_not_done asked.options bytes answer done unread)
-    by_answer asked forms texts files answer bytes has done (inr a) =
+        (bytes : List ℕ) (scan : Shown) → files asked.input ≡ Some bytes → scan_within file_limit asked.options bytes ≡ Ok scan
+        → WritesSweep asked forms texts scan answer → AreBuilt asked forms files answer
+    by_answer asked forms texts files answer bytes scan has so a =
         record {
           each =
-              λ k d names built l builds. built_mesh asked names a.scan bytes built k
-              (writes_of asked k names files built bytes a.scan has a.within a.read builds)
-              (get_or forms k d) (a.answers.entries.each k d l);
-          first = a.answers.first;
-          last = a.answers.last;
-          line_is = ap (λ (x : Answer). x.line) a.answers.is;
+              λ k d names built l builds. built_mesh asked names scan bytes built k
+              (writes_of asked k names files built bytes scan has so builds) (get_or forms k d) (a.entries.each k d l);
+          first = a.first;
+          last = a.last;
+          line_is = ap (λ (x : Answer). x.line) a.is;
           first_is =
-              λ names built builds. built_cost asked names a.scan bytes built 0
-              (writes_of asked 0 names files built bytes a.scan has a.within a.read builds) a.answers.first
-              (at_first asked a.scan a.answers.first a.answers.entries.first_is);
+              λ names built builds. built_cost asked names scan bytes built 0
+              (writes_of asked 0 names files built bytes scan has so builds) a.first (at_first asked scan a.first a.entries.first_is);
           last_is =
-              λ names built builds. built_cost asked names a.scan bytes built (length asked.outputs - 1)
-              (writes_of asked (length asked.outputs - 1) names files built bytes a.scan has a.within a.read builds)
-              a.answers.last a.answers.entries.last_is;
+              λ names built builds. built_cost asked names scan bytes built (length asked.outputs - 1)
+              (writes_of asked (length asked.outputs - 1) names files built bytes scan has so builds) a.last a.entries.last_is;
         }
       where
         at_first : (asked : SweepAsked) (scan : Shown) (n : ℕ)

@@ -3,10 +3,12 @@
 -- A run reads one file, and then hands the surfaces of the scan to the forms (swept). They hold the meshes of their entries and
 -- the texts are carried out (handed), or a call fails on that way, or memory ends before all of them are handed out, and the
 -- forms hold fronts. What is true of files, faults and what was said comes from the lemmas for any run (starved_by, obeyed_by).
--- Where a call failed, there was no memory for the scan, or it is refused, the forms are as they were, which needs no lemma.
-use Rattle.std.proofs.Common.{◌≡◌, inl, inr, ℕ, ◌+◌, ◌≤◌, ◌-◌, List, length, Option, Some, None, IfSome, Ok, false, refl, sym, ap}
-use Rattle.std.proofs.Common.{subst, ◌∙◌, arith, map, string_bytes}
+-- If the scan is rejected, its line is printed (none_swept). If a call failed, or there was no memory for the scan, the forms are
+-- unchanged, which needs no lemma.
+use Rattle.std.proofs.Common.{◌≡◌, inl, inr, ℕ, ◌-◌, List, [], length, Option, Some, IfSome, Ok, Err, false, refl, sym, ap}
+use Rattle.std.proofs.Common.{subst, ◌∙◌, map, string_bytes}
 use Rattle.std.proofs.lemmas.List.{length-map}
+use Rattle.std.proofs.lemmas.Option.{IfSome_then}
 use Rattle.std.specs.List.{zip}
 use Rattle.host.specs.State.{State, Told, Files}
 use Rattle.host.specs.Whole.{OnlyReads}
@@ -16,51 +18,46 @@ use Rattle.scan.specs.Views.{shown_of}
 use Rattle.scan.specs.declared.scan.Scan.{Scan}
 use Rattle.sweep.proofs.Handings.{fronts_of_entries}
 use Rattle.sweep.specs.Entries.{CostsAt, HaveEntries, given_by, smoothing_of}
-use Rattle.recon_cmd.specs.Answers.{Answer, read_as, MayRefuse}
-use Rattle.recon_cmd.specs.Steps.{Bytes, CarriesOut, IsReading, ReadsBy}
+use Rattle.command_run.specs.Answers.{Answer, invalid}
+use Rattle.command_run.specs.Replies.{line_bytes}
+use Rattle.command_run.specs.Steps.{CarriesOut, ReadsBy}
+use Rattle.command_run.specs.declared.reply.Line.{Line}
+use Rattle.command_run.specs.declared.status.Status.{Status}
+use Rattle.command_run.specs.declared.status.Status.TheVariants.{Done, Refused}
+use Rattle.command_run.proofs.Outcomes.{obeyed_by, starved_by}
+use Rattle.recon_cmd.specs.Answers.{scan_within, MayRefuse}
+use Rattle.recon_cmd.specs.Steps.{Bytes, IsReading}
 use Rattle.recon_cmd.specs.Sweep.{IsFileOfScan, SweepAnswer, SweepAsked, SweepFormsAfter, SweepHandOut, SweepOutcome, WritesSweep}
 use Rattle.recon_cmd.specs.Sweep.{sweep_asked, sweep_line}
 use Rattle.recon_cmd.specs.declared.commands.sweeping.SweepWords.{SweepWords}
+use Rattle.recon_cmd.proofs.FileAnswers.{file_cases, opened, scan_found}
+use Rattle.recon_cmd.proofs.FileReplies.{reads_all, reads_last}
 use Rattle.recon_cmd.specs.declared.whole_run.reading.Reading.TheVariants as readings
-use Rattle.recon_cmd.specs.declared.status.Status.{Status}
-use Rattle.recon_cmd.specs.declared.status.Status.TheVariants.{Done}
-use Rattle.recon_cmd.proofs.Outcomes.{obeyed_by, starved_by}
+
+-- the writers' texts are the answer to the scan
+abbrev To : SweepAsked → (forms : List Received) → (texts : List (List ℕ)) → List ℕ → Shown → Answer → Type 0
+To asked forms texts = λ _. WritesSweep asked forms texts
 
 -- each answer reads one file
 answer_reads : (limit : ℕ) (asked : SweepAsked) (forms : List Received) (texts : List (List ℕ)) (files : Files) (answer : Answer)
     → SweepAnswer limit asked forms texts files answer → answer.reads ≡ 1
-answer_reads limit asked forms texts files answer (bytes, there, inl (inl long)) = ap (λ (a : Answer). a.reads) long.is
-answer_reads limit asked forms texts files answer (bytes, there, inl (inr refused)) = ap (λ (a : Answer). a.reads) refused.is
-answer_reads limit asked forms texts files answer (bytes, there, inr answered) = ap (λ (a : Answer). a.reads) answered.answers.is
+answer_reads limit asked forms texts files answer =
+    file_cases 1 asked.input (scan_within limit asked.options) (To asked forms texts) files answer (answer.reads ≡ 1)
+    (λ bytes line has so is. ap (λ (a : Answer). a.reads) is) (λ bytes scan has so writes. ap (λ (a : Answer). a.reads) writes.is)
 
 sweep_reads : (limit : ℕ) (asked : SweepAsked) (forms : List Received) (texts : List (List ℕ)) (before after : State)
     → before.writing ≡ false → OnlyReads before after → ReadsBy 1 (SweepAnswer limit asked forms texts) before after
 sweep_reads limit asked forms texts before after closed only =
-    record {
-      told = only.told;
-      writing = only.writing ∙ closed;
-      opens = omega (arith, only.opens);
-      no_more = by_cases before.told;
-    }
-  where
-    by_cases : (o : Option Told)
-        → IfSome o
-        (λ told. (answer : Answer) → SweepAnswer limit asked forms texts told.files answer
-        → after.opens ≤ before.opens + answer.reads)
-    by_cases None = tt
-    by_cases (Some told) = λ answer is. omega (arith, only.opens, answer_reads limit asked forms texts told.files answer is)
+    reads_all 1 (SweepAnswer limit asked forms texts) before after
+    (reads_last 0 (SweepAnswer limit asked forms texts) before after (answer_reads limit asked forms texts) closed only)
 
 -- the file is a text of the scan
 file_of : (limit : ℕ) (asked : SweepAsked) (scan : Scan) (held : Bytes) (before : State)
     → IfSome before.told (IsReading limit asked.input asked.options (readings.Scan scan held))
     → IsFileOfScan asked.input asked.options (shown_of scan) before
-file_of limit asked scan held before read = by_cases before.told read
-  where
-    by_cases : (o : Option Told) → IfSome o (IsReading limit asked.input asked.options (readings.Scan scan held))
-        → IfSome o
-        (λ told. (bytes : List ℕ) × (told.files asked.input ≡ Some bytes) × (read_as asked.options bytes ≡ Ok (shown_of scan)))
-    by_cases None read = tt
-    by_cases (Some told) (bytes, there, (same, within, is)) = (bytes, there, is)
+file_of limit asked scan held before read =
+    IfSome_then before.told read
+    (λ told is. (held.items, is.0, (scan_found limit asked.options held.items (shown_of scan) is.1).1))
 
 -- the scan is there, and is answered so
 answered_scan : (limit : ℕ) (asked : SweepAsked) (forms : List Received) (texts : List (List ℕ)) (scan : Scan) (held : Bytes)
@@ -70,9 +67,13 @@ answered_scan : (limit : ℕ) (asked : SweepAsked) (forms : List Received) (text
     (λ told. (reads : ℕ)
     × SweepAnswer limit asked forms texts told.files
     (record { status = answer.status; reads = reads; writes = answer.writes; line = answer.line }))
-answered_scan limit asked forms texts scan held answer None answers one read = tt
-answered_scan limit asked forms texts scan held answer (Some told) answers one (bytes, there, (same, within, is)) =
-    (answer.reads, (bytes, there, inr (record { within = within; scan = shown_of scan; read = is; answers = answers })))
+answered_scan limit asked forms texts scan held answer o answers one read =
+    IfSome_then o read
+    (λ told is. (
+      answer.reads,
+      (opened 1 asked.input (scan_within limit asked.options) (To asked forms texts) told.files held.items (Ok (shown_of scan)) answer
+          is.0 is.1).1 answers,
+    ))
 
 -- ---- forms
 -- the forms have received the meshes of their entries, and their texts are carried out
@@ -114,6 +115,30 @@ as_long kind received old new same =
     length-map new received ∙ (sym (length-map new kind) ∙ (ap length same ∙ length-map old kind))
 
 -- ---- outcomes
+
+-- the file is rejected, and the forms are unchanged
+pub none_swept : (limit : ℕ) (asked : SweepAsked) (line : Line) (result : Status) (before mid after : State)
+    (old new : List Received) (texts : List (List ℕ)) → before.writing ≡ false → OnlyReads before mid
+    → mid.faults ≡ before.faults → IfSome before.told (IsReading limit asked.input asked.options (readings.Refused line))
+    → new ≡ old → CarriesOut [] (line_bytes line) Refused result mid after
+    → SweepOutcome limit asked result before after old new texts
+none_swept limit asked line result before mid after old new texts closed only same read unchanged carried =
+    record {
+      run =
+          obeyed_by MayRefuse 1 (SweepAnswer limit asked new texts) Refused [] (line_bytes line) result before mid after tt tt tt
+          (IfSome_then before.told read
+          (λ told (bytes, has, so). (
+            1,
+            (opened 1 asked.input (scan_within limit asked.options) (To asked new texts) told.files bytes
+                (Err (Some (line_bytes line))) (invalid 1 (line_bytes line)) has so).1 refl,
+          )))
+          (sweep_reads limit asked new texts before mid closed only) same carried;
+      forms = by carried;
+    }
+  where
+    by : CarriesOut [] (line_bytes line) Refused result mid after → SweepFormsAfter asked result before old new
+    by (inl (is, whole)) = subst (λ (s : Status). SweepFormsAfter asked s before old new) (sym is) unchanged
+    by (inr (is, stopped)) = subst (λ (s : Status). SweepFormsAfter asked s before old new) (sym is) (inl unchanged)
 
 -- the scan was read, and its surfaces handed to the forms
 pub swept : (limit : ℕ) (asked : SweepAsked) (scan : Scan) (held : Bytes) (result : Status) (before mid after : State)

@@ -7,17 +7,15 @@
 --   ask_line points asked inside     the line
 --   label_line label                 a label, as a line
 --   labels_text labels               the text of labels
---   PointsRefused limit options ..   the file of the query points is not a list of points
+--   points_within limit options ..   the points in the bytes of a file, or the line that rejects these bytes
 --   ask_done output points labels    the answer that writes labels
 --   WritesLabels output options ..   the labels of the points are written
---   PointsAnswered limit output ..   the file is a list of points, whose labels are written
---   IsAsked limit output ..          one of the two
 --   AskAnswer limit names ..         the answer to a scan
 --   ask_task names options           the command
 --   IsAskReply limit names ..        the reply may end a run of `ask`, and is one of its answers to a scan
 use Rattle.std.specs.List.{flat_map}
-use Rattle.std.specs.Prelude.{ℕ, List, codes, Option, Some, None, [], ◌∷◌, ◌++◌, Bool, if◌then◌else◌, length, decimal, ◌≡◌, ◌≤◌, Err, ⊤}
-use Rattle.std.specs.Prelude.{count_by, Ok, ◌⊎◌}
+use Rattle.std.specs.Prelude.{ℕ, List, codes, Option, Some, None, [], ◌∷◌, ◌++◌, Bool, if◌then◌else◌, length, decimal, ◌≡◌, ⊤}
+use Rattle.std.specs.Prelude.{count_by, Result}
 use Rattle.flow_net.specs.declared.votes.Settings.{Settings}
 use Rattle.geo_sign.specs.Point.{Point}
 use Rattle.host.specs.State.{Files, State}
@@ -26,14 +24,14 @@ use Rattle.solid_query.specs.Labels.{AreLabels}
 use Rattle.solid_query.specs.Queries.{points_in}
 use Rattle.solid_query.specs.declared.refusal.QueryRefusal.{QueryRefusal}
 use Rattle.solution.specs.Scans.{points_of}
-use Rattle.recon_cmd.specs.Answers.{Answer, refusal, FileTooLong, Task, ToScan}
-use Rattle.recon_cmd.specs.Lines.{labelled}
+use Rattle.command_run.specs.Answers.{Answer, Task}
+use Rattle.command_run.specs.Lines.{labelled, number_line}
+use Rattle.command_run.specs.Steps.{IsReplyOf}
+use Rattle.command_run.specs.declared.reply.Reply.{Reply}
+use Rattle.command_run.specs.declared.status.Status.TheVariants.{Done}
+use Rattle.recon_cmd.specs.Answers.{ToFile, ToScan, or_line, up_to}
 use Rattle.recon_cmd.specs.Options.{Options}
-use Rattle.recon_cmd.specs.Refusals.{number_line}
-use Rattle.recon_cmd.specs.Steps.{IsReplyOf}
 use Rattle.recon_cmd.specs.declared.commands.ask.AskNames.{AskNames}
-use Rattle.recon_cmd.specs.declared.reply.Reply.{Reply}
-use Rattle.recon_cmd.specs.declared.status.Status.TheVariants.{Done}
 use Rattle.solid_query.specs.declared.refusal.QueryRefusal.TheVariants as queries
 
 -- the names of `ask IN POINTS OUT`
@@ -71,14 +69,9 @@ label_line label = if label then codes "inside\n" else codes "outside\n"
 unfoldable pub labels_text : List Bool → List ℕ
 labels_text labels = codes "answers " ++ (decimal (length labels) ++ (10 ∷ flat_map label_line labels))
 
--- the bytes are not a list of points, and the first error is printed
-pub record PointsRefused (limit : ℕ) (options : Options) (bytes : List ℕ) (answer : Answer) : Type 0 where
-  pub within : length bytes ≤ limit
-  pub why : QueryRefusal
-  pub refused : points_in bytes options.unit ≡ Err why
-  pub line : List ℕ
-  pub line_is : query_refusal_line why ≡ Some line
-  pub is : answer ≡ refusal 2 line
+-- the points in the bytes of a file, at the scale of these options, or the line that rejects these bytes
+abbrev pub points_within : (limit : ℕ) → Options → List ℕ → Result (List Point) (Option (List ℕ))
+points_within limit options = up_to limit too_long_points_line (λ bytes. or_line query_refusal_line (points_in bytes options.unit))
 
 -- the answer that writes labels, and prints the numbers of points of the scan, of labels, and of those that are inside
 abbrev pub ask_done : (output : List ℕ) → (points : ℕ) → (labels : List Bool) → Answer
@@ -99,25 +92,10 @@ pub record WritesLabels (output : List ℕ) (options : Options) (scan : Shown) (
   pub labelled : AreLabels scan settings points labels
   pub is : answer ≡ ask_done output (length (points_of scan)) labels
 
--- the bytes are a list of points at the scale of these options, whose labels are written
-pub record PointsAnswered (limit : ℕ) (output : List ℕ) (options : Options) (scan : Shown) (bytes : List ℕ)
-    (answer : Answer) : Type 0 where
-  pub within : length bytes ≤ limit
-  pub points : List Point
-  pub read : points_in bytes options.unit ≡ Ok points
-  pub answers : WritesLabels output options scan points answer
-
--- the bytes of the points' file are rejected, or are points whose labels are written
-abbrev pub IsAsked : (limit : ℕ) → (output : List ℕ) → Options → Shown → (bytes : List ℕ) → Answer → Type 0
-IsAsked limit output options scan bytes answer =
-    PointsRefused limit options bytes answer ⊎ PointsAnswered limit output options scan bytes answer
-
--- the file of the points is too long, or decides
-pub record AskAnswer (limit : ℕ) (names : QueryNames) (options : Options) (files : Files) (scan : Shown)
-    (answer : Answer) : Type 0 where
-  pub bytes : List ℕ
-  pub there : files names.points ≡ Some bytes
-  pub answers : FileTooLong limit 2 too_long_points_line bytes answer ⊎ IsAsked limit names.output options scan bytes answer
+-- the file of the points is rejected, or the labels of its points are written
+abbrev pub AskAnswer : (limit : ℕ) → QueryNames → Options → Files → Shown → Answer → Type 0
+AskAnswer limit names options files scan =
+    ToFile 2 names.points (points_within limit options) (λ _. WritesLabels names.output options scan) files
 
 -- it reads the scan, then the points if the scan is not rejected, and writes their labels or rejects one of the two
 abbrev pub ask_task : QueryNames → Options → Task

@@ -14,13 +14,14 @@ use Rattle.mesh_ply.specs.Texts.{mesh_text, IsPrinted}
 use Rattle.scan.specs.Shown.{Shown}
 use Rattle.solution.specs.Solutions.{IsSolution}
 use Rattle.surface.specs.Closed.{IsClosed}
-use Rattle.recon_cmd.specs.Answers.{Answer, Task, ToScan}
-use Rattle.recon_cmd.specs.Lines.{labelled}
+use Rattle.command_run.specs.Answers.{Answer, Task}
+use Rattle.command_run.specs.Lines.{labelled}
+use Rattle.command_run.specs.declared.status.Status.TheVariants.{Done}
+use Rattle.recon_cmd.specs.Answers.{ToScan}
 use Rattle.recon_cmd.specs.Options.{Options}
 use Rattle.recon_cmd.specs.Stamps.{stamp_for}
 use Rattle.recon_cmd.specs.Words.{SurfaceNames}
 use Rattle.recon_cmd.specs.declared.commands.build.BuildNames.{BuildNames}
-use Rattle.recon_cmd.specs.declared.status.Status.TheVariants.{Done}
 
 -- the names of `build` that the program holds
 abbrev pub build_names : BuildNames → SurfaceNames

@@ -13,12 +13,13 @@ use Rattle.geo_sign.specs.Cells.{IsCellList}
 use Rattle.geo_sign.specs.Vertices.{boxed_vertices}
 use Rattle.scan.specs.Shown.{Shown}
 use Rattle.solution.specs.Scans.{points_of}
-use Rattle.recon_cmd.specs.Answers.{Answer, Task, ToScan}
-use Rattle.recon_cmd.specs.Words.{Names}
+use Rattle.command_run.specs.Answers.{Answer, Task}
+use Rattle.command_run.specs.Words.{Names}
+use Rattle.command_run.specs.declared.status.Status.TheVariants.{Done}
+use Rattle.recon_cmd.specs.Answers.{ToScan}
 use Rattle.recon_cmd.specs.declared.commands.cells.CellsNames.{CellsNames}
 use Rattle.recon_cmd.specs.declared.options.keys.Key.{Key}
 use Rattle.recon_cmd.specs.declared.options.keys.Key.TheVariants.{Unit as unit_key, Scanner as scanner_key}
-use Rattle.recon_cmd.specs.declared.status.Status.TheVariants.{Done}
 use Rattle.recon_cmd.specs.Options.{Options}
 
 -- the options that determine the points of a scan

@@ -20,6 +20,7 @@
 --   restamped stamp claim              a certificate with this fingerprint
 --   IsConcluded output ..              the effect of a verdict: it is printed, or a certificate is written
 --   HasVerdict output options ..       the verdict on a mesh and a certificate, and its effect
+--   whole_within limit line ..         all bytes of a file, or this line if they are too many
 --   CertAnswer, MeshAnswer limit ..    the answer to the bytes of a certificate, and to those of a mesh
 --   CheckAnswer limit names ..         the answer to a scan
 --   check_task names output options    the command: `upgrade` if there is a file to write, and `check` if there is none
@@ -28,7 +29,7 @@
 --   CertAnswerFor, MeshAnswerFor       the answers to the bytes of a certificate, and to those of a mesh, for a request
 use Rattle.std.specs.Fmt.{signed_decimal}
 use Rattle.std.specs.Option.{option_map}
-use Rattle.std.specs.Prelude.{ℕ, List, Option, codes, [], ◌∷◌, ◌++◌, Some, None, ◌≡◌, ◌⊎◌, ◌≤◌, length, ⊤}
+use Rattle.std.specs.Prelude.{ℕ, List, Option, Result, Ok, codes, [], ◌∷◌, ◌++◌, Some, None, ◌≡◌, ⊤}
 use Rattle.cert_text.specs.Certificates.{Claim, stamp_view}
 use Rattle.cert_text.specs.Stamps.{StampView}
 use Rattle.cert_text.specs.Texts.{cert_text}
@@ -48,18 +49,18 @@ use Rattle.recon_check.specs.declared.answer.Which.TheVariants.{Points, Scanners
 use Rattle.scan.specs.PlainForm.{spaced}
 use Rattle.scan.specs.Shown.{Shown}
 use Rattle.scan.specs.Views.{shown_of}
-use Rattle.recon_cmd.specs.Answers.{Answer, FileTooLong, Task, ToScan}
-use Rattle.recon_cmd.specs.Lines.{labelled, too_long_mesh_line}
+use Rattle.command_run.specs.Answers.{Answer, Task}
+use Rattle.command_run.specs.Lines.{labelled, too_long_mesh_line, text_line, number_line}
+use Rattle.command_run.specs.declared.status.Status.{Status}
+use Rattle.command_run.specs.declared.status.Status.TheVariants.{Done, No}
+use Rattle.recon_cmd.specs.Answers.{ToFile, ToScan, up_to}
 use Rattle.recon_cmd.specs.OptionViews.{options_view}
 use Rattle.recon_cmd.specs.Options.{Options}
-use Rattle.recon_cmd.specs.Refusals.{text_line, number_line}
 use Rattle.recon_cmd.specs.Stamps.{stamp_for}
 use Rattle.recon_cmd.specs.Words.{SurfaceNames}
 use Rattle.recon_cmd.specs.declared.commands.check.CheckAsked.{CheckAsked}
 use Rattle.recon_cmd.specs.declared.commands.check.CheckNames.{CheckNames}
 use Rattle.recon_cmd.specs.declared.commands.check.StampedScan.{StampedScan}
-use Rattle.recon_cmd.specs.declared.status.Status.{Status}
-use Rattle.recon_cmd.specs.declared.status.Status.TheVariants.{Done, No}
 use Rattle.recon_check.specs.declared.answer.Answer.TheVariants as verdicts
 
 -- the first three names of `check` and `upgrade` that the program holds
@@ -177,20 +178,18 @@ pub record HasVerdict (output : Option (List ℕ)) (options : Options) (stamp : 
   pub holds : IsAnswer scan settings stamp mesh cert verdict
   pub is : IsConcluded output stamp cert verdict answer
 
+-- all bytes of a file, or this line if they are too many
+abbrev pub whole_within : (limit : ℕ) → (line : List ℕ) → List ℕ → Result (List ℕ) (Option (List ℕ))
+whole_within limit line = up_to limit line (λ bytes. Ok bytes)
+
 -- the file of the certificate is too long, or it decides
-pub record CertAnswer (limit : ℕ) (names : SurfaceNames) (Decides : (cert : List ℕ) → Answer → Type 0) (files : Files)
-    (answer : Answer) : Type 0 where
-  pub cert : List ℕ
-  pub there : files names.cert ≡ Some cert
-  pub answers : FileTooLong limit 3 too_long_cert_line cert answer ⊎ ((length cert ≤ limit) × Decides cert answer)
+abbrev pub CertAnswer : (limit : ℕ) → SurfaceNames → (Decides : (cert : List ℕ) → Answer → Type 0) → Files → Answer → Type 0
+CertAnswer limit names Decides = ToFile 3 names.cert (whole_within limit too_long_cert_line) (λ cert _. Decides cert)
 
 -- the file of the mesh is too long, or it and the certificate decide
-pub record MeshAnswer (limit : ℕ) (names : SurfaceNames) (Decide : (mesh cert : List ℕ) → Answer → Type 0) (files : Files)
-    (answer : Answer) : Type 0 where
-  pub mesh : List ℕ
-  pub there : files names.mesh ≡ Some mesh
-  pub answers : FileTooLong limit 2 too_long_mesh_line mesh answer
-      ⊎ ((length mesh ≤ limit) × CertAnswer limit names (Decide mesh) files answer)
+abbrev pub MeshAnswer : (limit : ℕ) → SurfaceNames → (Decide : (mesh cert : List ℕ) → Answer → Type 0) → Files → Answer → Type 0
+MeshAnswer limit names Decide files =
+    ToFile 2 names.mesh (whole_within limit too_long_mesh_line) (λ mesh _. CertAnswer limit names (Decide mesh) files) files
 
 -- the mesh and the certificate determine the verdict
 abbrev pub CheckAnswer : (limit : ℕ) → SurfaceNames → (output : Option (List ℕ)) → Options → Files → (bytes : List ℕ) → Shown

@@ -7,7 +7,6 @@
 --   command_of words                    the command in the arguments, if they are valid
 --   asked command                       the definition of a command of the program
 --   task_of asked                       the command without its arguments
---   bad_words_answer                    the answer to invalid arguments
 --   AnswerWithin limit asked ..         the answer of a command, or to invalid arguments, for this maximal size of an input
 --                                       file
 --   AnswerOf asked files answer         the same with the limit of `run`
@@ -27,25 +26,25 @@ use Rattle.std.specs.Str.{bytes_eq}
 use Rattle.host.specs.State.{Files, Told, State}
 use Rattle.ply_head.specs.Optional.{◌>>=◌}
 use Rattle.scan.specs.ScanRows.{point_limit}
-use Rattle.recon_cmd.specs.Answers.{Answer, MayEnd, Task, file_limit}
+use Rattle.command_run.specs.Answers.{Answer, MayEnd, Task, bad_arguments_answer, file_limit}
+use Rattle.command_run.specs.Outcome.{EndsBy, TellsBy, Run}
+use Rattle.command_run.specs.Words.{Names, are_names}
+use Rattle.command_run.specs.declared.status.Status.{Status}
+use Rattle.command_run.specs.declared.status.Status.TheVariants.{BadArguments, Done, No, Refused, Failed, NoMemory}
 use Rattle.recon_cmd.specs.Ask.{QueryNames, ask_names, ask_task}
 use Rattle.recon_cmd.specs.Build.{build_names, build_task}
 use Rattle.recon_cmd.specs.Cells.{cells_keys, cells_names, cells_task}
 use Rattle.recon_cmd.specs.Check.{check_names, output_of, check_task}
 use Rattle.recon_cmd.specs.Demo.{seed_of, demo_task}
 use Rattle.recon_cmd.specs.Export.{ExportNames, export_names}
-use Rattle.recon_cmd.specs.Lines.{bad_words_line}
 use Rattle.recon_cmd.specs.OptionViews.{options_view}
 use Rattle.recon_cmd.specs.Options.{Options, number_between}
-use Rattle.recon_cmd.specs.Outcome.{EndsBy, TellsBy, Run}
 use Rattle.recon_cmd.specs.Slice.{height_of, slice_names, slice_task}
 use Rattle.recon_cmd.specs.Sweep.{SweepAsked, sweep_asked, FitsForms}
-use Rattle.recon_cmd.specs.Words.{Names, SurfaceNames, NamesAndOptions, are_names, all_keys, named}
+use Rattle.recon_cmd.specs.Words.{SurfaceNames, NamesAndOptions, all_keys, named}
 use Rattle.recon_cmd.specs.declared.commands.Command.{Command}
 use Rattle.recon_cmd.specs.declared.commands.Request.{Request}
 use Rattle.recon_cmd.specs.declared.commands.Request.TheVariants as requests
-use Rattle.recon_cmd.specs.declared.status.Status.{Status}
-use Rattle.recon_cmd.specs.declared.status.Status.TheVariants.{BadWords, Done, No, Refused, Failed, NoMemory}
 use Rattle.recon_cmd.specs.declared.commands.Command.TheVariants as commands
 
 -- a command with its names and options
@@ -137,13 +136,9 @@ task_of (slice names height) = slice_task names height
 task_of (ask names options) = ask_task names options
 task_of (demo count seed) = demo_task count seed
 
--- invalid arguments read and write nothing
-abbrev pub bad_words_answer : Answer
-bad_words_answer = record { status = BadWords; reads = 0; writes = []; line = bad_words_line }
-
 -- the answer of a command, or to invalid arguments, for these files and this maximal size of an input file
 abbrev pub AnswerWithin : (limit : ℕ) → Option Asked → Files → Answer → Type 0
-AnswerWithin limit None = λ files answer. answer ≡ bad_words_answer
+AnswerWithin limit None = λ files answer. answer ≡ bad_arguments_answer
 AnswerWithin limit (Some asked) = (task_of asked).Answers limit
 
 -- the same with the limit of `run`
@@ -168,7 +163,7 @@ abbrev pub StatusFits : Status → Option Asked → Type 0
 StatusFits status (Some asked) = MayEnd (task_of asked) status
 StatusFits Done None = ⊥
 StatusFits No None = ⊥
-StatusFits BadWords None = ⊤
+StatusFits BadArguments None = ⊤
 StatusFits Refused None = ⊥
 StatusFits Failed None = ⊤
 StatusFits NoMemory None = ⊥

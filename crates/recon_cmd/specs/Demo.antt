@@ -10,12 +10,13 @@ use Rattle.gen_scan.specs.Generated.{generated}
 use Rattle.ply_head.specs.Optional.{◌>>=◌}
 use Rattle.scan.specs.PlainForm.{scan_text}
 use Rattle.scan.specs.Shown.{shown_by}
-use Rattle.recon_cmd.specs.Answers.{Answer, ScanAnswer, Task, file_limit}
+use Rattle.command_run.specs.Answers.{Answer, Task, file_limit}
+use Rattle.command_run.specs.Lines.{labelled}
+use Rattle.command_run.specs.declared.status.Status.TheVariants.{Done}
+use Rattle.recon_cmd.specs.Answers.{ScanAnswer}
 use Rattle.recon_cmd.specs.Build.{WritesSurface}
-use Rattle.recon_cmd.specs.Lines.{labelled}
 use Rattle.recon_cmd.specs.Options.{number_of_digits, within, default_options}
 use Rattle.recon_cmd.specs.Words.{SurfaceNames}
-use Rattle.recon_cmd.specs.declared.status.Status.TheVariants.{Done}
 
 -- the number with 1 to 20 digits, if it is below 2 ^ 64
 abbrev pub seed_of : List ℕ → Option ℕ

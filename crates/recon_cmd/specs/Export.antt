@@ -23,14 +23,15 @@ use Rattle.host.specs.State.{Files, State}
 use Rattle.mesh_form.specs.Received.{Received, HasAll, HasFront}
 use Rattle.mesh_ply.specs.Meshes.{Surface}
 use Rattle.mesh_ply.specs.Texts.{mesh_text}
-use Rattle.recon_cmd.specs.Answers.{Answer, MayRefuse, ToMesh}
-use Rattle.recon_cmd.specs.Lines.{labelled}
-use Rattle.recon_cmd.specs.Outcome.{Run}
-use Rattle.recon_cmd.specs.Steps.{CarriesOut}
-use Rattle.recon_cmd.specs.Words.{are_names}
+use Rattle.command_run.specs.Answers.{Answer, ToMesh}
+use Rattle.command_run.specs.Lines.{labelled}
+use Rattle.command_run.specs.Outcome.{Run}
+use Rattle.command_run.specs.Steps.{CarriesOut}
+use Rattle.command_run.specs.Words.{are_names}
+use Rattle.command_run.specs.declared.status.Status.{Status}
+use Rattle.command_run.specs.declared.status.Status.TheVariants.{Done, No, BadArguments, Refused, Failed, NoMemory}
+use Rattle.recon_cmd.specs.Answers.{MayRefuse}
 use Rattle.recon_cmd.specs.declared.commands.export.ExportWords.{ExportWords}
-use Rattle.recon_cmd.specs.declared.status.Status.{Status}
-use Rattle.recon_cmd.specs.declared.status.Status.TheVariants.{Done, No, BadWords, Refused, Failed, NoMemory}
 
 -- the names of `export MESH OUT1 .. OUTn`
 pub record ExportNames : Type 0 where
@@ -98,7 +99,7 @@ FormsAfter name Refused before old new = new ≡ old
 FormsAfter name Failed before old new = AreHandedFronts name before old new
 FormsAfter name NoMemory before old new = AreHandedFronts name before old new
 FormsAfter name No before old new = ⊥
-FormsAfter name BadWords before old new = ⊥
+FormsAfter name BadArguments before old new = ⊥
 
 -- The continuation after the mesh was read: memory ran out, and each writer has received a prefix of it; or each has received
 -- all of it, and their texts are written up to a call that failed.

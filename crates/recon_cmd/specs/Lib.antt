@@ -8,16 +8,12 @@ pub mod Commands
 pub mod Demo
 pub mod Export
 pub mod Laws
-pub mod Lines
 pub mod OptionViews
 pub mod Options
-pub mod Outcome
 pub mod Refusals
-pub mod Replies
 pub mod Runs
 pub mod Slice
 pub mod Stamps
-pub mod Status
 pub mod Steps
 pub mod Sweep
 pub mod SweepLaws

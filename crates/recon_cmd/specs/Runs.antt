@@ -9,11 +9,11 @@
 use Rattle.std.specs.Prelude.{ℕ, List, ◌≡◌, length, map, IfSome, None}
 use Rattle.host.specs.State.{State}
 use Rattle.mesh_form.specs.Received.{Received}
+use Rattle.command_run.specs.Status.{ExitsWith, code_of}
+use Rattle.command_run.specs.declared.status.Status.{Status}
 use Rattle.recon_cmd.specs.Commands.{OutcomeWithin, command_of}
 use Rattle.recon_cmd.specs.Export.{ExportOutcome, export_of}
-use Rattle.recon_cmd.specs.Status.{ExitsWith, code_of}
 use Rattle.recon_cmd.specs.Sweep.{SweepOutcome, sweep_of}
-use Rattle.recon_cmd.specs.declared.status.Status.{Status}
 
 -- if the arguments are `export` with as many outputs as there are writers, the outcome of `export` holds with the exit status
 abbrev pub Exports : {Form : Type 0} → (limit : ℕ) → (received : Form → Received) → (text_of : Form → List ℕ)

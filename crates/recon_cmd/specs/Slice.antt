@@ -10,7 +10,7 @@
 --   SliceAnswer output height ..     one of the two
 --   slice_task names height          the command
 use Rattle.std.specs.Option.{option_map}
-use Rattle.std.specs.Prelude.{ℕ, List, [], ◌∷◌, ◌==◌, if◌then◌else◌, ℤ, Option, ◌++◌, codes, ◌≡◌, length, sum_by, ◌⊎◌, ⊤}
+use Rattle.std.specs.Prelude.{ℕ, List, [], ◌∷◌, ◌==◌, if◌then◌else◌, ℤ, Option, ◌++◌, codes, ◌≡◌, length, sum_by, ◌⊎◌}
 use Rattle.geo_sign.specs.declared.point.TheConstants.{BOX_LIMIT}
 use Rattle.mesh_ply.specs.Meshes.{Surface}
 use Rattle.num_text.specs.WholeNumbers.{is_minus, signed}
@@ -19,12 +19,12 @@ use Rattle.mesh_edges.specs.Edges.{IsFirstUnbalanced, IsBalanced}
 use Rattle.solid_slice.specs.Slices.{IsSlice}
 use Rattle.solid_slice.specs.Texts.{slice_text}
 use Rattle.solid_slice.specs.declared.step.Step.{Step}
-use Rattle.recon_cmd.specs.Answers.{Answer, refusal, Task, ToMesh}
-use Rattle.recon_cmd.specs.Lines.{labelled}
+use Rattle.command_run.specs.Answers.{Answer, Task, invalid, mesh_task}
+use Rattle.command_run.specs.Lines.{labelled}
+use Rattle.command_run.specs.Words.{Names}
+use Rattle.command_run.specs.declared.status.Status.TheVariants.{Done}
 use Rattle.recon_cmd.specs.Options.{number_of_digits, within}
-use Rattle.recon_cmd.specs.Words.{Names}
 use Rattle.recon_cmd.specs.declared.commands.slice.words.SliceWords.{SliceWords}
-use Rattle.recon_cmd.specs.declared.status.Status.TheVariants.{Done}
 
 -- the text after a minus sign, if there is one
 abbrev pub behind_minus : List ℕ → List ℕ
@@ -56,7 +56,7 @@ pub record RefusesSlice (mesh : Surface) (answer : Answer) : Type 0 where
   pub there : ℕ
   pub back : ℕ
   pub unbalanced : IsFirstUnbalanced mesh.faces from to there back
-  pub is : answer ≡ refusal 1 (unbalanced_line from to there back)
+  pub is : answer ≡ invalid 1 (unbalanced_line from to there back)
 
 -- the answer that writes the loops of a slice, and prints their number and the total number of their steps
 abbrev pub slice_done : (output : List ℕ) → (rings : List (List Step)) → Answer
@@ -81,5 +81,4 @@ SliceAnswer output height mesh answer = RefusesSlice mesh answer ⊎ WritesSlice
 
 -- it reads the mesh, and writes its loops or rejects it
 abbrev pub slice_task : Names → (height : ℤ) → Task
-slice_task names height =
-    record { Denies = ⊥; Refuses = ⊤; most = 1; Answers = λ limit. ToMesh limit names.input (SliceAnswer names.output height) }
+slice_task names height = mesh_task ⊥ names.input (SliceAnswer names.output height)

@@ -33,18 +33,20 @@ use Rattle.mesh_form.specs.Received.{Received}
 use Rattle.ply_head.specs.Optional.{◌>>=◌}
 use Rattle.scan.specs.Shown.{Shown}
 use Rattle.sweep.specs.Entries.{smoothing_of, CostsAt, HaveEntries, given_by, HaveEntryFronts}
-use Rattle.recon_cmd.specs.Answers.{Answer, read_as, MayRefuse, ToScan}
-use Rattle.recon_cmd.specs.Lines.{labelled}
+use Rattle.command_run.specs.Answers.{Answer}
+use Rattle.command_run.specs.Lines.{labelled}
+use Rattle.command_run.specs.Outcome.{Run}
+use Rattle.command_run.specs.Steps.{CarriesOut}
+use Rattle.command_run.specs.Words.{is_name}
+use Rattle.command_run.specs.declared.status.Status.{Status}
+use Rattle.command_run.specs.declared.status.Status.TheVariants.{Done, No, BadArguments, Refused, Failed, NoMemory}
+use Rattle.recon_cmd.specs.Answers.{read_as, MayRefuse, ToScan}
 use Rattle.recon_cmd.specs.OptionViews.{options_view}
 use Rattle.recon_cmd.specs.Options.{Options, number_between}
-use Rattle.recon_cmd.specs.Outcome.{Run}
-use Rattle.recon_cmd.specs.Steps.{CarriesOut}
-use Rattle.recon_cmd.specs.Words.{is_name, named}
+use Rattle.recon_cmd.specs.Words.{named}
 use Rattle.recon_cmd.specs.declared.commands.sweeping.SweepWords.{SweepWords}
 use Rattle.recon_cmd.specs.declared.options.keys.Key.{Key}
 use Rattle.recon_cmd.specs.declared.options.keys.Key.TheVariants.{Unit as unit_key, Vote as vote_key, Scanner as scanner_key}
-use Rattle.recon_cmd.specs.declared.status.Status.{Status}
-use Rattle.recon_cmd.specs.declared.status.Status.TheVariants.{Done, No, BadWords, Refused, Failed, NoMemory}
 
 -- the names of `sweep IN FROM STEP N OUT1 .. OUTN`, the increase from each weight to the next, and the options, at the first
 -- weight
@@ -166,7 +168,7 @@ SweepFormsAfter asked Refused before old new = new ≡ old
 SweepFormsAfter asked Failed before old new = AreHandedEntries asked before old new
 SweepFormsAfter asked NoMemory before old new = AreHandedEntries asked before old new
 SweepFormsAfter asked No before old new = ⊥
-SweepFormsAfter asked BadWords before old new = ⊥
+SweepFormsAfter asked BadArguments before old new = ⊥
 
 -- the writers have received the meshes of their entries, and their texts are written up to the end or a call that failed
 pub record SweepCarries (asked : SweepAsked) (scan : Shown) (status : Status) (before after : State) (new : List Received)

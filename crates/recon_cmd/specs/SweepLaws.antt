@@ -19,15 +19,16 @@ use Rattle.mesh_ply.specs.Meshes.{Surface}
 use Rattle.scan.specs.Shown.{Shown}
 use Rattle.scan.specs.declared.refusal.ScanRefusal.{ScanRefusal}
 use Rattle.sweep.specs.Entries.{smoothing_of}
-use Rattle.recon_cmd.specs.Answers.{file_limit, read_as, Answer}
+use Rattle.command_run.specs.Answers.{file_limit, Answer}
+use Rattle.command_run.specs.declared.status.Status.{Status}
+use Rattle.command_run.specs.declared.status.Status.TheVariants.{Done, NoMemory, Refused}
+use Rattle.recon_cmd.specs.Answers.{read_as}
 use Rattle.recon_cmd.specs.Build.{Shows}
 use Rattle.recon_cmd.specs.Commands.{AnswerOf, build}
 use Rattle.recon_cmd.specs.Laws.{texts_by}
 use Rattle.recon_cmd.specs.Options.{Options}
 use Rattle.recon_cmd.specs.Sweep.{SweepAsked, SweepOutcome, SweepAnswer, sweep_line}
 use Rattle.recon_cmd.specs.Words.{SurfaceNames}
-use Rattle.recon_cmd.specs.declared.status.Status.{Status}
-use Rattle.recon_cmd.specs.declared.status.Status.TheVariants.{Done, NoMemory, Refused}
 
 -- a run of `sweep` over a host that exposes its files, in which the file of the scan has these bytes and no call failed
 pub record SweepsOn (asked : SweepAsked) (bytes : List ℕ) (status : Status) (before after : State) (old new : List Received)

@@ -1,9 +1,9 @@
 //! The commands: their arguments, and the answer of each. Arguments are parsed without allocating memory. Each command has its
 //! own file: its arguments, its answer in memory, and its lines.
 ghost use Rattle.std.specs.Prelude.{◌≡◌, IfSome, map, string_bytes, false, IfOk};
+ghost use Rattle.command_run.specs.Steps.{IsReplied, ReadsFor, CountsFaults};
 ghost use Rattle.recon_cmd.specs.Commands.{AsksForForms, asked_command, asked_export, asked_sweep, command_of, asked, task_of};
 ghost use Rattle.recon_cmd.specs.Export.{export_of};
-ghost use Rattle.recon_cmd.specs.Steps.{IsReplied, ReadsFor, CountsFaults};
 ghost use Rattle.recon_cmd.specs.Sweep.{entries_of, sweep_of};
 
 mod ask;
@@ -16,11 +16,11 @@ mod slice;
 mod sweeping;
 
 use crate::options::Options;
-use crate::reply::{Reply, Stop};
 use ask::{AskNames, ask_command, reply_to_ask};
 use build::{BuildNames, build_command, reply_to_build};
 use cells::{CellsNames, cells_command, reply_to_cells};
 use check::{CheckNames, check_command, reply_to_check, upgrade_command};
+use command_run::{Reply, Stop};
 use demo::{Demo, demo_command, reply_to_demo};
 pub use export::export_mesh;
 use export::{ExportWords, export_words};

@@ -3,9 +3,9 @@
 //!
 //! `run` is the program without the operating system: it works over any `Host`. A command is a value: the arguments that
 //! request it, the statuses with which it may end, the number of files it reads, and its answers, a relation on bytes
-//! (`specs/Answers`). The commands are listed in `specs/Commands`, and each is defined, with its lines, in a file of its own
-//! there and in `src/commands`. The effect of an answer on the host is defined once for all commands (`specs/Outcome`,
-//! `src/whole_run`). Options are in `specs/Options`, and the lines that commands share in `specs/Lines` and `specs/Refusals`.
+//! (`command_run`). The commands are listed in `specs/Commands`, and each is defined, with its lines, in a file of its own
+//! there and in `src/commands`. The effect of an answer on the host is defined once for all commands, in `command_run`. Answers
+//! to a scan are in `specs/Answers`, its errors in `specs/Refusals`, and options in `specs/Options`.
 //! `run_forms` also takes mesh writers, and has the commands that write their texts.
 #![tactic(auto)]
 
@@ -14,11 +14,10 @@ mod laws;
 mod lines;
 mod names;
 mod options;
-mod reply;
 mod stamps;
-mod status;
 mod whole_run;
 
+pub use command_run::{FILE_LIMIT, NoMemory, Status};
 pub use commands::{Command, Request, understand};
 pub use laws::{
     a_check_says_what_its_files_are, a_command_has_one_answer, a_mesh_that_was_checked_is_best,
@@ -28,9 +27,4 @@ pub use laws::{
     labels_are_read_off_a_checked_certificate, the_limits_are_these,
 };
 pub use options::Options;
-pub use status::Status;
-use std::alloc::AllocError;
-pub use whole_run::{FILE_LIMIT, run, run_forms, run_forms_within};
-
-/// Out of memory.
-pub type NoMemory = AllocError;
+pub use whole_run::{run, run_forms, run_forms_within};

@@ -1,9 +1,10 @@
 //! Names and the options after them, as commands share them. Depends on the options.
 ghost use Rattle.std.specs.Option.{option_map};
 ghost use Rattle.std.specs.Prelude.{◌≡◌, IfSome, length, map, string_bytes};
-ghost use Rattle.recon_cmd.specs.Words.{named, named_view, are_names, is_name, is_other};
+ghost use Rattle.recon_cmd.specs.Words.{named, named_view};
 
 use crate::options::{Key, Options, understand_options};
+use command_run::are_names;
 
 /// All options of commands with one best surface.
 pub const ALL_KEYS: [Key; 4] = [Key::Unit, Key::Vote, Key::Smooth, Key::Scanner];
@@ -32,35 +33,4 @@ pub fn named<'a>(words: &'a [String], count: usize, keys: &[Key]) -> Option<Name
     }
     let options = understand_options(keys, &words[count..])?;
     Some(NamesAndOptions { names, options })
-}
-
-/// Returns whether none of the names is empty, and no two are equal.
-pub fn are_names(names: &[String]) -> bool
-    ensures { result ≡ are_names (map string_bytes names.now) }
-{
-    for k in 0..names.len() {
-        if !is_name(names[k].as_str(), &names[k + 1..]) {
-            return false;
-        }
-    }
-    true
-}
-
-/// Returns whether the name is not empty, and none of these.
-pub fn is_name(name: &str, others: &[String]) -> bool
-    ensures { result ≡ is_name name.now (map string_bytes others.now) }
-{
-    !name.is_empty() && is_none_of(name, others)
-}
-
-/// Returns whether the name is none of these.
-fn is_none_of(name: &str, others: &[String]) -> bool
-    ensures { result ≡ is_other name.now (map string_bytes others.now) }
-{
-    for other in others {
-        if name == other.as_str() {
-            return false;
-        }
-    }
-    true
 }

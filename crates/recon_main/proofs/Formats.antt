@@ -8,15 +8,16 @@ use Rattle.mesh_form.specs.Received.{Received}
 use Rattle.mesh_form.specs.Texts.{off_text, obj_text}
 use Rattle.mesh_ply.specs.Meshes.{Surface}
 use Rattle.mesh_ply.specs.Texts.{mesh_text}
-use Rattle.recon_cmd.specs.Answers.{Answer, MayRefuse, file_limit}
+use Rattle.command_run.specs.Answers.{Answer, file_limit}
+use Rattle.command_run.specs.Outcome.{EndsBy, IsUntouched, Run, StopsBy, TellsBy}
+use Rattle.command_run.specs.Status.{ExitsWith, code_of}
+use Rattle.command_run.specs.declared.status.Status.{Status}
+use Rattle.command_run.specs.declared.status.Status.TheVariants.{Done, No, BadArguments, Refused, Failed, NoMemory}
+use Rattle.command_run.proofs.MeshReplies.{unread_reads}
+use Rattle.recon_cmd.specs.Answers.{MayRefuse}
 use Rattle.recon_cmd.specs.Export.{ExportAnswer, ExportNames, ExportOutcome, HaveAll, WritesForms, export_of, exported_line}
-use Rattle.recon_cmd.specs.Outcome.{EndsBy, IsUntouched, Run, StopsBy, TellsBy}
 use Rattle.recon_cmd.specs.Commands.{Outcome, command_of}
-use Rattle.recon_cmd.specs.Status.{ExitsWith, code_of}
-use Rattle.recon_cmd.specs.declared.status.Status.{Status}
-use Rattle.recon_cmd.specs.declared.status.Status.TheVariants.{Done, No, BadWords, Refused, Failed, NoMemory}
 use Rattle.recon_cmd.specs.Sweep.{SweepAsked, entries_of, sweep_of}
-use Rattle.recon_cmd.proofs.MeshReplies.{unread_reads}
 use Rattle.recon_cmd.proofs.SweepWordLemmas.{no_sweep}
 use Rattle.recon_main.specs.Ends.{FormatsAnswer, RunsFor, RunsOn, WritesFormats, sweep_in}
 
@@ -102,7 +103,7 @@ module _ (A B : Files → Answer → Type 0) (each : (files : Files) (answer : A
   tells_among : (status : Status) (old new : Told) → TellsBy A status old new → TellsBy B status old new
   tells_among Done old new tells = ends_among Done old new tells
   tells_among No old new tells = ends_among No old new tells
-  tells_among BadWords old new tells = ends_among BadWords old new tells
+  tells_among BadArguments old new tells = ends_among BadArguments old new tells
   tells_among Refused old new tells = ends_among Refused old new tells
   tells_among Failed old new tells = stops_among old new tells
   tells_among NoMemory old new tells = tells

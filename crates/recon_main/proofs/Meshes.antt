@@ -12,13 +12,15 @@ use Rattle.mesh_ply.specs.Meshes.{Surface}
 use Rattle.mesh_ply.specs.Texts.{mesh_text}
 use Rattle.scan.specs.Shown.{Shown}
 use Rattle.sweep.specs.Entries.{HasEntry, IsSurfaceAt, given_by, smoothing_of}
-use Rattle.recon_cmd.specs.Answers.{Answer, file_limit}
+use Rattle.command_run.specs.Answers.{Answer, file_limit}
+use Rattle.command_run.specs.Status.{ExitsWith, code_of}
+use Rattle.command_run.specs.declared.status.Status.{Status}
+use Rattle.command_run.specs.declared.status.Status.TheVariants.{Done}
+use Rattle.recon_cmd.specs.Answers.{scan_within}
 use Rattle.recon_cmd.specs.Export.{export_of}
 use Rattle.recon_cmd.specs.Commands.{Outcome, command_of}
-use Rattle.recon_cmd.specs.Status.{ExitsWith, code_of}
 use Rattle.recon_cmd.specs.Sweep.{SweepAnswer, SweepAsked, SweepOutcome, WritesSweep, entries_of, sweep_line, sweep_of}
-use Rattle.recon_cmd.specs.declared.status.Status.{Status}
-use Rattle.recon_cmd.specs.declared.status.Status.TheVariants.{Done}
+use Rattle.recon_cmd.proofs.FileAnswers.{file_cases, file_map}
 use Rattle.recon_cmd.proofs.SweepWordLemmas.{no_export}
 use Rattle.recon_main.specs.Ends.{MeshesAnswer, RunsFor, RunsOn, WritesMeshes, sweep_in}
 use Rattle.recon_main.proofs.Formats.{run_among}
@@ -130,22 +132,14 @@ written asked forms texts scan answer are writes = record {
 
 meshes_answer : (asked : SweepAsked) (forms : List Received) (texts : List (List ℕ)) → texts ≡ map ply_of forms
     → (files : Files) (answer : Answer) → SweepAnswer file_limit asked forms texts files answer → MeshesAnswer asked files answer
-meshes_answer asked forms texts are files answer (bytes, has, inl unread) = (bytes, has, inl unread)
-meshes_answer asked forms texts are files answer (bytes, has, inr answered) = (
-  bytes,
-  has,
-  inr (record {
-    within = answered.within;
-    scan = answered.scan;
-    read = answered.read;
-    answers = written asked forms texts answered.scan answer are answered.answers;
-  }),
-)
+meshes_answer asked forms texts are files answer =
+    file_map 1 asked.input (scan_within file_limit asked.options) (λ _. WritesSweep asked forms texts) (λ _. WritesMeshes asked) files
+    answer (λ bytes scan. written asked forms texts scan answer are)
 
 meshes_reads : (asked : SweepAsked) (files : Files) (answer : Answer) → MeshesAnswer asked files answer → answer.reads ≡ 1
-meshes_reads asked files answer (bytes, has, inl (inl long)) = ap (λ (a : Answer). a.reads) long.is
-meshes_reads asked files answer (bytes, has, inl (inr refused)) = ap (λ (a : Answer). a.reads) refused.is
-meshes_reads asked files answer (bytes, has, inr answered) = ap (λ (a : Answer). a.reads) answered.answers.is
+meshes_reads asked files answer =
+    file_cases 1 asked.input (scan_within file_limit asked.options) (λ _. WritesMeshes asked) files answer (answer.reads ≡ 1)
+    (λ bytes line has so is. ap (λ (a : Answer). a.reads) is) (λ bytes scan has so writes. ap (λ (a : Answer). a.reads) writes.is)
 
 -- ---- the whole run
 pub swept_on : {X : Type 0} (words : List (List ℕ)) (n m : ℕ) → entries_of words ≡ Some m → n ≡ m

@@ -22,14 +22,15 @@ use Rattle.mesh_ply.specs.Texts.{mesh_text}
 use Rattle.scan.specs.Shown.{Shown}
 use Rattle.sweep.specs.Entries.{CostsAt, IsSurfaceAt, given_by, smoothing_of}
 use Rattle.real_host.specs.Start.{arguments_of, fresh_state}
-use Rattle.recon_cmd.specs.Answers.{Answer, MeshFileAnswer, ScanAnswer, MayRefuse, file_limit}
+use Rattle.command_run.specs.Answers.{Answer, MeshFileAnswer, file_limit}
+use Rattle.command_run.specs.Outcome.{Run}
+use Rattle.command_run.specs.Status.{ExitsWith, code_of}
+use Rattle.command_run.specs.declared.status.Status.{Status}
+use Rattle.command_run.specs.declared.status.Status.TheVariants.{Done, NoMemory}
+use Rattle.recon_cmd.specs.Answers.{MayRefuse, ToScan}
 use Rattle.recon_cmd.specs.Export.{ExportNames, export_of, exported_line}
 use Rattle.recon_cmd.specs.Commands.{Outcome, command_of}
-use Rattle.recon_cmd.specs.Outcome.{Run}
-use Rattle.recon_cmd.specs.Status.{ExitsWith, code_of}
 use Rattle.recon_cmd.specs.Sweep.{SweepAsked, entries_of, sweep_line, sweep_of}
-use Rattle.recon_cmd.specs.declared.status.Status.{Status}
-use Rattle.recon_cmd.specs.declared.status.Status.TheVariants.{Done, NoMemory}
 use Rattle.std.specs.declared.io.Error.{Error}
 use Rattle.std.specs.declared.io.ErrorKind.TheVariants.{OutOfMemory}
 use Rattle.std.specs.declared.alloc.Global.{Global}
@@ -73,8 +74,7 @@ pub record WritesMeshes (asked : SweepAsked) (scan : Shown) (answer : Answer) : 
 
 -- the scan is rejected, or its best surfaces are written
 abbrev pub MeshesAnswer : SweepAsked → Files → Answer → Type 0
-MeshesAnswer asked files answer =
-    (bytes : List ℕ) × (files asked.input ≡ Some bytes) × ScanAnswer file_limit asked.options (λ _. WritesMeshes asked) bytes answer
+MeshesAnswer asked = ToScan file_limit asked.input asked.options (λ _. WritesMeshes asked)
 
 -- the request of `sweep` with as many outputs as its fifth argument states, if the arguments are `sweep`
 abbrev pub sweep_in : List (List ℕ) → Option SweepAsked

@@ -4,6 +4,7 @@ ghost use Rattle.std.specs.Prelude.{◌≡◌, ◌++◌, false, length, map, str
 ghost use Rattle.mesh_ply.specs.Meshes.{Surface};
 ghost use Rattle.mesh_ply.specs.Texts.{IsPrinted};
 ghost use Rattle.mesh_finish.specs.Steps.{ExplainsFinish};
+ghost use Rattle.command_run.specs.Answers.{file_limit};
 ghost use Rattle.command_run.specs.Replies.{answer_of};
 ghost use Rattle.command_run.specs.Steps.{IsReplied, ReadsFor, CountsFaults, surface_of};
 ghost use Rattle.mesh_cmd.specs.Commands.{asked, finish_of};
@@ -56,8 +57,8 @@ pub fn reply_to_finish<'a, H: Host>(
     words: &FinishWords<'a>,
 ) -> Result<Reply<'a>, Stop>
     requires { (H.state host.old).writing ≡ false }
-    ensures replied { IfOk result (λ reply. IsReplied (finish_task (finish_names words.now) words.now.options) reply (H.state host.old)) }
-    ensures reads { ReadsFor (finish_task (finish_names words.now) words.now.options) (H.state host.old) (H.state host.new) }
+    ensures replied { IfOk result (λ reply. IsReplied file_limit (finish_task (finish_names words.now) words.now.options) reply (H.state host.old)) }
+    ensures reads { ReadsFor file_limit (finish_task (finish_names words.now) words.now.options) (H.state host.old) (H.state host.new) }
     ensures cause { CountsFaults result (H.state host.old).faults (H.state host.new).faults }
 {
     match read_mesh_file(alloc, host, words.mesh, FILE_LIMIT)? {

@@ -2,6 +2,7 @@
 ghost use Rattle.std.specs.Option.{option_map};
 ghost use Rattle.std.specs.Prelude.{◌≡◌, ◌++◌, false, map, string_bytes, IfOk, OnOk};
 ghost use Rattle.mesh_ply.specs.Texts.{IsPrinted};
+ghost use Rattle.command_run.specs.Answers.{file_limit};
 ghost use Rattle.command_run.specs.Replies.{answer_of};
 ghost use Rattle.command_run.specs.Steps.{IsReplied, ReadsFor, CountsFaults, surface_of};
 ghost use Rattle.mesh_cmd.specs.Commands.{asked, inspect_of};
@@ -61,8 +62,8 @@ pub fn reply_to_inspect<'a, H: Host>(
     words: &InspectWords<'a>,
 ) -> Result<Reply<'a>, Stop>
     requires { (H.state host.old).writing ≡ false }
-    ensures replied { IfOk result (λ reply. IsReplied (inspect_task words.now.mesh.now) reply (H.state host.old)) }
-    ensures reads { ReadsFor (inspect_task words.now.mesh.now) (H.state host.old) (H.state host.new) }
+    ensures replied { IfOk result (λ reply. IsReplied file_limit (inspect_task words.now.mesh.now) reply (H.state host.old)) }
+    ensures reads { ReadsFor file_limit (inspect_task words.now.mesh.now) (H.state host.old) (H.state host.new) }
     ensures cause { CountsFaults result (H.state host.old).faults (H.state host.new).faults }
 {
     match read_mesh_file(alloc, host, words.mesh, FILE_LIMIT)? {

@@ -2,26 +2,28 @@
 //! Depends on `solid_query`, which reads the points and finds their labels, and on `merge`, which finds the distinct points of
 //! the scan.
 ghost use Rattle.std.specs.List.{flat_map};
-ghost use Rattle.std.specs.Prelude.{ℕ, map, string_bytes, ◌≡◌, false, IfOk, ◌≤◌, length, All, count_by, Some, ◌++◌, OnOk};
+ghost use Rattle.std.specs.Prelude.{map, string_bytes, ◌≡◌, false, IfOk, length, All, count_by, Some, ◌++◌, OnOk};
 ghost use Rattle.geo_sign.specs.Point.{IsWithin};
 ghost use Rattle.geo_sign.specs.declared.point.TheConstants.{DATA_LIMIT};
 ghost use Rattle.scan.specs.Views.{shown_of};
+ghost use Rattle.solid_query.specs.Queries.{points_in};
 ghost use Rattle.solution.specs.Scans.{points_of};
-ghost use Rattle.recon_cmd.specs.Ask.{ask_names, AskAnswer, IsAskReply, IsAsked, WritesLabels, too_long_points_line, query_refusal_line, ask_line, labels_text, label_line, ask_task};
+ghost use Rattle.command_run.specs.Replies.{answer_of};
+ghost use Rattle.command_run.specs.Steps.{IsReplied, ReadsFor, CountsFaults};
+ghost use Rattle.recon_cmd.specs.Answers.{ToContent, or_line};
+ghost use Rattle.recon_cmd.specs.Ask.{ask_names, AskAnswer, IsAskReply, WritesLabels, too_long_points_line, query_refusal_line, ask_line, labels_text, label_line, ask_task};
 ghost use Rattle.recon_cmd.specs.Commands.{IsCommand, ask_of, asked_by};
 ghost use Rattle.recon_cmd.specs.OptionViews.{options_view};
-ghost use Rattle.recon_cmd.specs.Replies.{answer_of};
-ghost use Rattle.recon_cmd.specs.Steps.{IsReplied, ReadsFor, CountsFaults, ReadsOn};
+ghost use Rattle.recon_cmd.specs.Steps.{ReadsOn};
 ghost use Rattle.recon_cmd.specs.Words.{all_keys, named};
 
-use crate::NoMemory;
 use crate::commands::{Command, Request};
-use crate::lines::{line_of_number, push_labelled};
 use crate::names::{ALL_KEYS, NamesAndOptions, named};
 use crate::options::Options;
-use crate::reply::{Line, Reply, Stop, Text, refusal};
-use crate::status::Status;
 use crate::whole_run::{Reading, read_input};
+use command_run::{
+    Line, NoMemory, Reply, Status, Stop, Text, invalid_input, line_of_number, push_labelled,
+};
 use geo_sign::Point;
 use host::{Host, ReadRefusal, Watch, read_all};
 use merge::merge;
@@ -79,7 +81,7 @@ pub fn reply_to_ask<'a, H: Host, W: Watch>(
             drop(bytes);
             reply_to_scan(alloc, host, &scan, names, options, limit, watch)
         }
-        Reading::Refused(line) => Ok(refusal(alloc, line)),
+        Reading::Refused(line) => Ok(invalid_input(alloc, line)),
     }
 }
 
@@ -102,7 +104,7 @@ fn reply_to_scan<'a, H: Host, W: Watch>(
 {
     let bytes = match read_all(alloc, host, names.points, limit) {
         Ok(bytes) => bytes,
-        Err(ReadRefusal::TooLong) => return Ok(refusal(
+        Err(ReadRefusal::TooLong) => return Ok(invalid_input(
             alloc,
             Line::Fixed(line_of_too_long_points()),
         )),
@@ -121,7 +123,7 @@ fn reply_to_points<'a, W: Watch>(
     options: &Options,
     watch: &mut W,
 ) -> Result<Reply<'a>, NoMemory>
-    ensures { (limit : ℕ) → length bytes.items ≤ limit → IfOk result (λ reply. IsAsked limit output.now (options_view options.now) (shown_of scan.now) bytes.items (answer_of 2 reply)) }
+    ensures { IfOk result (λ reply. ToContent 2 (WritesLabels output.now (options_view options.now) (shown_of scan.now)) (or_line query_refusal_line (points_in bytes.items options.now.unit)) (answer_of 2 reply)) }
 {
     match read_queries(alloc, &bytes, options.unit) {
         Ok(points) => {
@@ -130,7 +132,7 @@ fn reply_to_points<'a, W: Watch>(
         }
         Err(why) => {
             let line = line_of_query_refusal(alloc, why)?;
-            Ok(refusal(alloc, Line::Made(line)))
+            Ok(invalid_input(alloc, Line::Made(line)))
         }
     }
 }

@@ -5,23 +5,20 @@ ghost use Rattle.cert_text.specs.Certificates.{claim_of, IsWellFormed};
 ghost use Rattle.mesh_ply.specs.Meshes.{IsMesh};
 ghost use Rattle.scan.specs.Views.{shown_of};
 ghost use Rattle.solution.specs.Solutions.{surface_of};
+ghost use Rattle.command_run.specs.Replies.{answer_of};
+ghost use Rattle.command_run.specs.Steps.{IsReplied, ReadsFor, CountsFaults};
 ghost use Rattle.recon_cmd.specs.Build.{build_names, WritesSurface, Shows, build_line, build_task};
 ghost use Rattle.recon_cmd.specs.Commands.{IsCommand, asked_by, build_of};
 ghost use Rattle.recon_cmd.specs.OptionViews.{options_view};
-ghost use Rattle.recon_cmd.specs.Replies.{answer_of};
-ghost use Rattle.recon_cmd.specs.Steps.{IsReplied, ReadsFor, CountsFaults};
 ghost use Rattle.recon_cmd.specs.Words.{all_keys, named};
 
-use crate::NoMemory;
 use crate::commands::{Command, Request};
-use crate::lines::push_labelled;
 use crate::names::{ALL_KEYS, NamesAndOptions, named};
 use crate::options::Options;
-use crate::reply::{Line, Reply, Stop, Text, refusal};
 use crate::stamps::stamp_of;
-use crate::status::Status;
 use crate::whole_run::{Reading, read_input};
 use cert_text::{Certificate, push_cert};
+use command_run::{Line, NoMemory, Reply, Status, Stop, Text, invalid_input, push_labelled};
 use host::{Host, Watch};
 use mesh_ply::push_mesh;
 use recon_build::{Solved, solve_scan_watched};
@@ -75,7 +72,7 @@ pub fn reply_to_build<'a, H: Host, W: Watch>(
         Reading::Scan(scan, bytes) => Ok(reply_to_scan(
             alloc, &scan, bytes, names, options, watch,
         )?),
-        Reading::Refused(line) => Ok(refusal(alloc, line)),
+        Reading::Refused(line) => Ok(invalid_input(alloc, line)),
     }
 }
 

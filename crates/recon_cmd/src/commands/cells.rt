@@ -7,21 +7,19 @@ ghost use Rattle.geo_sign.specs.Vertices.{boxed_vertices};
 ghost use Rattle.scan.specs.Shown.{Shown, IsShown};
 ghost use Rattle.scan.specs.Views.{shown_of};
 ghost use Rattle.solution.specs.Scans.{points_of};
+ghost use Rattle.command_run.specs.Replies.{answer_of};
+ghost use Rattle.command_run.specs.Steps.{IsReplied, ReadsFor, CountsFaults};
 ghost use Rattle.recon_cmd.specs.Cells.{cells_keys, cells_names, WritesCells, cells_line, cells_text, row_line, cells_task};
 ghost use Rattle.recon_cmd.specs.Commands.{IsCommand, asked_by, cells_of, cells};
 ghost use Rattle.recon_cmd.specs.OptionViews.{options_view};
-ghost use Rattle.recon_cmd.specs.Replies.{answer_of};
-ghost use Rattle.recon_cmd.specs.Steps.{IsReplied, ReadsFor, CountsFaults};
 ghost use Rattle.recon_cmd.specs.Words.{named};
 
-use crate::NoMemory;
 use crate::commands::{Command, Request};
 use crate::names::{NamesAndOptions, named};
 use crate::options::{Key, Options};
-use crate::reply::{Line, Reply, Stop, Text, refusal};
-use crate::status::Status;
 use crate::whole_run::{Reading, read_input};
 use cell_net::rising_cells;
+use command_run::{Line, NoMemory, Reply, Status, Stop, Text, invalid_input};
 use delaunay::build_watched;
 use geo_sign::Point;
 use host::{Host, Watch};
@@ -75,7 +73,7 @@ pub fn reply_to_cells<'a, H: Host, W: Watch>(
 {
     match read_input(alloc, host, names.input, options, limit)? {
         Reading::Scan(scan, _) => Ok(reply_to_scan(alloc, &scan, names.output, watch)?),
-        Reading::Refused(line) => Ok(refusal(alloc, line)),
+        Reading::Refused(line) => Ok(invalid_input(alloc, line)),
     }
 }
 

@@ -6,26 +6,26 @@ ghost use Rattle.std.specs.Prelude.{map, string_bytes, ◌≡◌, false, IfOk, �
 ghost use Rattle.cert_text.specs.Certificates.{stamp_view};
 ghost use Rattle.cert_text.specs.Texts.{cert_text};
 ghost use Rattle.recon_check.specs.Answers.{HasCertificate};
+ghost use Rattle.command_run.specs.Replies.{answer_of};
+ghost use Rattle.command_run.specs.Steps.{IsReplied, ReadsFor, CountsFaults, IsReplyOf};
 ghost use Rattle.recon_cmd.specs.Check.{check_names, output_of, HasVerdictFor, MeshAnswerFor, CertAnswerFor, IsConcluded, restamped, too_long_cert_line, upgraded_line, check_task, task_for};
 ghost use Rattle.recon_cmd.specs.Commands.{IsCommand, asked_by, check_of, upgrade_of};
 ghost use Rattle.recon_cmd.specs.OptionViews.{options_view};
-ghost use Rattle.recon_cmd.specs.Replies.{answer_of};
-ghost use Rattle.recon_cmd.specs.Steps.{IsReplied, ReadsFor, CountsFaults, IsReplyOf, ReadsOn};
+ghost use Rattle.recon_cmd.specs.Steps.{ReadsOn};
 ghost use Rattle.recon_cmd.specs.Words.{all_keys, named};
 ghost use Rattle.recon_check.specs.declared.answer.Answer.TheVariants as verdicts;
 
 mod lines;
 
-use crate::NoMemory;
 use crate::commands::{Command, Request};
-use crate::lines::{line_of_too_long_mesh, push_labelled};
 use crate::names::{ALL_KEYS, NamesAndOptions, named};
 use crate::options::Options;
-use crate::reply::{Line, Reply, Stop, Text, refusal};
 use crate::stamps::stamp_of;
-use crate::status::Status;
 use crate::whole_run::{Reading, read_input};
 use cert_text::{Stamp, push_cert, read_cert};
+use command_run::{
+    Line, NoMemory, Reply, Status, Stop, Text, invalid_input, line_of_too_long_mesh, push_labelled,
+};
 use host::{Host, ReadRefusal, Watch, read_all};
 use lines::{line_of_reason, line_of_yes};
 use recon_check::{Answer, CheckedTexts, check_all_watched};
@@ -125,7 +125,7 @@ pub fn reply_to_check<'a, H: Host, W: Watch>(
             };
             reply_to_scan(alloc, host, &scan, &asked, watch)
         }
-        Reading::Refused(line) => Ok(refusal(alloc, line)),
+        Reading::Refused(line) => Ok(invalid_input(alloc, line)),
     }
 }
 
@@ -145,7 +145,7 @@ fn reply_to_scan<'a, H: Host, W: Watch>(
 {
     let mesh = match read_all(alloc, host, asked.names.mesh, asked.limit) {
         Ok(mesh) => mesh,
-        Err(ReadRefusal::TooLong) => return Ok(refusal(
+        Err(ReadRefusal::TooLong) => return Ok(invalid_input(
             alloc,
             Line::Fixed(line_of_too_long_mesh()),
         )),
@@ -172,7 +172,7 @@ fn reply_to_mesh<'a, H: Host, W: Watch>(
 {
     let cert = match read_all(alloc, host, asked.names.cert, asked.limit) {
         Ok(cert) => cert,
-        Err(ReadRefusal::TooLong) => return Ok(refusal(
+        Err(ReadRefusal::TooLong) => return Ok(invalid_input(
             alloc,
             Line::Fixed(line_of_too_long_cert()),
         )),

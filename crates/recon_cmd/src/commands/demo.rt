@@ -2,22 +2,20 @@
 //! `gen_scan`, which generates the scan.
 ghost use Rattle.std.specs.Prelude.{map, string_bytes, ◌≡◌, IfOk, ◌≤◌, Ok, OnOk, length};
 ghost use Rattle.scan.specs.Views.{shown_of};
-ghost use Rattle.recon_cmd.specs.Answers.{file_limit, read_as};
+ghost use Rattle.command_run.specs.Answers.{file_limit};
+ghost use Rattle.command_run.specs.Replies.{answer_of};
+ghost use Rattle.recon_cmd.specs.Answers.{read_as};
 ghost use Rattle.recon_cmd.specs.Commands.{IsCommand, demo_of};
 ghost use Rattle.recon_cmd.specs.Demo.{seed_of, Demonstrates, generated_text, demo_line};
 ghost use Rattle.recon_cmd.specs.Options.{default_options};
-ghost use Rattle.recon_cmd.specs.Replies.{answer_of};
 
 mod words;
 
-use crate::NoMemory;
 use crate::commands::build::line_of_build;
 use crate::commands::{Command, Request};
-use crate::lines::push_labelled;
 use crate::options::{DEFAULT_SMOOTH, DEFAULT_UNIT, DEFAULT_VOTE, number_in};
-use crate::reply::{Line, Reply};
 use crate::stamps::stamp_of;
-use crate::status::Status;
+use command_run::{Line, NoMemory, Reply, Status, push_labelled};
 use flow_net::Settings;
 use gen_scan::gen_scan;
 use host::Watch;

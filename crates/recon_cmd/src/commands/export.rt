@@ -5,15 +5,13 @@ ghost use Rattle.std.specs.Prelude.{◌≡◌, IfSome, length, map, string_bytes
 ghost use Rattle.mesh_form.specs.Received.{IsFresh};
 ghost use Rattle.mesh_ply.specs.Texts.{IsPrinted};
 ghost use Rattle.solution.specs.Solutions.{surface_of};
+ghost use Rattle.command_run.specs.declared.status.Status.TheVariants.{Refused};
 ghost use Rattle.recon_cmd.specs.Export.{export_behind, export_names, ExportOutcome, FormsHandOut, exported_line};
-ghost use Rattle.recon_cmd.specs.declared.status.Status.TheVariants.{Refused};
 
-use crate::NoMemory;
-use crate::lines::push_labelled;
-use crate::names::are_names;
-use crate::reply::Stop;
-use crate::status::Status;
-use crate::whole_run::{MeshReading, conclude, read_mesh_file, write_forms};
+use crate::whole_run::write_forms;
+use command_run::{
+    MeshReading, NoMemory, Status, Stop, are_names, conclude, push_labelled, read_mesh_file,
+};
 use host::Host;
 use mesh_form::{Form, drive_all};
 use mesh_ply::Mesh;

@@ -6,21 +6,19 @@ ghost use Rattle.mesh_ply.specs.Texts.{IsPrinted};
 ghost use Rattle.num_text.specs.WholeNumbers.{is_minus};
 ghost use Rattle.solid_slice.specs.Slices.{steps_of};
 ghost use Rattle.solution.specs.Solutions.{surface_of};
+ghost use Rattle.command_run.specs.Replies.{answer_of};
+ghost use Rattle.command_run.specs.Steps.{IsReplied, ReadsFor, CountsFaults};
 ghost use Rattle.recon_cmd.specs.Commands.{IsCommand, slice_of};
-ghost use Rattle.recon_cmd.specs.Replies.{answer_of};
 ghost use Rattle.recon_cmd.specs.Slice.{height_of, behind_minus, SliceAnswer, slice_done, unbalanced_line, slice_line, slice_task, slice_names};
-ghost use Rattle.recon_cmd.specs.Steps.{IsReplied, ReadsFor, CountsFaults};
 
 mod words;
 
-use crate::NoMemory;
 use crate::commands::{Command, Request};
-use crate::lines::push_labelled;
-use crate::names::{are_names, is_name};
 use crate::options::number_in;
-use crate::reply::{Line, Reply, Stop, Text, refusal};
-use crate::status::Status;
-use crate::whole_run::{MeshReading, read_mesh_file};
+use command_run::{
+    Line, MeshReading, NoMemory, Reply, Status, Stop, Text, are_names, invalid_input, is_name,
+    push_labelled, read_mesh_file,
+};
 use geo_sign::BOX_LIMIT;
 use host::Host;
 use mesh_ply::Mesh;
@@ -88,7 +86,7 @@ pub fn reply_to_slice<'a, H: Host>(
 {
     match read_mesh_file(alloc, host, words.mesh, limit)? {
         MeshReading::Mesh(mesh) => Ok(reply_to_mesh(alloc, &mesh, words.height, words.output)?),
-        MeshReading::Refused(line) => Ok(refusal(alloc, line)),
+        MeshReading::Refused(line) => Ok(invalid_input(alloc, line)),
     }
 }
 
@@ -113,7 +111,7 @@ fn reply_to_mesh<'a>(
             },
         ) => {
             let line = line_of_unbalanced_edge(alloc, from, to, there, back)?;
-            Ok(refusal(alloc, Line::Made(line)))
+            Ok(invalid_input(alloc, Line::Made(line)))
         }
         Err(SliceRefusal::NoMemory) => Err(AllocError),
     }

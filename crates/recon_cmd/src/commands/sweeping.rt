@@ -5,16 +5,13 @@ ghost use Rattle.std.specs.Prelude.{◌≡◌, IfSome, map, string_bytes, ◌≤
 ghost use Rattle.flow_net.specs.declared.votes.TheConstants.{WEIGHT_LIMIT};
 ghost use Rattle.mesh_form.specs.Received.{IsFresh};
 ghost use Rattle.scan.specs.Views.{shown_of};
+ghost use Rattle.command_run.specs.declared.status.Status.TheVariants.{Refused};
 ghost use Rattle.recon_cmd.specs.Sweep.{FitsForms, sweep_asked, sweep_words_of, entries_of, sweep_behind, SweepOutcome, SweepHandOut, sweep_line};
-ghost use Rattle.recon_cmd.specs.declared.status.Status.TheVariants.{Refused};
 
-use crate::NoMemory;
-use crate::lines::push_labelled;
-use crate::names::{NamesAndOptions, is_name, named};
+use crate::names::{NamesAndOptions, named};
 use crate::options::{Key, Options, number_in};
-use crate::reply::Stop;
-use crate::status::Status;
-use crate::whole_run::{Reading, conclude, read_input, write_forms};
+use crate::whole_run::{Reading, read_input, write_forms};
+use command_run::{NoMemory, Status, Stop, conclude, is_name, push_labelled};
 use flow_net::{Settings, WEIGHT_LIMIT};
 use host::{Host, Stage, Watch};
 use mesh_form::Form;

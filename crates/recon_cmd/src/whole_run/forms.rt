@@ -2,10 +2,10 @@
 ghost use Rattle.std.specs.List.{zip};
 ghost use Rattle.std.specs.Prelude.{◌≡◌, false, length, map, string_bytes, All};
 ghost use Rattle.mesh_form.specs.declared.stage.Stage.TheVariants.{Ended};
-ghost use Rattle.recon_cmd.specs.Steps.{CarriesOut};
-ghost use Rattle.recon_cmd.specs.declared.status.Status.TheVariants.{Done};
+ghost use Rattle.command_run.specs.Steps.{CarriesOut};
+ghost use Rattle.command_run.specs.declared.status.Status.TheVariants.{Done};
 
-use crate::status::Status;
+use command_run::Status;
 use host::{Host, say_all, write_file};
 use mesh_form::Form;
 

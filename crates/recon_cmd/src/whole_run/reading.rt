@@ -1,19 +1,16 @@
 //! Reads the input scan of a command. Depends on `scan`, which parses the bytes of a file.
-ghost use Rattle.std.specs.Prelude.{ℕ, ◌≡◌, false, IfOk, IfSome, ◌≤◌, length};
+ghost use Rattle.std.specs.Prelude.{◌≡◌, false, IfOk, IfSome};
 ghost use Rattle.host.specs.Whole.{OnlyReads};
+ghost use Rattle.command_run.specs.Steps.{CountsFaults};
 ghost use Rattle.recon_cmd.specs.OptionViews.{options_view};
-ghost use Rattle.recon_cmd.specs.Steps.{IsReading, CountsFaults, IsUnderstood};
+ghost use Rattle.recon_cmd.specs.Steps.{IsReading, IsUnderstood};
 
-use crate::NoMemory;
 use crate::lines::{line_of_refusal, line_of_too_long_scan};
 use crate::options::Options;
-use crate::reply::{Line, Stop};
+use command_run::{Line, NoMemory, Stop};
 use host::{Host, ReadRefusal, read_all};
 use scan::{Scan, read_scan};
 use std::alloc::Global;
-
-/// The maximal size of an input file in bytes.
-pub const FILE_LIMIT: u64 = 4_294_967_296;
 
 /// The result of reading a scan.
 #[derive(Drop)]
@@ -51,7 +48,7 @@ pub fn read_input<H: Host>(
 
 /// Parses the bytes of a scan's file.
 fn understand_scan(alloc: Global, bytes: Vec<u8>, options: &Options) -> Result<Reading, NoMemory>
-    ensures { (limit : ℕ) → length bytes.items ≤ limit → IfOk result (IsUnderstood limit bytes.items (options_view options.now)) }
+    ensures { IfOk result (IsUnderstood bytes.items (options_view options.now)) }
 {
     match read_scan(alloc, &bytes, options.unit, options.fixed) {
         Ok(scan) => Ok(Reading::Scan(scan, bytes)),

@@ -1,7 +1,7 @@
 use Rattle.std.proofs.Common.{◌≡◌, map, string_bytes}
+use Rattle.command_run.specs.Status.{code_of}
+use Rattle.command_run.specs.declared.status.Status.{Status}
 use Rattle.recon_cmd.specs.Commands.{Outcome, command_of}
-use Rattle.recon_cmd.specs.Status.{code_of}
-use Rattle.recon_cmd.specs.declared.status.Status.{Status}
 use Rattle.recon_cmd.proofs.SweepWordLemmas.{no_form_export, no_form_sweep}
 use Rattle.recon_cmd.proofs.whole_run.run.Goals as goal
 

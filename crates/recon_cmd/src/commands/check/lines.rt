@@ -4,12 +4,11 @@ ghost use Rattle.std.specs.Fmt.{signed_decimal};
 ghost use Rattle.std.specs.Prelude.{◌≡◌, IfOk, codes, ◌++◌, OnOk, Some};
 ghost use Rattle.geo_sign.specs.Point.{point};
 ghost use Rattle.scan.specs.PlainForm.{spaced};
+ghost use Rattle.command_run.specs.Lines.{labelled};
 ghost use Rattle.recon_cmd.specs.Check.{yes_line, reason_line, digests_line, amounts_line, scanners_line, scanner_text, which_word, line_with_numbers};
-ghost use Rattle.recon_cmd.specs.Lines.{labelled};
 
-use crate::NoMemory;
-use crate::lines::{line_of_number, line_of_text, push_labelled};
 use cert_text::digits_of;
+use command_run::{NoMemory, line_of_number, line_of_text, push_labelled};
 use geo_sign::Point;
 use num_text::{push_natural, push_whole};
 use recon_check::{Reason, Which};

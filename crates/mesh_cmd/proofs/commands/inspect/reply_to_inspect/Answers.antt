@@ -1,9 +1,8 @@
-use Rattle.std.proofs.Common.{IfSome, subst, sym, ap}
-use Rattle.command_run.specs.Answers.{Answer, MayEnd, mesh_task}
-use Rattle.command_run.specs.Steps.{IsAnswered, IsMeshReading}
+use Rattle.std.proofs.Common.{IfSome, inl, subst, ap}
+use Rattle.command_run.specs.Answers.{Answer}
+use Rattle.command_run.specs.Steps.{IsMeshReading}
 use Rattle.command_run.specs.declared.meshes.MeshReading.{MeshReading}
 use Rattle.command_run.specs.declared.meshes.TheConstants.{FILE_LIMIT}
-use Rattle.command_run.specs.declared.status.Status.{Status}
 use Rattle.command_run.proofs.MeshReplies.{mesh_answered, mesh_refused}
 use Rattle.mesh_cmd.specs.Inspect.{IsInspection}
 use Rattle.mesh_cmd.proofs.commands.inspect.reply_to_inspect.Goals as goal
@@ -11,11 +10,9 @@ use Rattle.mesh_cmd.proofs.commands.inspect.reply_to_inspect.Goals as goal
 pub returns-in_ok-reply_to_measured-in-Mesh-clause-replied : goal.returns-in_ok-reply_to_measured-in-Mesh-clause-replied
 returns-in_ok-reply_to_measured-in-Mesh-clause-replied g c =
     let name = c.args.words.now.mesh.now in
-    let status = ap (λ (a : Answer). a.status) c.in_ok-reply_to_measured-in-Mesh.ensures.is in
     mesh_answered ⊥ FILE_LIMIT name IsInspection c.in-Mesh.mesh c.in_ok-reply_to_measured-in-Mesh.field-0
-    (g.H.Host.state c.args.host.now)
-    (subst (λ (s : Status). MayEnd (mesh_task ⊥ FILE_LIMIT name IsInspection) s) (sym status) tt)
-    (subst IsAnswered (sym status) tt) c.in_ok-reply_to_measured-in-Mesh.ensures
+    (g.H.Host.state c.args.host.now) (inl (ap (λ (a : Answer). a.status) c.in_ok-reply_to_measured-in-Mesh.ensures.is))
+    c.in_ok-reply_to_measured-in-Mesh.ensures
     (subst (λ (reading : MeshReading). IfSome (g.H.Host.state c.args.host.now).told (IsMeshReading FILE_LIMIT name reading))
     c.in-Mesh.is c.in_ok-mesh.ensures.read)
 

@@ -1,10 +1,10 @@
 use Rattle.std.proofs.Common.{◌≡◌, refl, ap, ◌∙◌, Bool, List, [], ◌∷◌, ◌++◌, length, count_by}
 use Rattle.scan.specs.Views.{shown_of}
 use Rattle.solution.specs.Scans.{points_of}
+use Rattle.command_run.specs.Replies.{texts_of}
+use Rattle.command_run.specs.declared.reply.Text.{Text}
 use Rattle.recon_cmd.specs.OptionViews.{options_view}
 use Rattle.recon_cmd.specs.Ask.{ask_line, labels_text}
-use Rattle.recon_cmd.specs.Replies.{texts_of}
-use Rattle.recon_cmd.specs.declared.reply.Text.{Text}
 use Rattle.recon_cmd.proofs.AskReplies.{labels_written}
 use Rattle.recon_cmd.proofs.commands.ask.reply_to_queries.Goals as goal
 

@@ -1,20 +1,24 @@
-use Rattle.std.proofs.Common.{IfSome, subst}
+use Rattle.std.proofs.Common.{IfSome, Ok, ap, subst}
+use Rattle.scan.specs.Views.{shown_of}
+use Rattle.command_run.specs.Answers.{Answer}
+use Rattle.command_run.specs.declared.status.Status.TheVariants.{Done}
+use Rattle.recon_cmd.specs.Answers.{scan_within}
 use Rattle.recon_cmd.specs.Build.{WritesSurface, build_task, build_names}
 use Rattle.recon_cmd.specs.OptionViews.{options_view}
-use Rattle.recon_cmd.specs.Steps.{IsReading}
-use Rattle.recon_cmd.specs.declared.whole_run.reading.Reading.{Reading}
-use Rattle.recon_cmd.specs.Words.{SurfaceNames}
 use Rattle.recon_cmd.specs.Options.{Options}
-use Rattle.recon_cmd.proofs.ScanReplies.{build_scan, refused_reply, scan_reply}
+use Rattle.recon_cmd.specs.Steps.{IsReading}
+use Rattle.recon_cmd.specs.Words.{SurfaceNames}
+use Rattle.recon_cmd.specs.declared.whole_run.reading.Reading.{Reading}
+use Rattle.recon_cmd.proofs.FileReplies.{reply_rejects, reply_to_found}
 use Rattle.recon_cmd.proofs.commands.build.reply_to_build.Goals as goal
 
 pub returns-in_ok-reply_to_scan-in-Scan-clause-replied : goal.returns-in_ok-reply_to_scan-in-Scan-clause-replied
 returns-in_ok-reply_to_scan-in-Scan-clause-replied g c =
     let names : SurfaceNames = build_names c.args.names.now in
     let options : Options = options_view c.args.options.now in
-    scan_reply c.args.limit (build_task names options) names.input options (WritesSurface names options)
-    (build_scan c.args.limit names options) c.in-Scan.scan
-    c.in-Scan.bytes c.in_ok-reply_to_scan-in-Scan.field-0 (g.H.Host.state c.args.host.now)
+    reply_to_found (build_task names options) 1 names.input (scan_within c.args.limit options) (WritesSurface names options)
+    c.in-Scan.bytes.items (Ok (shown_of c.in-Scan.scan)) Done c.in_ok-reply_to_scan-in-Scan.field-0
+    (g.H.Host.state c.args.host.now) (ap (λ (a : Answer). a.status) c.in_ok-reply_to_scan-in-Scan.ensures.is) tt tt
     c.in_ok-reply_to_scan-in-Scan.ensures
     (subst (λ (reading : Reading).
     IfSome (g.H.Host.state c.args.host.now).told (IsReading c.args.limit names.input options reading))
@@ -24,10 +28,8 @@ pub returns-in-Refused-clause-replied : goal.returns-in-Refused-clause-replied
 returns-in-Refused-clause-replied g c =
     let names : SurfaceNames = build_names c.args.names.now in
     let options : Options = options_view c.args.options.now in
-    refused_reply c.args.limit (build_task names options) names.input options (WritesSurface names options)
-    (build_scan c.args.limit names options)
-    c.in-Refused.line c.refusal.result (g.H.Host.state c.args.host.now)
-    (c.refusal.ensures 1)
+    reply_rejects (build_task names options) 1 names.input (scan_within c.args.limit options) (λ _. WritesSurface names options) _
+    c.invalid_input.result (g.H.Host.state c.args.host.now) tt (c.invalid_input.ensures 1)
     (subst (λ (reading : Reading).
     IfSome (g.H.Host.state c.args.host.now).told (IsReading c.args.limit names.input options reading))
     c.in-Refused.is c.in_ok-scan.ensures.read)

@@ -6,9 +6,9 @@ use Rattle.scan.proofs.ShownLemmas.{scan_is_shown}
 use Rattle.scan.specs.Views.{shown_of}
 use Rattle.solution.specs.Scans.{points_of}
 use Rattle.merge.specs.Merging.{distinct_points}
+use Rattle.command_run.specs.Replies.{texts_of}
+use Rattle.command_run.specs.declared.reply.Text.{Text}
 use Rattle.recon_cmd.specs.Cells.{cells_line, cells_text}
-use Rattle.recon_cmd.specs.Replies.{texts_of}
-use Rattle.recon_cmd.specs.declared.reply.Text.{Text}
 use Rattle.recon_cmd.proofs.ScanReplies.{celled}
 use Rattle.recon_cmd.proofs.commands.cells.reply_to_scan.Goals as goal
 

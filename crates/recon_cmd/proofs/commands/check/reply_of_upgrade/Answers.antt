@@ -1,7 +1,7 @@
 use Rattle.std.proofs.Common.{◌≡◌, ap, ◌∙◌, ◌++◌, List, [], ◌∷◌}
 use Rattle.cert_text.specs.Certificates.{stamp_view}
-use Rattle.recon_cmd.specs.Replies.{texts_of}
-use Rattle.recon_cmd.specs.declared.reply.Text.{Text}
+use Rattle.command_run.specs.Replies.{texts_of}
+use Rattle.command_run.specs.declared.reply.Text.{Text}
 use Rattle.recon_cmd.proofs.CheckReplies.{upgraded}
 use Rattle.recon_cmd.proofs.commands.check.reply_of_upgrade.Goals as goal
 

@@ -1,9 +1,9 @@
 use Rattle.std.proofs.Common.{ap, ◌∙◌, ℕ, List, [], Option, Bor}
 use Rattle.std.specs.Option.{option_map}
 use Rattle.cert_text.specs.Certificates.{stamp_view}
-use Rattle.recon_cmd.specs.Answers.{Answer}
-use Rattle.recon_cmd.specs.declared.status.Status.{Status}
-use Rattle.recon_cmd.specs.declared.status.Status.TheVariants.{Done, No}
+use Rattle.command_run.specs.Answers.{Answer}
+use Rattle.command_run.specs.declared.status.Status.{Status}
+use Rattle.command_run.specs.declared.status.Status.TheVariants.{Done, No}
 use Rattle.recon_cmd.proofs.CheckReplies.{no_said, yes_said, result_written}
 use Rattle.recon_cmd.proofs.commands.check.reply_to_verdict.Goals as goal
 

@@ -1,7 +1,7 @@
 use Rattle.std.proofs.Common.{IfSome, subst}
+use Rattle.command_run.specs.Steps.{IsMeshReading}
+use Rattle.command_run.specs.declared.meshes.MeshReading.{MeshReading}
 use Rattle.recon_cmd.specs.Export.{export_names}
-use Rattle.recon_cmd.specs.Steps.{IsMeshReading}
-use Rattle.recon_cmd.specs.declared.whole_run.meshes.MeshReading.{MeshReading}
 use Rattle.recon_cmd.proofs.ExportReplies.{exported}
 use Rattle.recon_cmd.proofs.RefusedForms.{handed_not_refused}
 use Rattle.recon_cmd.proofs.commands.export.export_mesh.Goals as goal

@@ -1,6 +1,6 @@
 use Rattle.std.proofs.Common.{map, string_bytes, take}
 use Rattle.std.specs.List.{zip}
-use Rattle.recon_cmd.specs.Steps.{IsWritten}
+use Rattle.command_run.specs.Steps.{IsWritten}
 use Rattle.recon_cmd.proofs.whole_run.forms.write_forms.Given as goal
 
 abbrev pub invariant-loop-k : goal.invariant-loop-k

@@ -1,6 +1,6 @@
 use Rattle.std.proofs.Common.{rules}
+use Rattle.command_run.specs.declared.reply.Line.TheVariants.{Fixed}
 use Rattle.recon_cmd.specs.OptionViews.{options_view}
-use Rattle.recon_cmd.specs.declared.reply.Line.TheVariants.{Fixed}
 use Rattle.recon_cmd.proofs.Readings.{read_long, read_whole}
 use Rattle.recon_cmd.proofs.whole_run.reading.read_input.Goals as goal
 
@@ -14,5 +14,5 @@ returns-in-Err-TooLong-clause-read g c =
 pub returns-clause-read : goal.returns-clause-read
 returns-clause-read g c =
     read_whole c.args.limit c.args.name.now (options_view c.args.options.now) c.in-Ok.bytes.items
-    c.in_ok-understand_scan.field-0 (g.H.Host.state c.args.host.now).told c.in-Ok.ensures.bytes
-    (c.in_ok-understand_scan.ensures c.args.limit c.in-Ok.ensures.within)
+    c.in_ok-understand_scan.field-0 (g.H.Host.state c.args.host.now).told c.in-Ok.ensures.within c.in-Ok.ensures.bytes
+    c.in_ok-understand_scan.ensures

@@ -1,7 +1,0 @@
-use Rattle.std.proofs.Common.{◌≡◌, map, string_bytes, drop}
-use Rattle.recon_cmd.specs.Words.{is_other}
-use Rattle.recon_cmd.proofs.names.is_none_of.Given as goal
-
-abbrev pub invariant-loop-other : goal.invariant-loop-other
-invariant-loop-other l =
-    is_other l.name (map string_bytes (drop l.other-index l.others)) ≡ is_other l.name (map string_bytes l.others)
