@@ -6,7 +6,7 @@
   RECON          the built program
   FOLDER         where the clouds are unpacked, and the meshes are written
   only=PART      clouds with this in their name alone
-  seconds=N      how long finishing one of them may take (--patience; default: 2, so large meshes are not smoothed)
+  seconds=N      how long smoothing one of them may take (--patience; default: 120)
 
 Each row: points, how lines of sight are known, the spacing, the noise in spacings, unit, area weight, lone points, pieces that were kept,
 visibility weight against a sight, and the part of the area that no scanner saw; or the error. The last line counts the clouds that came out.
@@ -79,7 +79,7 @@ def work(names: Sequence[str], options: Any) -> str:
     made = total = 0
     for path in clouds(folder):
         if options.only is None or options.only in path.name:
-            row, is_made = row_of(path, recon, folder, options.seconds or '2')
+            row, is_made = row_of(path, recon, folder, options.seconds or '120')
             print(row, flush=True)
             made, total = made + is_made, total + 1
     return f'{made} of {total} clouds came out'

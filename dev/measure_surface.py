@@ -29,9 +29,9 @@ if __name__ == '__main__':
     begun(__doc__, 'numpy')
 import numpy as np  # noqa: E402
 
+import triangles
 from objects import Camera, Surface, draw_places, joined, read_object, vectors_across
 from recon.make_scan import shape_of
-from recon.toolbox import half_edges, triangles
 from recon.toolbox.ply_text import IS_NUMBER, Property, Refusal, Writer, whole_file
 from recon.toolbox.tool import run, yes
 
@@ -112,7 +112,8 @@ def told(values: np.ndarray) -> str:
 def edges_of(faces: np.ndarray) -> tuple[int, int, np.ndarray, np.ndarray]:
     """Returns how many edges are open, how many have more than two faces, and pairs of faces with a common edge of two."""
     corners = faces.ravel()
-    keys = half_edges.edge_keys(corners, corners.max() + 1)
+    ends = np.roll(faces, -1, axis=1).ravel()
+    keys = np.minimum(corners, ends) * (corners.max() + 1) + np.maximum(corners, ends)
     order = np.argsort(keys, kind='stable')
     starts = np.flatnonzero(np.r_[True, np.diff(keys[order]) != 0])
     counts = np.diff(np.r_[starts, len(keys)])

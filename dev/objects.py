@@ -8,8 +8,8 @@ from __future__ import annotations
 import numpy as np
 
 import tools_path  # noqa: F401
-from recon.toolbox.triangles import Grid, boxes_of
 from recon.toolbox.ply_text import Reader, Refusal
+from triangles import Grid, boxes_of
 
 FINE = 1 << 20
 VIEW = 1200

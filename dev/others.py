@@ -13,7 +13,8 @@ CGAL makes the Delaunay tetrahedra alone, COLMAP a surface from the same lines o
 Open3D surfaces from points with normals of 16 neighbors that are turned to the true scanner: screened Poisson at depth 9, whose hundredth
 part with the least density is cut off, and ball pivoting with radii of 2, 4 and 8 spacings. What is not installed is named and left out (Debian:
 libcgal-dev, colmap, python3-open3d). Seconds are of the processor, the peak is the largest resident memory. Distances, mean / 95 of 100 /
-greatest, and edges are those of `dev/measure_surface.py compare`, in thousandths of the object's diagonal. Needs numpy.
+greatest, open edges and the mean angle between faces in degrees are those of `dev/measure_surface.py compare`, in thousandths of the object's
+diagonal. Smoothed is in three steps, within twice the noise. Needs numpy.
 """
 from __future__ import annotations
 
@@ -119,17 +120,19 @@ class Row(NamedTuple):
     mesh: Optional[str]
 
 
-def of_recon(recon: str, scan: Scan) -> list[Row]:
+def of_recon(recon: str, scan: Scan, noise: float) -> list[Row]:
     mesh, cert = scan.base + '.recon', scan.base + '.cert'
     cost = ran(recon, 'build', scan.scan, mesh, cert, 'unit=1000')
     if cost is None:
         return []
-    built, finished = scan.base + '.built.ply', scan.base + '.finished.ply'
+    built = scan.base + '.built.ply'
     ran(*tool('mesh_to_floats'), mesh, built, 'unit=1000')
-    finish = ran(*tool('finish'), mesh, finished, 'unit=1000', 'pieces=1')
     rows = [Row('recon, as built', cost, built)]
-    if finish is not None:
-        rows.append(Row('recon, finished', Cost(cost.seconds + finish.seconds, max(cost.megabytes, finish.megabytes), ''), finished))
+    for name, options in (('finished', []), ('smoothed', ['smooth=3', f'within={2000 * noise!r}'])):
+        path = f'{scan.base}.{name}.ply'
+        finish = ran(*tool('finish'), mesh, path, 'unit=1000', 'pieces=1', *options)
+        if finish is not None:
+            rows.append(Row(f'recon, {name}', Cost(cost.seconds + finish.seconds, max(cost.megabytes, finish.megabytes), ''), path))
     return rows
 
 
@@ -185,13 +188,13 @@ def of_open3d(scan: Scan) -> list[Row]:
 
 
 def measured(scan: Scan, rows: Sequence[Row]) -> dict[str, list[str]]:
-    """Returns what measure_surface.py says of each mesh, by its path: distances there and back, open edges."""
+    """Returns what measure_surface.py says of each mesh, by its path: distances there and back, open edges, and the angle."""
     meshes = [row.mesh for row in rows if row.mesh]
     said = subprocess.run([PYTHON, MEASURE, 'compare', scan.object, *meshes], capture_output=True, text=True)
     if said.returncode != 0:
         print(said.stderr.strip(), file=sys.stderr)
     cells = [line.split(' | ') for line in said.stdout.splitlines() if line.count(' | ') >= 8]
-    return {mesh: cell[1:4] for mesh, cell in zip(meshes, cells[-len(meshes):])}
+    return {mesh: [*cell[1:4], cell[6]] for mesh, cell in zip(meshes, cells[-len(meshes):])}
 
 
 def main() -> int:
@@ -207,14 +210,14 @@ def main() -> int:
     objects = options['objects'].split(',') if options['objects'] else [os.path.join(folder, 'room.off')]
     if not options['objects']:
         subprocess.run([PYTHON, MEASURE, 'room', objects[0]], check=True, stdout=subprocess.DEVNULL)
-    print('| scan | program | s | peak MB | to the object | from the object | open edges |\n|---|---|---|---|---|---|---|', flush=True)
+    print('| scan | program | s | peak MB | to the object | from the object | open edges | angle |\n|' + '---|' * 8, flush=True)
     for path in objects:
         scan = Scan(folder, path, options['points'], options['noise'])
-        rows = of_recon(os.path.abspath(recon), scan) + of_cgal(folder, scan) + of_colmap(scan) + of_open3d(scan)
+        rows = of_recon(os.path.abspath(recon), scan, float(options['noise'])) + of_cgal(folder, scan) + of_colmap(scan) + of_open3d(scan)
         figures = measured(scan, rows)
         for row in rows:
-            cells = figures.get(row.mesh or '', ['', '', ''])
-            print(f'| {scan.name} {len(scan.rows):,} | {row.program} | {row.cost.seconds:.1f} | {row.cost.megabytes} | {" | ".join(cells)} |', flush=True)
+            cells = figures.get(row.mesh or '', [''] * 4)
+            print(f'| {scan.name} {len(scan.rows):,}, {1000 * float(options["noise"]):g} | {row.program} | {row.cost.seconds:.1f} | {row.cost.megabytes} | {" | ".join(cells)} |', flush=True)
     return 0
 
 

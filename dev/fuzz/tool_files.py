@@ -1,6 +1,7 @@
 """Small good files of every kind that the Python tools read, to be spoiled."""
 from __future__ import annotations
 
+import math
 import struct
 from typing import NamedTuple, Sequence
 
@@ -149,12 +150,50 @@ def scan_jobs() -> list[Job]:
           for name, images in (('in', 'i.bin'), ('in.vis', 'i.bin'), ('i.bin', 'i.bin'), ('i.txt', 'i.txt')))]
 
 
+def sphere() -> list[tuple[float, float, float]]:
+    """Returns 150 points of a sphere of radius 2, in no order of space."""
+    found = []
+    for k in range(150):
+        z, turn = 1 - (2 * k + 1) / 150, 2.4 * k
+        ring = (1 - z * z) ** 0.5
+        found.append((round(2 * ring * math.cos(turn), 4), round(2 * ring * math.sin(turn), 4), round(2 * z, 4)))
+    return found
+
+
+def surface_jobs() -> list[Job]:
+    """Scans of a sphere in all forms that `recon-surface` reads, and ground."""
+    points = sphere()
+    more = 'element scanner 2\nproperty float x\nproperty float y\nproperty float z\n'
+    scanned = [(*p, k, 200, 9, 1 + k % 3, int(p[2] > 0)) for k, p in enumerate(points)]
+    columns = 'x uchar red uchar green uchar blue int weight int scanner'.replace('x ', 'float x double y float z ', 1)
+    places = b'0 0 -9\n0.5 1e1 9\n'
+    little = ply('<', columns, scanned, more) + struct.pack('<6f', 0, 0, -9, 0.5, 10, 9)
+    listed = ''.join('%r %r %r 7\n' % p for p in points).encode()
+    normals = ''.join('%r %r %r %r %r %r\n' % (*p, *(x / 2 for x in p)) for p in points).encode()
+    ground = ply('<', 'double x double y double z', [(548900 + k % 20, 4177000 + k // 20, 30 + k * 7 % 5 / 10) for k in range(400)])
+    ptx = '\n'.join(['150', '1', '9 9 9', '1 0 0', '0 1 0', '0 0 1', '1 0 0 0', '0 1 0 0', '0 0 1 0', '9 9 9 1',
+                     *('%r %r %r 0.5' % p for p in points), '']).encode()
+    head = 'VERSION 0.7\nFIELDS x y z vp_x vp_y vp_z\nSIZE 4 4 4 4 4 4\nTYPE F F F F F F\nCOUNT 1 1 1 1 1 1\nWIDTH 150\nHEIGHT 1\nPOINTS 150\nDATA '
+    seen = [(*p, 0.0, 0.0, 9.0 if p[2] > 0 else -9.0) for p in points]
+    pcds = {'ascii': '\n'.join(' '.join(map(repr, row)) for row in seen).encode() + b'\n', 'binary': b''.join(struct.pack('<6f', *row) for row in seen)}
+    out = ['-q', '-o', 'out.ply']
+    found = [Job('text PLY', 'surface', ['in', *out], {'in': ply('', columns, scanned, more) + places}, 'in'),
+             Job('binary PLY', 'surface', ['in', *out], {'in': little}, 'in', False),
+             Job('list', 'surface', ['in=0,0,9', *out], {'in': listed}, 'in'), Job('list without a position', 'surface', ['in', *out], {'in': listed}, 'in'),
+             Job('list with normals', 'surface', ['in', *out], {'in': normals}, 'in'), Job('ground', 'surface', ['in', *out], {'in': ground}, 'in', False),
+             Job('PLY with normals', 'surface', ['in', *out, '--normals'], {'in': ply('<', 'float x float y float z float nx float ny float nz',
+                 [(*p, *p) for p in points])}, 'in', False),
+             Job('PTX', 'surface', ['in', *out], {'in': ptx}, 'in')]
+    found += [Job(f'PCD {kind}', 'surface', ['in', *out], {'in': (head + kind + '\n').encode() + body}, 'in', kind == 'ascii') for kind, body in pcds.items()]
+    return [job for job in found for _ in range(2)]
+
+
 def jobs() -> list[Job]:
     scan = colored_scan()
     mesh = texts_of(scan, [])[0]
     finishing: tuple[tuple[str, list[str]], ...] = (('out.ply', []), ('out.stl', ['unit=10']), ('out.glb', ['pieces=1', 'origin=1,2,3']), ('out.ply', ['smooth=2', 'within=3']),
                  ('out.ply', ['manifold=yes', 'flips=no']))
-    return scan_jobs() + [Job('mesh', 'finish', ['in', out, *more], {'in': mesh}, 'in') for out, more in finishing] + [
+    return scan_jobs() + surface_jobs() + [Job('mesh', 'finish', ['in', out, *more], {'in': mesh}, 'in') for out, more in finishing] + [
         Job('scan', 'finish', ['in', 'out.ply', 'scan=s'], {'in': mesh, 's': scan}, 's'),
         Job('mesh', 'mesh_to_floats', ['in', 'out', 'unit=1000', 'origin=0.5,1e3,-2'], {'in': mesh}, 'in'),
         Job('slice', 'contours', ['in', 'out.svg', 'unit=1000'], {'in': SLICE}, 'in'),

@@ -25,7 +25,7 @@ from .tally import Context, Tally
 from .tool_files import Job, bombs, jobs
 
 TOOLS = os.path.join(os.path.dirname(os.path.dirname(os.path.dirname(os.path.abspath(__file__)))), 'tools')
-NAMES = ['scan', 'finish', 'mesh_to_floats', 'contours', 'grid', 'tiles', 'make_scan']
+NAMES = ['scan', 'surface', 'finish', 'mesh_to_floats', 'contours', 'grid', 'tiles', 'make_scan']
 MOST_SECONDS, MOST_WALL, MOST_MEMORY = 10, 300, 1536 << 20       # of the processor, by the clock, bytes
 OUT_OF_MEMORY = 99
 OUTPUTS = ['out', 'out.ply', 'out.stl', 'out.glb', 'out.svg', 'out.csv']
@@ -39,12 +39,15 @@ VALUES = ['0', '1', '-1', '1e999999', '1e-999999', 'nan', 'inf', '', '1,2', '1,2
           '0.1', '1e-300', ' 1', 'in', 'out', 't', '1000001', '\udcff', '2', '-0', '4294967296', '1e5000,1,1', '--help']
 KEYS = ['index', 'positions', 'position', 'table', 'normals', 'far', 'images', 'from', 'to', 'side', 'origin', 'surround', 'open_end', 'outside', 'unit',
         'pieces', 'by', 'flips', 'smooth', 'within', 'manifold', 'scan', 'points', 'through', 'overlap', 'vote', 'fill', 'scale', 'noise', 'stray']
+SURFACE_KEYS = ['scanner', 'far', 'positions', 'index', 'table', 'images', 'position', 'flight', 'divide', 'origin', 'unit', 'side', 'max-points', 'surround',
+                'smooth', 'vote', 'pieces', 'steps', 'within', 'patience', 'sweep', 'keep']
+SURFACE_SWITCHES = ['normals', 'above', 'estimate-normals', 'tiles', 'no-clean', 'no-flips', 'no-check', 'force']
 
 
 class Tools:
     """The tools of the repository, loaded from a copy, so that nothing is written beside them."""
 
-    def __init__(self) -> None:
+    def __init__(self, recon: str) -> None:
         self.place = tempfile.mkdtemp(prefix='recon_fuzz_tools_')
         self.folder = os.path.join(self.place, 'tools')
         shutil.copytree(TOOLS, self.folder, ignore=shutil.ignore_patterns('__pycache__', 'tests'))
@@ -54,6 +57,7 @@ class Tools:
             path = os.path.join(os.path.dirname(TOOLS), place)
             if os.access(path, os.X_OK):
                 os.environ.setdefault('RECON_MESH', path)
+        os.environ['RECON'] = recon
         self.is_package = os.path.exists(os.path.join(self.folder, 'recon', '__main__.py'))
         package = 'recon.toolbox' if self.is_package else 'toolbox'
         folder = os.path.join(self.folder, *package.split('.'))
@@ -118,11 +122,13 @@ def spoiled(draw: random.Random, data: bytes, is_text: bool) -> bytes:
     return b'\n'.join(rows[:k] + [rows[k]] * draw.choice([0, 2, 3]) + rows[k + 1:])
 
 
-def other_words(draw: random.Random, words: Sequence[str]) -> list[str]:
-    found = list(words)
+def other_words(draw: random.Random, job: Job) -> list[str]:
+    found = list(job.words)
     for _ in range(draw.choice([1, 1, 2])):
         at, how = draw.randrange(len(found) + 1), draw.random()
-        if how < 0.7:
+        if how < 0.7 and job.tool == 'surface':
+            found += draw.choice([[f'--{draw.choice(SURFACE_KEYS)}={draw.choice(VALUES)}'], ['--' + draw.choice(SURFACE_SWITCHES)]])
+        elif how < 0.7:
             found.append(f'{draw.choice(KEYS)}={draw.choice(VALUES)}')
         else:
             found[at:at + draw.randrange(2)] = draw.choice([[], [draw.choice(VALUES)]])
@@ -135,20 +141,23 @@ def wrong_in(job: Job, done: Done, before: Files, after: Files) -> Optional[tupl
         return None if done.status == 0 and done.out and after == before else ('help', str(done))
     if done.status in (OUT_OF_MEMORY, None, -signal.SIGXCPU) or done.seconds > MOST_SECONDS:
         return 'memory' if done.status == OUT_OF_MEMORY else 'time', f'{done}; {sum(map(len, before.values()))} bytes of files, {done.seconds:.1f} s'
-    if b'Traceback' in done.err or done.status not in (0, 1, 2, 3):
+    is_surface = job.tool == 'surface'
+    if b'Traceback' in done.err or done.status not in ((0, 1, 2, 3, 4) if is_surface else (0, 1, 2, 3)):
         return 'traceback', done.err.decode('utf-8', 'replace')[-400:] or str(done)
-    if done.status in (1, 2):
+    if done.status in (1, 2) or is_surface and done.status == 3:
         changed = [name for name in set(after) | set(before) if after.get(name) != before.get(name)]
-        if changed or done.out or done.err.count(b'\n') != 1:
+        # argparse prints the usage before its line, and without -q the progress is before it
+        lines = done.err.splitlines()[-1:] if is_surface and (done.status == 2 or '-q' not in job.words) else done.err.splitlines()
+        if changed or done.out or len(lines) != 1:
             return 'error', f'changed {sorted(changed)[:5]}; {done}'
-    elif any(name.endswith('.part') for name in after) or done.err.startswith(b'Traceback'):
+    elif any(name.endswith('.part') or name.startswith('.recon-') for name in after) or b'Warning' in done.err:
         return 'files', f'{sorted(after)}; {done}'
     return None
 
 
 class Part:
     def __init__(self, context: Context, tally: Tally) -> None:
-        self.context, self.tally, self.draw, self.folder, self.tools = context, tally, context.draw, Folder(), Tools()
+        self.context, self.tally, self.draw, self.folder, self.tools = context, tally, context.draw, Folder(), Tools(context.recon)
 
     def judge(self, job: Job, how: str) -> Done:
         outputs = [name for name in OUTPUTS if name in job.words and job.tool != 'tiles']
@@ -180,7 +189,7 @@ class Part:
         todo = [job for job in jobs() if job.tool != 'finish' or 'RECON_MESH' in os.environ]
         for job in self.context.share(todo):
             done = self.judge(job, 'good')
-            if done.status not in (0, 3):
+            if done.status not in ((0, 3, 4) if job.tool == 'surface' else (0, 3)):
                 self.tally.fail(f'{job.tool}, {job.label}: a good file', [job.tool, *job.words], job.files, str(done))
         for job in self.context.share(bombs()):
             if not self.context.is_over():
@@ -193,7 +202,7 @@ class Part:
                     data = spoiled(self.draw, data, job.is_text)
                 self.judge(job._replace(files={**job.files, job.spoiled: data}), 'spoiled')
             else:
-                self.judge(job._replace(words=other_words(self.draw, job.words)), 'arguments')
+                self.judge(job._replace(words=other_words(self.draw, job)), 'arguments')
         shutil.rmtree(self.tools.place)
         self.folder.close()
 

@@ -9,7 +9,7 @@ import time
 from concurrent.futures import Future, ThreadPoolExecutor
 from pathlib import Path
 from types import TracebackType
-from typing import Optional, Type
+from typing import Any, Callable, Optional, Type
 
 from recon.library import Surface
 
@@ -27,9 +27,13 @@ class Beside:
     """A check and checksums that run beside what the block under `with` does, which does not end before they have."""
 
     def __init__(self, surface: Surface, is_checked: bool) -> None:
-        self.pool = ThreadPoolExecutor(2)
+        self.pool = ThreadPoolExecutor(3)
         self.check: Optional[Future[float]] = self.pool.submit(self.timed_check, surface) if is_checked else None
         self.sums = self.pool.submit(lambda: {name: digest(surface.folder / name) for name in surface.files()})
+
+    def start(self, work: Callable[..., None], *names: str, **given: Any) -> Future[None]:
+        """Starts something else beside what follows; its `result` waits for it, and raises what it raised."""
+        return self.pool.submit(work, *names, **given)
 
     @staticmethod
     def timed_check(surface: Surface) -> float:

@@ -1,7 +1,7 @@
 """What points say of themselves: how far they are apart, how noisy they are, and which origin and unit fit them.
 
-Names: spacing (distance and noise) · tree_of, neighbors (nearest points) · frame (origin and unit) · lone_points · surrounding (how much of the directions around a
-scanner has points) · thinning_side, thinned (one point a cube).
+Names: spacing (distance and noise) · tree_of (to find nearest points) · curve_of (an order in which near points are near each other) · frame (origin
+and unit) · lone_points · surrounding (how much of the directions around a scanner has points) · thinning_side, thinned (one point a cube).
 """
 from __future__ import annotations
 
@@ -11,6 +11,7 @@ import numpy as np
 from scipy.spatial import cKDTree
 
 from recon.program import Invalid
+from recon.toolbox.orders import curve_order
 
 LIMIT = 2_097_151
 MOST_UNIT = 1_000_000
@@ -18,6 +19,10 @@ SAMPLE = 4000
 NEAR = 6
 AROUND = 24
 DIRECTIONS = 200
+CURVE_BITS = 14
+REACH = 8
+CHUNK = 1 << 13
+BLOCK = 32
 
 
 class Spacing(NamedTuple):
@@ -91,34 +96,67 @@ def origin_for(low: np.ndarray, high: np.ndarray, unit: int) -> np.ndarray:
 
 
 def tree_of(points: np.ndarray) -> cKDTree:
-    """Returns the tree by which nearest points are found. It is not balanced, which takes a third longer to make."""
-    return cKDTree(points, balanced_tree=False)
+    """Returns the tree by which nearest points are found. It is not balanced, and its boxes are not shrunk, which takes twice as long to make."""
+    return cKDTree(points, balanced_tree=False, compact_nodes=False)
 
 
-def neighbors(points: np.ndarray, count: int, tree: cKDTree | None = None) -> tuple[np.ndarray, np.ndarray]:
-    """Returns the distances (n, count) and rows (n, count) of the nearest points of each point, itself the first. Points are asked for in the
-    order of the tree's leaves, so that near ones are in the cache, on all processors. `tree` is `tree_of(points)`, if it is known."""
-    tree = tree_of(points) if tree is None else tree
-    order = tree.indices
-    found = tree.query(points[order], count, workers=-1)
-    apart, near = np.empty((len(points), count)), np.empty((len(points), count), np.int64)
-    apart[order], near[order] = (part.reshape(len(points), count) for part in found)
-    return apart, np.minimum(near, len(points) - 1)
+def curve_of(points: np.ndarray) -> np.ndarray:
+    """Returns an order of the points along a curve, on which near ones are mostly near each other."""
+    some = points[::max(1, len(points) // SAMPLE)]
+    low, high = np.percentile(some, 1, axis=0), np.percentile(some, 99, axis=0)
+    side = max(float((high - low).max()), 1e-300)
+    with np.errstate(over='ignore'):
+        cells = np.clip((points - low) / side + 0.5, 0, 2) * (((1 << CURVE_BITS) - 1) / 2)
+    return curve_order(cells.astype(np.int32), CURVE_BITS)
 
 
-def lone_points(points: np.ndarray, factor: float = 4.0, tree: cKDTree | None = None) -> np.ndarray:
-    """Returns which points are more than `factor` times as far from their six nearest as the neighborhoods of their twelve nearest
-    are wide on the median. A point is looked at by twelve if one of its six nearest is that near to others."""
-    tree = tree_of(points) if tree is None else tree
-    apart, near = neighbors(points, min(NEAR + 1, len(points)), tree)
-    wide = apart[:, 1:].mean(axis=1)
-    least = wide[near[:, 1]]
-    for column in near.T[2:]:
-        np.minimum(least, wide[column], out=least)
-    rows = np.flatnonzero(wide > factor * least)
-    around = np.minimum(tree.query(points[rows], min(2 * NEAR + 1, len(points)))[1][:, 1:], len(points) - 1)
-    lone = np.zeros(len(points), bool)
-    lone[rows] = wide[rows] > factor * np.median(wide[around], axis=1)
+def curve_widths(points: np.ndarray) -> np.ndarray:
+    """Returns the mean distance of each point to the six nearest of the sixteen that are around it in their order. Along a curve that is a sixth more
+    than to the six nearest of all on the median, and never less."""
+    scale = max(float(np.abs(points).max()), 1e-300)
+    beyond = np.full((3, REACH), np.inf, np.float32)
+    columns = np.concatenate([beyond, (points / scale).T.astype(np.float32), beyond], axis=1)
+    widths = np.empty(len(points))
+    for start in range(0, len(points), CHUNK):
+        count = min(CHUNK, len(points) - start)
+        nearest = np.full((NEAR, count), np.inf, np.float32)
+        for step in (*range(REACH), *range(REACH + 1, 2 * REACH + 1)):
+            way = columns[:, start + step:start + step + count] - columns[:, start + REACH:start + REACH + count]
+            far = way[0] * way[0] + way[1] * way[1] + way[2] * way[2]
+            for least in nearest:
+                later = np.maximum(least, far)
+                np.minimum(least, far, out=least)
+                far = later
+        widths[start:start + count] = np.sqrt(nearest).mean(axis=0)
+    return widths * scale
+
+
+def medians(values: np.ndarray, count: int) -> np.ndarray:
+    """Returns the median of each `count` values that follow on each other, for each of them; of what is left at the end that of the ones before."""
+    whole = len(values) // count * count
+    if not whole:
+        return np.full(len(values), np.median(values))
+    usual = np.repeat(np.median(values[:whole].reshape(-1, count), axis=1), count)
+    return np.r_[usual, np.full(len(values) - whole, usual[-1])]
+
+
+def lone_points(points: np.ndarray, factor: float = 4.0, tree: cKDTree | None = None, order: np.ndarray | None = None) -> np.ndarray:
+    """Returns which points are more than `factor` times as far from their six nearest as the neighborhoods of their twelve nearest are wide on the
+    median, and as one of the six is. Nearest points are looked for where a point is half as much further from those around it on a curve than they
+    are from theirs, or most of a hundredth of the curve. `tree` is `tree_of(points)` and `order` is `curve_of(points)`, if they are known."""
+    tree, order = tree_of(points) if tree is None else tree, curve_of(points) if order is None else order
+    widths = np.empty(len(points))
+    widths[order] = along = curve_widths(points[order] - np.median(points[::max(1, len(points) // SAMPLE)], axis=0))
+    usual = factor / 2 * np.minimum(medians(along, BLOCK), medians(along, max(BLOCK, len(points) // 100)))
+    at = np.flatnonzero(~(along <= usual))
+    own = tree.query(points[order[at]], min(NEAR + 1, len(points)), workers=-1)[0][:, 1:].mean(axis=1)
+    is_wide = ~(own <= usual[at])
+    rows, own, lone = order[at[is_wide]], own[is_wide], np.zeros(len(points), bool)
+    if len(rows):
+        near = np.minimum(tree.query(points[rows], min(2 * NEAR + 1, len(points)), workers=-1)[1][:, 1:], len(points) - 1)
+        others = np.unique(near)
+        widths[others] = tree.query(points[others], min(NEAR + 1, len(points)), workers=-1)[0][:, 1:].mean(axis=1)
+        lone[rows] = own > factor * np.maximum(np.median(widths[near], axis=1), widths[near[:, :NEAR]].min(axis=1))
     return lone
 
 

@@ -12,17 +12,17 @@ components, with the colors of its points. The result is no longer the mesh that
   pieces=N           keep the N largest components, connected by edges (default: all)
   flips=no           do not flip edges (default: flip an edge if that reduces the angles between faces; no vertex moves, and no
                      two faces intersect that did not before)
-  smooth=N           smooth in N steps, each followed by flips (default: 0)
-  within=D           move no vertex farther than D, in coordinates of the scan; required with smooth=. Twice the noise is usual
+  smooth=N           smooth in N steps, at most 100, each followed by flips (default: 0)
+  within=D           move no vertex farther than D, in coordinates of the scan and rounded down to whole units of the mesh; required
+                     with smooth=. Twice the noise is usual
   manifold=yes       split vertices and edges at which sheets only touch, so that each edge has two faces
   seen=yes           also write OUT with -seen in its name: the mesh without faces that span space that no scanner saw, which have
                      an edge over 8 times the spacing at its corners. It is open. Faces of a PLY get the property `unseen`, 1 or 0
   scan=SCAN          copy colors and other properties of the scan to the vertices; of several points at one position those of the
                      first. STL stores none, GLB and OBJ store red, green and blue
 
-Each option may also be written as --unit 1000, --seen or --no-flips. The program `recon-mesh` keeps pieces, flips edges and splits
-vertices; it is searched beside this program, on the PATH, and in the variable RECON_MESH. A step of smoothing takes about ten seconds
-for 200,000 faces.
+Each option may also be written as --unit 1000, --seen or --no-flips. The program `recon-mesh` keeps pieces, splits vertices, flips
+edges and smooths; it is searched beside this program, on the PATH, and in the variable RECON_MESH.
 """
 from __future__ import annotations
 
@@ -33,24 +33,22 @@ import re
 import sys
 import tempfile
 import time
+from concurrent.futures import ThreadPoolExecutor
 from dataclasses import dataclass
+from decimal import Decimal
 from typing import Any, Callable, List, Optional, Sequence, Tuple
 
 import numpy as np
 
 from recon.library import rows_at
-from recon.mesh_program import Wanted, finish_mesh
-from recon.meshes import Mesh, unseen_faces
-from recon.toolbox.flips import flip_edges
-from recon.toolbox.half_edges import mean_angle, pair_edges
-from recon.toolbox.mesh_files import Column, Finished, form_of, read_mesh, write_mesh, write_whole
+from recon.mesh_program import Wanted, Whole, finish_mesh
+from recon.meshes import Mesh, mean_angle, unseen_faces
+from recon.toolbox.mesh_files import Column, Finished, form_of, read_mesh, write_mesh
 from recon.toolbox.ply_text import IS_NUMBER, Refusal
 from recon.toolbox.scan_rows import columns_of
-from recon.toolbox.smoothing import Smoother
 from recon.toolbox.tool import Report, number_of, run, three, whole, yes
 
-LONGEST = 1 << 22
-FINEST = 1 << 10
+MOST_STEPS, LONGEST = 100, 1 << 23
 KEYS = ('unit', 'origin', 'pieces', 'flips', 'smooth', 'within', 'manifold', 'seen', 'scan', 'cert')
 STAMP = re.compile(rb'recon certificate 2\nscan [0-9a-f]{64}\nunit ([0-9]{1,7})\n')
 
@@ -89,15 +87,25 @@ class Wishes:
     @classmethod
     def of(cls, options: Any) -> Wishes:
         """Reads the options of the command line."""
-        steps = whole(options.smooth or '0', 'smooth', 0, 1000)
+        steps = whole(options.smooth or '0', 'smooth', 0, MOST_STEPS)
         if (options.within is None) != (steps == 0):
             raise Refusal('smooth= and within= stand together: how many steps, and how far a vertex may go')
         if steps and not (IS_NUMBER(options.within) and 0 < float(options.within) < 1e30):
             raise Refusal('within= is a length over 0')
-        return cls(whole(options.unit or '1', 'unit', 1, 1000000), [float(word) for word in three(options.origin or '0,0,0', 'origin')],
+        wishes = cls(whole(options.unit or '1', 'unit', 1, 1000000), [float(word) for word in three(options.origin or '0,0,0', 'origin')],
                    whole(options.pieces, 'pieces', 1, 10 ** 9) if options.pieces else None,
                    options.flips is None or yes(options.flips, 'flips'), steps, float(options.within or 0),
                    yes(options.manifold, 'manifold'), yes(options.seen, 'seen'), options.scan)
+        if steps:
+            wishes.whole_within()
+        return wishes
+
+    def whole_within(self) -> int:
+        """How many whole units of the mesh a vertex may go. Raises `Refusal` if that is none."""
+        units = min(int(Decimal(repr(self.within)) * self.unit), LONGEST)
+        if not units:
+            raise Refusal(f'within={self.within:g} is under one unit of the mesh, which is {1 / self.unit:g}')
+        return units
 
 
 @dataclass
@@ -114,8 +122,6 @@ class FinishReport(Report):
     steps: int = 0
     mean_way: float = 0.0
     longest_way: float = 0.0
-    put_back: int = 0
-    flipped_later: int = 0
     angle_before: float = 0.0
     angle_after: float = 0.0
     columns: Optional[List[str]] = None
@@ -142,8 +148,7 @@ class FinishReport(Report):
             said.append('flipped edges by recon-mesh')
         if self.steps:
             said.append(f'smoothed in {number_of(self.steps, "step")}: vertices went {self.mean_way:.4g} on the mean and '
-                        f'{self.longest_way:.4g} at most, {self.put_back} were put back where faces crossed, and '
-                        f'{number_of(self.flipped_later, "edge")} more flipped')
+                        f'{self.longest_way:.4g} at most')
         said.append(f'the mean angle between neighboring faces went from {self.angle_before:.1f} to {self.angle_after:.1f} degrees')
         if self.columns is not None:
             said.append(f'brought back {", ".join(self.columns) or "nothing"} of the scan')
@@ -155,92 +160,68 @@ class FinishReport(Report):
 
 
 class Work:
-    """A mesh on its way, and the report of it. `recon-mesh` keeps pieces, splits vertices and flips edges, in files of a folder that goes
-    with the run."""
+    """A mesh on its way, and the report of it. `recon-mesh` does all that changes it, in files of a folder that goes with the run. `fine` is how
+    many units of `places` one unit of the mesh that was read has."""
 
     def __init__(self, name: str, wishes: Wishes, tell: Callable[[str], None], mesh: tuple[np.ndarray, np.ndarray] | None, folder: str) -> None:
-        self.path, self.wishes, self.tell, self.folder, self.fine = name, wishes, tell, folder, 1
-        self.places, self.corners = read_mesh(name) if mesh is None else mesh
+        self.path, self.wishes, self.tell, self.folder = name, wishes, tell, folder
+        self.places, self.corners, self.fine = Whole(*(read_mesh(name) if mesh is None else mesh), 1)
         if not len(self.corners):
             raise Refusal('the mesh has no faces: there is nothing to finish')
         self.vertex_of = np.arange(len(self.places))
         self.report = FinishReport(name, len(self.places), len(self.corners) // 3, unit=wishes.unit)
 
-    def program(self, path: str, wanted: Wanted) -> tuple[np.ndarray, np.ndarray]:
-        """Runs `recon-mesh finish` on a file."""
+    def change(self, wanted: Wanted, out: str) -> None:
+        """Runs `recon-mesh finish` on the mesh, which becomes what it writes."""
         self.tell(' '.join(['recon-mesh finish', *wanted.options()]))
-        return finish_mesh(path, wanted, os.path.join(self.folder, 'finished.ply'), self.wishes.program)
+        path = os.path.join(self.folder, out)
+        self.places, self.corners, self.fine = finish_mesh(self.path, wanted, path, self.wishes.program)
+        self.path = path
 
-    def keep_split_and_flip(self) -> None:
-        """Does what moves no vertex. What is smoothed is split afterwards, so that copies of a vertex stay at one place."""
+    def keep_and_split(self) -> None:
+        """Does what moves no vertex, but leaves flips to a run that smooths: so each vertex is found by its place in the mesh that was read."""
         wishes, report, before = self.wishes, self.report, self.places
-        wanted = Wanted(wishes.pieces, wishes.manifold and not wishes.steps, wishes.flips)
+        wanted = Wanted(wishes.pieces, wishes.manifold, wishes.flips and not wishes.steps)
         if wanted == Wanted(flips=False):
             return
-        self.places, self.corners = self.program(self.path, wanted)
-        self.vertex_of = rows_at(before, self.places)
-        report.is_flipped, report.kept_pieces = wishes.flips, wishes.pieces
+        self.change(wanted, 'kept.ply')
+        if not np.array_equal(before, self.places):
+            self.vertex_of = rows_at(before, self.places)
+        report.kept_pieces = wishes.pieces
         report.left_out = report.faces - len(self.corners) // 3
-        if wanted.manifold:
+        if wishes.manifold:
             report.split = len(self.places) - len(np.unique(self.vertex_of))
 
     def smooth(self) -> None:
-        """Smooths, on a grid that is finer than a unit."""
-        reach = int(np.ptp(self.places, axis=0).max()) or 1
-        while self.fine < FINEST and 2 * self.fine * reach <= LONGEST:
-            self.fine *= 2
-        self.places = self.places * self.fine
-        smoother, report = Smoother(self.places, self.wishes.within * self.wishes.unit * self.fine), self.report
-        twins = pair_edges(self.places, self.corners)
-        for step in range(self.wishes.steps):
-            self.tell(f'step {step + 1} of smoothing')
-            smoother.step(self.corners, twins)
-            if self.wishes.flips:
-                self.corners, twins, flipped, _ = flip_edges(self.places, self.corners, twins, self.tell)
-                report.flipped_later += flipped
-        far = np.sqrt(((self.places - smoother.home).astype(float) ** 2).sum(axis=1)) / (self.fine * self.wishes.unit)
-        report.steps, report.put_back = self.wishes.steps, smoother.held_back
-        report.mean_way, report.longest_way = float(far.mean()), float(far.max())
-
-    def split(self) -> np.ndarray:
-        """Splits vertices where sheets touch, after smoothing, and returns the vertex that each one is a copy of."""
-        middle, whole = np.round(self.places.mean(axis=0)).astype(np.int64), os.path.join(self.folder, 'smoothed.ply')
-        write_whole(whole, self.places - middle, self.corners)
-        before, (places, self.corners) = self.places, self.program(whole, Wanted(manifold=True, flips=False))
-        self.places = places + middle
-        self.report.split = len(self.places) - len(before)
-        return row_numbers(before, self.places)
+        """Flips and smooths; vertices keep their numbers."""
+        wishes, report, homes = self.wishes, self.report, self.places
+        self.change(Wanted(flips=wishes.flips, steps=wishes.steps, within=wishes.whole_within()), 'smoothed.ply')
+        far = np.linalg.norm(self.places / self.fine - homes, axis=1) / wishes.unit
+        report.steps, report.mean_way, report.longest_way = wishes.steps, float(far.mean()), float(far.max())
 
     def run(self) -> Finished:
         """Finishes the mesh, and brings columns of the scan back."""
         wishes, report = self.wishes, self.report
-        report.angle_before = mean_angle(self.places, self.corners)
-        self.keep_split_and_flip()
-        homes = self.places
-        if wishes.steps:
-            self.smooth()
-        report.angle_after = mean_angle(self.places, self.corners)
+        with ThreadPoolExecutor(1) as pool:
+            before = pool.submit(mean_angle, self.places, self.corners.reshape(-1, 3))
+            self.keep_and_split()
+            homes = self.places
+            if wishes.steps:
+                self.smooth()
+            report.is_flipped, report.angle_before = wishes.flips, before.result()
+        faces = self.corners.reshape(-1, 3)
+        report.angle_after = mean_angle(self.places, faces)
         columns: list[Column] = []
         if wishes.scan is not None:
             columns = columns_of(wishes.scan, wishes.unit, homes)
             report.columns = [name for name, _, _ in columns]
-        origins = self.split() if wishes.manifold and wishes.steps else np.arange(len(self.places))
         spots = self.places / (self.fine * wishes.unit) + np.array(wishes.origin)
         face_columns: list[Column] = []
         if wishes.seen:
-            unseen = unseen_faces(spots, self.corners.reshape(-1, 3))
+            unseen = unseen_faces(spots, faces)
             report.unseen = int(unseen.sum())
             face_columns.append(('unseen', 'uchar', unseen))
-        return Finished(spots, self.corners.reshape(-1, 3), [(name, kind, values[origins]) for name, kind, values in columns],
-                        face_columns, self.vertex_of[origins])
-
-
-def row_numbers(rows: np.ndarray, wanted: np.ndarray) -> np.ndarray:
-    """The number of a row equal to each of the wanted ones, which are all there."""
-    both, number = np.unique(np.concatenate([rows, wanted]), axis=0, return_inverse=True)
-    first = np.full(len(both), len(rows))
-    np.minimum.at(first, number[:len(rows)], np.arange(len(rows)))
-    return np.asarray(first[number[len(rows):]])
+        return Finished(spots, faces, columns, face_columns, self.vertex_of)
 
 
 def finished(path: str, wishes: Wishes, tell: Callable[[str], None] = lambda text: None,

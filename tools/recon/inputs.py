@@ -6,13 +6,13 @@ from __future__ import annotations
 
 import os
 import re
+import warnings
 from dataclasses import dataclass
 from pathlib import Path
 from typing import Any, NamedTuple, Optional, Sequence
 
 import numpy as np
 
-from recon import scan
 from recon.choices import Choices
 from recon.clouds import spacing
 from recon.library import Sights
@@ -24,6 +24,7 @@ from recon.toolbox.ply_text import SCANNER_LIMIT, Reader, Refusal
 from recon.toolbox.tool import Options, field, three
 
 COLORS = ('red', 'green', 'blue')
+FAR = 1e150
 MODELS = ('sparse/images.bin', 'sparse/images.txt', 'images.bin', 'images.txt', 'sparse/0/images.bin')
 
 
@@ -39,13 +40,11 @@ class Cloud:
     is_made_up: bool = False
 
     def take(self, rows: np.ndarray) -> Cloud:
-        """Returns the points of these rows, ascending, with all scanners."""
-        ends = np.cumsum(self.sights.counts)
-        owner = np.repeat(np.arange(len(self.points)), self.sights.counts)
-        is_kept = np.zeros(len(ends), bool)
-        is_kept[rows] = True
-        sights = Sights(self.sights.counts[rows], self.sights.scanners[is_kept[owner]])
-        return Cloud(self.points[rows], self.scanners, sights, None if self.colors is None else self.colors[rows],
+        """Returns the points of these rows, in their order, with all scanners."""
+        counts = self.sights.counts[rows]
+        starts = (np.cumsum(self.sights.counts) - self.sights.counts)[rows]
+        at = np.repeat(starts - (np.cumsum(counts) - counts), counts) + np.arange(counts.sum())
+        return Cloud(self.points[rows], self.scanners, Sights(counts, self.sights.scanners[at]), None if self.colors is None else self.colors[rows],
                      None if self.weights is None else self.weights[rows], self.is_made_up)
 
     def first_scanners(self) -> np.ndarray:
@@ -105,7 +104,12 @@ def load_scan(path: str) -> Table:
     scanner_count = element.count if element is not None else 0
     if vertex.has_lists():
         return load_lists(body, names, vertex.count, scanner_count)
-    values = np.fromstring(body.decode('ascii'), float, sep=' ')
+    with warnings.catch_warnings():
+        warnings.simplefilter('ignore')
+        values = np.fromstring(body, float, sep=' ')
+    if len(values) < vertex.count * len(names) + 3 * scanner_count:
+        row, column = divmod(len(values), len(names))
+        raise Refusal(f'{names[column]} of point {row} is no number' if row < vertex.count else 'a position of a scanner is no number')
     rows = values[:vertex.count * len(names)].reshape(vertex.count, len(names))
     columns = {name: rows[:, k] for k, name in enumerate(names)}
     scanners = values[rows.size:].reshape(scanner_count, 3) if element is not None else None
@@ -120,10 +124,17 @@ def load_lists(body: bytes, names: list[str], count: int, scanner_count: int) ->
     rows = [line.split() for line in lines[:count]]
     lists = [list(map(int, row[at + 1:at + 1 + int(row[at])])) for row in rows]
     names = [name for k, name in enumerate(names) if k != at]
-    single = np.array([row[:at] + row[at + 1 + int(row[at]):] for row in rows], float).reshape(count, len(names))
+    single = np.array([list(map(number, row[:at] + row[at + 1 + int(row[at]):])) for row in rows]).reshape(count, len(names))
     sights = Sights(np.array([len(numbers) for numbers in lists], np.int64), np.array([k for numbers in lists for k in numbers], np.int64))
     scanners = np.array([line.split() for line in lines[count:count + scanner_count]], float).reshape(scanner_count, 3)
     return Table({name: single[:, k] for k, name in enumerate(names)}, sights, scanners)
+
+
+def number(word: str) -> float:
+    try:
+        return float(word)
+    except ValueError:
+        raise Refusal(f'{word[:40]} is no number') from None
 
 
 def plain_table(names: Sequence[str]) -> Table | None:
@@ -165,6 +176,8 @@ class Inputs:
             what = names[0].rpartition('=')[0] or names[0] if len(names) == 1 else f'{len(names)} files'
             self.choices.tell(f'read {len(plain.points()):,} points of {what}')
             return plain
+        # most scans are plain files, which need none of its readers
+        from recon import scan
         path = os.fspath(self.folder / 'points.ply')
         given = Options(scan.KEYS)
         for key, value in options.items():
@@ -241,9 +254,14 @@ def cloud_of(table: Table) -> Cloud:
 
 
 def finite(cloud: Cloud) -> Cloud:
-    """Without points whose coordinates leave the range of floating point."""
-    rows = np.flatnonzero(np.isfinite(cloud.points).all(axis=1))
+    """Without points that are too far out to compute with."""
+    rows = np.flatnonzero(are_near(cloud.points))
     return cloud if len(rows) == len(cloud.points) else cloud.take(rows)
+
+
+def are_near(points: np.ndarray) -> np.ndarray:
+    """Which points have coordinates whose squares are in the range of floating point."""
+    return np.asarray((np.abs(points) < FAR).all(axis=1))
 
 
 def with_normals(inputs: Inputs) -> Table:
@@ -260,7 +278,7 @@ def along(inputs: Inputs, table: Table, why: str) -> Cloud:
     normals = table.normals()
     if normals is None:
         raise Refusal('the points have no normals')
-    rows = np.flatnonzero(np.isfinite(normals).all(axis=1) & (normals != 0).any(axis=1) & np.isfinite(table.points()).all(axis=1))
+    rows = np.flatnonzero(np.isfinite(normals).all(axis=1) & (normals != 0).any(axis=1) & are_near(table.points()))
     colors = table.colors()
     inputs.choices.choose('sights', 'along normals', why)
     return cloud_along(inputs, table.points()[rows], normals[rows], None if colors is None else colors[rows])
@@ -281,7 +299,7 @@ def cloud_along(inputs: Inputs, points: np.ndarray, normals: np.ndarray, colors:
 def guessed(inputs: Inputs, table: Table) -> Cloud:
     """A cloud without scanners: seen from above if its shape allows it, else along estimated normals."""
     args, points, colors = inputs.args, table.points(), table.colors()
-    rows = np.flatnonzero(np.isfinite(points).all(axis=1))
+    rows = np.flatnonzero(are_near(points))
     points, colors = points[rows], None if colors is None else colors[rows]
     if len(points) < 4:
         raise Refusal('there are fewer than four points')

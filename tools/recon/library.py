@@ -19,6 +19,7 @@ from recon.meshes import Mesh
 from recon.program import Invalid, run
 from recon.sights import SCANNER_LIMIT, along_normals
 from recon.toolbox.mesh_files import read_mesh
+from recon.toolbox.orders import first_equal
 from recon.toolbox.ply_text import Refusal
 from recon.toolbox.slice_text import read_loops
 
@@ -116,17 +117,15 @@ def with_lists(rows: np.ndarray, sights: Sights) -> bytes:
     return data.tobytes()
 
 
-def place_keys(whole: np.ndarray) -> np.ndarray:
-    """A number for each place of whole coordinates."""
-    near = whole + (LIMIT + 1)
-    return np.asarray((near[:, 0] << 44) + (near[:, 1] << 22) + near[:, 2])
-
-
 def rows_at(whole: np.ndarray, places: np.ndarray) -> np.ndarray:
-    """The first row of `whole` that each of `places` is."""
-    keys = place_keys(whole)
-    order = np.argsort(keys, kind='stable')
-    return np.asarray(order[np.searchsorted(keys[order], place_keys(places))])
+    """The first row of `whole`, whole coordinates (n, 3), that each of `places` is."""
+    if not len(places):
+        return np.zeros(0, np.int64)
+    low, (x, y, z) = whole.min(axis=0), (int(size) + 1 for size in np.ptp(whole, axis=0))
+    if x * y * z < 1 << 63:
+        return first_equal(*((rows[:, 0] - low[0]) * (y * z) + (rows[:, 1] - low[1]) * z + (rows[:, 2] - low[2]) for rows in (whole, places)))
+    numbers = np.unique(np.concatenate([whole, places]), axis=0, return_inverse=True)[1].ravel()
+    return first_equal(numbers[:len(whole)], numbers[len(whole):])
 
 
 @dataclass

@@ -1,23 +1,33 @@
 """Meshes as arrays: vertices (n, 3) and faces (m, 3), rows of vertices, counterclockwise seen from outside.
 
-Names: Mesh · unseen_faces (faces that span space that no scanner saw) · areas · pieces (which faces hang together).
+Names: Mesh · unseen_faces (faces that span space that no scanner saw) · areas · mean_angle · pieces (which faces hang together).
 """
 from __future__ import annotations
 
 from dataclasses import dataclass
-from typing import Any
+from typing import Any, Iterator, NamedTuple
 
 import numpy as np
-from scipy.sparse import coo_matrix
-from scipy.sparse.csgraph import connected_components
 from scipy.spatial import cKDTree
 
 from recon.clouds import tree_of
+from recon.toolbox.orders import ascending
+from recon.toolbox.vectors import Vector, angle, axes, normal
 
 NEAR = 6
 FACTOR = 8.0
 LEAST_PIECE = 20
-SAMPLE = 20_000
+SAMPLE = 4_000
+CHUNK = 1 << 14
+MIXING, MASK = 0x9E3779B97F4A7, (1 << 40) - 1
+
+
+class Sides(NamedTuple):
+    """Of some rows of faces: the squares of the first and of the last side, and their product, as vectors from the first corner."""
+    rows: slice
+    one: np.ndarray
+    two: np.ndarray
+    both: np.ndarray
 
 
 @dataclass
@@ -33,10 +43,10 @@ class Mesh:
         return unseen_faces(self.vertices, self.faces)
 
     def seen(self, unseen: np.ndarray | None = None) -> Mesh:
-        """Returns the open mesh without the faces that span unseen space, and without pieces under 20 faces that are left of it. All
-        vertices stay. `unseen` is what `unseen` returned, if it is known."""
+        """Returns the open mesh without the faces that span unseen space, and without pieces under 20 faces that are left of it, which hang
+        together by vertices. All vertices stay. `unseen` is what `unseen` returned, if it is known."""
         faces = self.faces[~(self.unseen() if unseen is None else unseen)]
-        part = pieces(faces, len(self.vertices))
+        part = pieces_by_vertices(faces, len(self.vertices))
         return Mesh(self.vertices, faces[np.bincount(part)[part] >= LEAST_PIECE] if len(faces) else faces, self.source)
 
     def to_open3d(self) -> Any:
@@ -56,25 +66,38 @@ class Mesh:
         return meshio.Mesh(self.vertices, [('triangle', self.faces)], point_data=data)
 
 
+def sides(vertices: np.ndarray, faces: np.ndarray) -> Iterator[Sides]:
+    """Yields the sides of faces, some thousands at a time, so that all that is computed of them stays in the cache."""
+    columns = [np.ascontiguousarray(vertices[:, k]) for k in range(3)]
+    for start in range(0, len(faces), CHUNK):
+        rows = slice(start, start + CHUNK)
+        first, second, third = (faces[rows, k] for k in range(3))
+        one = two = both = np.zeros(len(first))
+        for column in columns:
+            from_here = column[first]
+            there, back = column[second] - from_here, column[third] - from_here
+            one, two, both = one + there * there, two + back * back, both + there * back
+        yield Sides(rows, one, two, both)
+
+
 def longest_edges(vertices: np.ndarray, faces: np.ndarray) -> np.ndarray:
     """The length of the longest edge of each face."""
-    corners = [vertices[faces[:, k]] for k in range(3)]
-    longest = np.zeros(len(faces))
-    for start, end in zip(corners, corners[1:] + corners[:1]):
-        way = end - start
-        np.maximum(longest, np.einsum('nk,nk->n', way, way), out=longest)
-    return np.asarray(np.sqrt(longest))
+    longest = np.empty(len(faces))
+    for part in sides(vertices, faces):
+        across = part.one + part.two - 2 * part.both
+        longest[part.rows] = np.maximum(np.maximum(part.one, part.two), across)
+    return np.asarray(np.sqrt(np.maximum(longest, 0)))
 
 
 def unseen_faces(vertices: np.ndarray, faces: np.ndarray, factor: float = FACTOR) -> np.ndarray:
     """Returns which faces have an edge over `factor` times the spacing around their corners: the mean distance of a vertex to its six
-    nearest, at least half the median (of a sample of 20,000). Points are nowhere so far apart where a scanner saw a surface, so such faces
+    nearest, at least half the median (of a sample of 4,000). Points are nowhere so far apart where a scanner saw a surface, so such faces
     close the surface over what no scanner saw."""
     if not len(faces):
         return np.zeros(0, bool)
     is_used = np.zeros(len(vertices), bool)
     is_used[faces.ravel()] = True
-    used = vertices[is_used]
+    used = vertices if is_used.all() else vertices[is_used]
     tree = tree_of(used)
     some = used if len(used) <= SAMPLE else used[np.sort(np.random.default_rng(1).permutation(len(used))[:SAMPLE])]
     least = float(np.median(near_distances(tree, some))) / 2
@@ -96,19 +119,70 @@ def near_distances(tree: cKDTree, places: np.ndarray) -> np.ndarray:
 
 def areas(vertices: np.ndarray, faces: np.ndarray) -> np.ndarray:
     """Returns the area of each face."""
-    a, b, c = (vertices[faces[:, k]] for k in range(3))
-    return np.asarray(np.linalg.norm(np.cross(b - a, c - a), axis=1) / 2)
+    area = np.empty(len(faces))
+    for part in sides(vertices, faces):
+        area[part.rows] = part.one * part.two - part.both * part.both
+    return np.asarray(np.sqrt(np.maximum(area, 0)) / 2)
+
+
+def neighboring(faces: np.ndarray, count: int) -> tuple[np.ndarray, np.ndarray]:
+    """Returns pairs of faces with an edge in common, of `count` vertices, as two columns; of more than two faces at an edge each with the next
+    one."""
+    corners = faces.astype(np.int64)
+    keys = np.concatenate([np.minimum(one, other) * count + np.maximum(one, other)
+                           for one, other in ((corners[:, k], corners[:, (k + 1) % 3]) for k in range(3))])
+    order, keys = ascending(keys, count * count)
+    same = np.flatnonzero(keys[1:] == keys[:-1])
+    return (order[same] % len(faces)).astype(np.int32), (order[same + 1] % len(faces)).astype(np.int32)
+
+
+def linked(one: np.ndarray, other: np.ndarray, count: int) -> np.ndarray:
+    """Returns for each of `count` things the number of its part, where pairs of things are linked. Each thing is joined to one before it, and the parts
+    that this makes are joined in the same way (Boruvka's method)."""
+    before = np.arange(count, dtype=np.int32)
+    before[np.maximum(one, other)] = np.minimum(one, other)
+    while True:
+        further = before[before]
+        if np.array_equal(further, before):
+            break
+        before = further
+    is_first = before == np.arange(count, dtype=np.int32)
+    part = (np.cumsum(is_first, dtype=np.int32) - 1)[before]
+    one, other = part[one], part[other]
+    is_left = np.flatnonzero(one != other)
+    return part if not len(is_left) else linked(one[is_left], other[is_left], int(is_first.sum()))[part]
 
 
 def pieces(faces: np.ndarray, count: int) -> np.ndarray:
     """Returns the number of its piece for each face. Faces with an edge in common, of `count` vertices, are of one piece; the mesh may be
     open."""
-    corners = faces.astype(np.int64)
-    starts, ends = corners.ravel(), np.roll(corners, -1, axis=1).ravel()
-    keys = np.minimum(starts, ends) * count + np.maximum(starts, ends)
-    order = np.argsort(keys)
-    keys = keys[order]
-    same = np.flatnonzero(keys[1:] == keys[:-1])
-    face = (order // 3).astype(np.int32)
-    joins = coo_matrix((np.ones(len(same), np.int8), (face[same], face[same + 1])), (len(faces), len(faces)))
-    return np.asarray(connected_components(joins, directed=False)[1])
+    return linked(*neighboring(faces, count), len(faces)) if len(faces) else np.zeros(0, np.int32)
+
+
+def pieces_by_vertices(faces: np.ndarray, count: int) -> np.ndarray:
+    """Returns the same for pieces that hang together by vertices, in a third of the time."""
+    corners = faces.astype(np.int32)
+    return linked(np.r_[corners[:, 0], corners[:, 0]], np.r_[corners[:, 1], corners[:, 2]], count)[corners[:, 0]]
+
+
+def mean_angle(places: np.ndarray, faces: np.ndarray) -> float:
+    """Returns the mean angle between neighboring faces, in degrees, of the edges that two faces have; of a mesh of over 40,000 faces that of the edges
+    of some of its vertices, about a hundred thousand sides."""
+    share, count = faces.size >> 17, len(places)
+    is_chosen = (np.arange(count) * MIXING >> 20 & MASK) % (share + 1) == 0
+    found = []
+    for one, other in ((faces[:, k], faces[:, (k + 1) % 3]) for k in range(3)):
+        low = np.minimum(one, other)
+        rows = np.flatnonzero(is_chosen[low])
+        found.append((rows, low[rows] * count + np.maximum(one[rows], other[rows])))
+    owner = np.concatenate([rows for rows, _ in found])
+    order, keys = ascending(np.concatenate([keys for _, keys in found]), count * count)
+    is_same = np.r_[False, keys[1:] == keys[:-1], False]
+    first = np.flatnonzero(is_same[1:] & ~is_same[:-1] & ~np.r_[is_same[2:], False])
+    spots = places.astype(float)
+
+    def normals(rows: np.ndarray) -> Vector:
+        return normal(*(axes(spots, faces[rows, k]) for k in range(3)))
+
+    both = angle(normals(owner[order[first]]), normals(owner[order[first + 1]]))
+    return float(np.degrees(both.mean())) if len(first) else 0.0

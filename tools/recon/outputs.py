@@ -63,24 +63,24 @@ def write_outputs(made: Made, beside: Beside) -> None:
     if part > 0.05:
         choices.warn(f'{part:.0%} of the area span space that no scanner saw, by {int(unseen.sum()):,} long faces: '
                      f'{os.path.basename(seen_path(os.fspath(made.out)))} is without them, and open')
-    files = {made.folder / ('out' + made.out.suffix): made.out}
+    files = {made.folder / ('out' + made.out.suffix): made.out, made.folder / 'out.html': made.out.with_suffix('.html')}
+    digests, figures = beside.digests(), figures_of(made, part)
+    write_again(made, digests)
+    page = beside.start(write_page, os.fspath(made.folder / 'out.html'), meshes=page_meshes(made, unseen), scanners=made.cloud.scanners,
+                        sights=some_sights(made.cloud), figures=figures, choices=[(name, it.value, it.why) for name, it in choices.chosen.items()],
+                        digests=digests, commands=verifying(made), title=made.out.stem)
     write_mesh(os.fspath(next(iter(files))), made.mesh)
     if write_seen(os.fspath(next(iter(files))), made.mesh):
         files[made.folder / ('out-seen' + made.out.suffix)] = Path(seen_path(os.fspath(made.out)))
     else:
         choices.warn('nearly all faces span space that no scanner saw: there is no mesh of what was seen')
-    digests, figures = beside.digests(), figures_of(made, part)
-    write_again(made, digests)
-    page = made.folder / 'out.html'
-    files[page] = made.out.with_suffix('.html')
-    write_page(os.fspath(page), meshes=page_meshes(made, unseen), scanners=made.cloud.scanners,
-               sights=some_sights(made.cloud), figures=figures, choices=[(name, it.value, it.why) for name, it in choices.chosen.items()],
-               digests=digests, commands=verifying(made), title=made.out.stem)
+    page.result()
     choices.timed('write')
     passed = beside.checked()
     choices.timed('wait for check')
     if passed is not None:
-        choices.tell(f'check: yes, mesh and certificate are those of the scan ({passed:.1f} s, beside the steps since the build)')
+        of_whole = f'mesh and certificate are those of the scan ({passed:.1f} s, beside the steps since the build)'
+        choices.tell(f'check: yes, {"of each tile, when it was built" if made.surface.tiles() else of_whole}')
         choices.beside['check'] = round(passed, 3)
     write_report(made, figures, digests, part)
     files.update({made.folder / name: made.kept() / name for name in (*made.surface.files(), 'report.json', 'again.sh')})

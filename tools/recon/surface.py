@@ -27,22 +27,21 @@ from scipy.spatial import cKDTree
 
 from recon.beside import Beside
 from recon.choices import Choices
-from recon.clouds import Spacing, frame, lone_points, spacing, surrounding, thinned, thinning_side, tree_of
-from recon.finish import Wishes, finished, seen_path
+from recon.clouds import Spacing, curve_of, frame, lone_points, spacing, surrounding, thinned, thinning_side, tree_of
+from recon.finish import MOST_STEPS, Wishes, finished, seen_path
 from recon.inputs import Cloud, Inputs, read_cloud
 from recon.library import Surface, build
 from recon.mesh_program import mesh_program_path
 from recon.meshes import pieces
 from recon.outputs import Made, write_outputs
 from recon.program import Invalid, Refused, program_path
-from recon.tiled import build_tiles
 from recon.toolbox.mesh_files import Column, Finished, form_of
 from recon.toolbox.ply_text import IS_NUMBER, Refusal
 
 MOST, MOST_OF_A_TILE = 1_000_000, 800_000
 LOOK, WRONG = 0.1, 0.25
-# faces that Python smooths in a second, for one step
-SMOOTHED_A_SECOND = 12_000
+# faces that recon-mesh smooths in a second, for one step
+SMOOTHED_A_SECOND = 200_000
 ROOM = 0.8
 
 
@@ -70,7 +69,7 @@ def divided(cloud: Cloud, args: Any, choices: Choices) -> Cloud:
 
 
 def cleaned(cloud: Cloud, tree: cKDTree, args: Any, choices: Choices) -> Cloud:
-    """The cloud without lone points. `tree` is that of its points."""
+    """The cloud without lone points. `tree` is that of its points, which stand along a curve."""
     points = cloud.points
     middle = np.median(points, axis=0)
     away = np.abs(points - middle).max(axis=1)
@@ -79,7 +78,7 @@ def cleaned(cloud: Cloud, tree: cKDTree, args: Any, choices: Choices) -> Cloud:
         choices.warn(f'{far} points lie over fifty times as far out as nearly all others: recon-scan with from= and to= leaves them out')
     if args.no_clean or cloud.is_made_up or len(points) <= 100:
         return cloud
-    lone = lone_points(points, tree=tree)
+    lone = lone_points(points, tree=tree, order=np.arange(len(points)))
     if not lone.any():
         return cloud
     choices.choose('lone points', int(lone.sum()), f'{lone.mean():.2%} are four times as far from others as those are, and left out (--no-clean)')
@@ -136,6 +135,8 @@ def prepared(inputs: Inputs) -> Scan:
     choices.timed('read')
     if not read:
         raise NoSurface('no point is left')
+    # in this order all that looks at points, vertices and faces finds near ones near each other in memory
+    cloud = cloud.take(curve_of(cloud.points))
     tree = tree_of(cloud.points)
     texture = spacing(cloud.points, tree)
     if not texture.distance:
@@ -200,6 +201,7 @@ def built_at(smooth: int, scan: Scan, args: Any, folder: Path, choices: Choices)
                                 'folder': folder, 'program': args.program}
     if 'tiles' not in choices.chosen:
         return build(cloud.points, cloud.scanners, lists_of(cloud), is_shown=sys.stderr.isatty() and not args.quiet, **given)
+    from recon.tiled import build_tiles
     shutil.rmtree(folder / 'tiles', ignore_errors=True)
     surface = build_tiles(cloud.points, cloud.scanners, cloud.sights, most=min(args.max_points, MOST_OF_A_TILE), tell=choices.tell, **given)
     assert surface.joined is not None
@@ -226,7 +228,7 @@ def wishes_for(surface: Surface, scan: Scan, args: Any, choices: Choices) -> Wis
     kept = args.pieces or max(1, int((sizes >= least).sum()))
     choices.choose('pieces', kept, 'given' if args.pieces else f'of {len(sizes)}, those of {least:.0f} faces or more')
     apart, noise = scan.texture
-    within = args.within if args.within is not None else float(f'{2 * noise:.2g}') if noise > 0.05 * apart else 0.0
+    within = args.within if args.within is not None else max(float(f'{2 * noise:.2g}'), 1 / scan.unit) if noise > 0.05 * apart else 0.0
     steps = args.steps if args.steps is not None else 6 if noise > 0.3 * apart else 3
     steps, flips = steps if within else 0, not args.no_flips
     smoothing = len(surface.faces) * steps / SMOOTHED_A_SECOND
@@ -313,7 +315,7 @@ def parser() -> argparse.ArgumentParser:
     group.add_argument('--vote', type=within(1, 65535), default=8, metavar='V', help='weight of a sight (default: %(default)s)')
     group.add_argument('--pieces', type=within(1, 10 ** 9), metavar='N', help='keep the N largest pieces')
     group.add_argument('--no-flips', action='store_true', help='leave edges as they are')
-    group.add_argument('--steps', type=within(0, 1000), metavar='N', help='steps of smoothing')
+    group.add_argument('--steps', type=within(0, MOST_STEPS), metavar='N', help='steps of smoothing')
     group.add_argument('--within', type=length, metavar='D', help='how far a vertex may go by smoothing')
     group.add_argument('--patience', type=length, default=120.0, metavar='SECONDS', help='how long smoothing may take (default: %(default)g)')
     group = top.add_argument_group('the run')
@@ -372,7 +374,8 @@ def run(words: Sequence[str]) -> int:
         if args.tiles and (args.sweep or args.side):
             raise Refusal('--tiles goes without --sweep and --side')
         refuse_own_inputs(args)
-        with tempfile.TemporaryDirectory(prefix='.recon-', dir=os.path.dirname(args.output) or '.') as folder:
+        # what is not finite is looked for where it matters
+        with tempfile.TemporaryDirectory(prefix='.recon-', dir=os.path.dirname(args.output) or '.') as folder, np.errstate(all='ignore'):
             result = made(args, choices, Path(folder))
     except MemoryError:
         return failed(1, 'error: out of memory')

@@ -112,6 +112,10 @@ class Arrays(InFolder):
         whole = np.random.default_rng(2).integers(-2097151, 2097152, (500, 3))
         whole = np.r_[whole, whole[:100]]
         equal(rows_at(whole, whole).tolist(), list(range(500)) + list(range(100)))
+        # places whose differences are powers of two, in a box with and without as many places as a number of 64 bits has
+        far = np.array([[x, y, z] for x in (-2097151, -1048575, 0, 1, 1048576) for y in (0, 1048576) for z in (5, 1048581)])
+        for box in (far, np.r_[far, [[2097151, -2097151, -2097151], [0, 2097151, 2097151]]]):
+            equal(rows_at(box, box[::-1]).tolist(), list(range(len(box)))[::-1])
 
     def test_who_saw_what(self) -> None:
         equal([part.tolist() for part in sights_of([[0, 1], [], [1]], 3, 2)], [[2, 0, 1], [0, 1, 1]])

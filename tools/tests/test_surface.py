@@ -120,6 +120,16 @@ class Surfaces(InFolder):
         report = made('room.xyz=0,0,0', '--no-check')
         equal((float(chosen(report, 'surround')[0]) > 0, report['counts']['scanners'], report['counts']['points']), (True, 9, 808))
 
+    def test_points_that_are_too_far_out_to_compute_with(self) -> None:
+        points = np.r_[sphere(300), [[0, 0, 1e308], [-1e200, 0, 0]]]
+        for name, rows in (('list.xyz', points), ('normals.xyz', np.c_[points, np.r_[sphere(300), [[1, 0, 0], [0, 0, 1]]]])):
+            write(name, ''.join(' '.join(map(repr, row)) + '\n' for row in rows.tolist()))
+            for words in ([name], [f'{name}=0,0,9']):
+                got, said, error = call('surface', *words, '-o', 'mesh.ply', '-q', '--no-check', '--force', '--program', RECON)
+                equal((words, got, said, error), (words, 0, '', ''))
+                report = json.loads(pathlib.Path('mesh.recon', 'report.json').read_text())
+                equal(report['counts']['points'], 300)
+
     def test_points_are_left_out(self) -> None:
         points = np.r_[sphere(400), [[0, 0, 2.5]]]
         write('in.ply', scan_text(points, SCANNERS, nearest(points)))
@@ -174,6 +184,11 @@ class Surfaces(InFolder):
         refused('is not X,Y,Z', 'in.ply', '-o', 'mesh.ply', '--scanner', '1,2', status=2)
         refused('a whole number from 1', 'in.ply', '-o', 'mesh.ply', '--unit', '0', status=2)
         equal([name for name in os.listdir() if name.startswith(('mesh', '.recon'))], [])
+        text = scan_text(sphere(50), SCANNERS[:1], np.zeros(50, int))
+        write('word.ply', text.replace(' 3 7 9 ', ' 3 - 9 '))
+        refused('error: green of point 3 is no number', 'word.ply', '-o', 'mesh.ply')
+        write('lists.ply', text.replace('int scanner', 'list uchar int scanner').replace(' 7 9 0\n', ' 7 9 1 0\n').replace(' 3 7 9 ', ' 3 - 9 '))
+        refused('error: - is no number', 'lists.ply', '-o', 'mesh.ply')
         write('fails', '#!/bin/sh\necho refused 5 twice line 3\necho "recon: rename one" >&2\nexit 3\n')
         os.chmod('fails', 0o755)
         got, _, error = call('surface', 'in.ply', '-o', 'mesh.ply', '-q', '--program', './fails')

@@ -1,6 +1,6 @@
 """Meshes read as `recon build` wrote them, and written as PLY, STL, GLB or OBJ.
 
-Names: read_mesh, write_whole · Finished (a mesh to be written: coordinates, corners, and columns of values of vertices and faces) ·
+Names: read_mesh · Finished (a mesh to be written: coordinates, corners, and columns of values of vertices and faces) ·
 write_mesh (by the ending of the name).
 """
 from __future__ import annotations
@@ -25,11 +25,12 @@ WHOLE = ('char', 'uchar', 'short', 'ushort', 'int', 'uint', 'int8', 'uint8', 'in
 NOT_OURS = 'this is no mesh as `recon build` wrote it: '
 LIMIT = 2097151
 COLORS = ('red', 'green', 'blue')
+LINES = 10_000
 Column = Tuple[str, str, np.ndarray]
 
 
-def read_mesh(path: str) -> tuple[np.ndarray, np.ndarray]:
-    """Returns the places of the vertices, (n, 3) whole numbers, and the corners of all faces one after another."""
+def read_mesh(path: str, most: int = LIMIT) -> tuple[np.ndarray, np.ndarray]:
+    """Returns the places of the vertices, (n, 3) whole numbers of at most `most`, and the corners of all faces one after another."""
     with open(path, 'rb') as file:
         data = file.read()
     head = HEAD.match(data)
@@ -40,11 +41,11 @@ def read_mesh(path: str) -> tuple[np.ndarray, np.ndarray]:
     count, faces = int(head[1]), int(head[2])
     values = numbers_of(data[head.end():], 3 * count + 4 * faces)
     places, rows = values[:3 * count].reshape(-1, 3), values[3 * count:].reshape(-1, 4)
-    corners = rows[:, 1:].ravel().copy()
-    if (rows[:, 0] != 3).any() or (corners < 0).any() or (corners >= count).any():
+    corners = rows[:, 1:].ravel()
+    if (rows[:, 0] != 3).any() or corners.min(initial=0) < 0 or corners.max(initial=-1) >= count:
         refuse('a face is no triangle of its vertices')
-    if (np.abs(places) > LIMIT).any():
-        refuse(f'a coordinate is over {LIMIT:,}')
+    if places.min(initial=0) < -most or places.max(initial=0) > most:
+        refuse(f'a coordinate is over {most:,}')
     return places, corners
 
 
@@ -56,29 +57,17 @@ def numbers_of(data: bytes, count: int) -> np.ndarray:
     """Returns the whole numbers of a text."""
     if data.translate(None, b'-0123456789 \n') or data and not data.endswith(b'\n'):
         refuse('it is cut or has words that are no whole numbers')
-    letters = np.frombuffer(b'\n' + data, np.uint8)
+    # a sign at the start is after the last letter, which is an end of a line
+    letters = np.frombuffer(data, np.uint8)
     signs = np.flatnonzero(letters == ord('-'))
     if (letters[signs - 1] > ord(' ')).any() or (letters[signs + 1] < ord('0')).any():
         refuse('a word is no whole number')
     with warnings.catch_warnings():
         warnings.simplefilter('ignore')
-        values = np.fromstring(data.decode('ascii'), np.int64, sep=' ') if data.strip() else np.zeros(0, np.int64)
+        values = np.zeros(0, np.int64) if not data or data.isspace() else np.fromstring(data, np.int64, sep=' ')
     if len(values) != count:
         refuse(f'it has {len(values)} numbers where its header says {count}')
     return values
-
-
-def write_whole(path: str, places: np.ndarray, corners: np.ndarray) -> None:
-    """Writes a mesh of whole numbers as `recon build` does: places (n, 3) and the corners of all faces one after another."""
-    faces = corners.reshape(-1, 3)
-    turn = faces.argmin(axis=1)[:, None]
-    first = np.take_along_axis(faces, (np.arange(3) + turn) % 3, axis=1)
-    lines = ['ply', 'format ascii 1.0', f'element vertex {len(places)}', 'property int x', 'property int y', 'property int z',
-             f'element face {len(faces)}', 'property list uchar int vertex_indices', 'end_header', '']
-    with open(path, 'w', encoding='ascii') as file:
-        file.write('\n'.join(lines))
-        np.savetxt(file, places, '%d')
-        np.savetxt(file, first[np.lexsort(first.T[::-1])], '3 %d %d %d')
 
 
 @dataclass
@@ -179,13 +168,16 @@ def obj_parts(mesh: Finished) -> Iterator[bytes]:
     them."""
     yield b'# made by finish\n'
     colors = mesh.colors()
-    rows: list[list[float]] = mesh.places.tolist() if colors is None else np.c_[mesh.places, colors / 255].tolist()
-    form = 'v %.17g %.17g %.17g' + ('' if colors is None else ' %.4g %.4g %.4g') + '\n'
-    for start in range(0, len(rows), 10000):
-        yield ''.join(form % tuple(row) for row in rows[start:start + 10000]).encode('ascii')
-    faces: list[list[int]] = (mesh.faces + 1).tolist()
-    for start in range(0, len(faces), 10000):
-        yield ''.join('f %d %d %d\n' % tuple(face) for face in faces[start:start + 10000]).encode('ascii')
+    rows = mesh.places if colors is None else np.c_[mesh.places, colors / 255]
+    yield from lines('v %.17g %.17g %.17g' + ('' if colors is None else ' %.4g %.4g %.4g') + '\n', rows)
+    yield from lines('f %d %d %d\n', mesh.faces + 1)
+
+
+def lines(form: str, rows: np.ndarray) -> Iterator[bytes]:
+    """Yields a line of text for each row, in pieces."""
+    for start in range(0, len(rows), LINES):
+        part = rows[start:start + LINES]
+        yield (form * len(part) % tuple(part.ravel().tolist())).encode('ascii')
 
 
 FORMS = {'.ply': ply_parts, '.stl': stl_parts, '.glb': glb_parts, '.obj': obj_parts}

@@ -16,6 +16,7 @@ from recon.toolbox.ply_text import FORMATS, ORDERS, SCANNER_LIMIT, Element, Refu
 
 LETTERS = b'0123456789+-.eE \t\r\n'
 SPACE = ord(' ')
+EXACT = 1 << 53
 
 
 class PlainPly(NamedTuple):
@@ -25,14 +26,19 @@ class PlainPly(NamedTuple):
 
 
 def numbers_in(body: bytes) -> np.ndarray | None:
-    """Returns the numbers of a text as floating point, or None if a word of it is no finite number."""
-    if body.translate(None, LETTERS):
+    """Returns the numbers of a text as floating point, or None if a word of it is no finite number. Whole numbers are read as such first, which takes
+    less than half the time."""
+    others = body.translate(None, b'0123456789- \r\n')
+    if others.translate(None, LETTERS):
         return None
-    is_space = np.frombuffer(b'\n' + body, np.uint8) <= SPACE
-    count = int(np.count_nonzero(is_space[:-1] & ~is_space[1:]))
+    is_space = np.frombuffer(body, np.uint8) <= SPACE
+    count = int(np.count_nonzero(is_space[:-1] > is_space[1:])) + int(not is_space[:1].all())
     with warnings.catch_warnings():
         warnings.simplefilter('ignore')
-        values = np.fromstring(body.decode('ascii'), float, sep=' ') if count else np.zeros(0)
+        values = np.fromstring(body, np.int64 if count and not others else float, sep=' ') if count else np.zeros(0)
+        if values.dtype != float:
+            is_exact = max(values.max(initial=0), -values.min(initial=0)) < EXACT
+            values = values.astype(float) if is_exact else np.fromstring(body, float, sep=' ')
     return values if len(values) == count and np.isfinite(values).all() else None
 
 

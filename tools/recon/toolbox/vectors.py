@@ -1,6 +1,6 @@
 """Vectors of three coordinates, each a column of numpy, or a number.
 
-Names: less, dot, across, unit, normal, angle · axes, Rows (columns and rows of an array of places) · turn_of (a turn's matrix).
+Names: less, dot, across, unit, normal, angle · axes (columns of an array of places) · turn_of (a turn's matrix).
 """
 from __future__ import annotations
 
@@ -13,16 +13,6 @@ Vector = Sequence[Any]
 TINY = 1e-300
 ARC_COSINE = (-0.0012624911, 0.0066700901, -0.0170881256, 0.0308918810, -0.0501743046, 0.0889789874, -0.2145988016,
               1.5707963050)
-
-
-class Rows:
-    """Places as triples of whole numbers without limits."""
-
-    def __init__(self, places: np.ndarray) -> None:
-        self.places = places
-
-    def __getitem__(self, number: int) -> tuple[int, ...]:
-        return tuple(map(int, self.places[number]))
 
 
 def axes(places: np.ndarray, numbers: np.ndarray) -> Vector:

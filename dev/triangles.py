@@ -8,11 +8,22 @@ from typing import Iterator
 
 import numpy as np
 
-from recon.toolbox.crossing import cross
-from recon.toolbox.vectors import Rows, across, axes, dot
+import tools_path  # noqa: F401
+from crossing import cross
+from recon.toolbox.vectors import across, dot
 
 CHUNK = 200000
 SMALL = 1 << 19
+
+
+class Rows:
+    """Places as triples of whole numbers without limits."""
+
+    def __init__(self, places: np.ndarray) -> None:
+        self.places = places
+
+    def __getitem__(self, number: int) -> tuple[int, ...]:
+        return tuple(map(int, self.places[number]))
 
 
 def ranges(starts: np.ndarray, counts: np.ndarray) -> tuple[np.ndarray, np.ndarray]:

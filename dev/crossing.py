@@ -10,9 +10,8 @@ from __future__ import annotations
 
 from typing import Any, Sequence
 
-from recon.toolbox.vectors import Vector
-
-# whatever has the place of vertex k at [k]
+# three coordinates, and whatever has the place of vertex k at [k]
+Vector = Sequence[Any]
 Places = Any
 
 def orient(a: Vector, b: Vector, c: Vector, d: Vector) -> int:
