@@ -23,7 +23,7 @@ from tools_path import PACKAGE
 from recon.toolbox.ply_text import Refusal
 from recon.toolbox.tool import run
 
-HEAD = '| Scan | `recon build` | `recon check` | `recon-mesh finish` | Python | the last two to `build` |\n|---|---|---|---|---|---|'
+HEAD = '| Scan | `recon build` | `recon check` | `recon-mesh finish` | Python | (finish + Python) / build |\n|---|---|---|---|---|---|'
 WRAPPER = '#!/bin/bash\nTIMEFORMAT="$1 %U %S"\n{{ time {program} "$@" 2>/dev/null; }} 2>> {log}\n'
 
 
