@@ -9,7 +9,8 @@
   seconds=N      how long smoothing one of them may take (--patience; default: 120)
 
 Each row: points, how lines of sight are known, the spacing, the noise in spacings, unit, area weight, lone points, pieces that were kept,
-visibility weight against a sight, and the part of the area that no scanner saw; or the error. The last line counts the clouds that came out.
+visibility weight against a sight, and the part of the area that no scanner saw. A cloud without a surface has its error on standard error. The last
+line counts the clouds that came out.
 """
 from __future__ import annotations
 
@@ -80,7 +81,7 @@ def work(names: Sequence[str], options: Any) -> str:
     for path in clouds(folder):
         if options.only is None or options.only in path.name:
             row, is_made = row_of(path, recon, folder, options.seconds or '120')
-            print(row, flush=True)
+            print(row, flush=True, file=sys.stdout if is_made else sys.stderr)
             made, total = made + is_made, total + 1
     return f'{made} of {total} clouds came out'
 

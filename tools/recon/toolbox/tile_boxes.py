@@ -13,6 +13,9 @@ import math
 import random
 from typing import Any, Sequence, Tuple
 
+import numpy as np
+from scipy.spatial import cKDTree
+
 from recon.toolbox.ply_text import Refusal
 
 Place = Sequence[float]
@@ -45,37 +48,22 @@ class Sample:
             self.skip()
         self.count += 1
 
+    def points(self) -> np.ndarray:
+        """Returns the places of the rows, (n, 3)."""
+        return np.array([point for point, _ in self.rows], float).reshape(-1, 3)
+
     def share(self) -> float:
         """Returns how many rows of the stream one of the sample stands for."""
         return self.count / len(self.rows)
 
 
-class Grid:
-    """Points by the cubes, of one side, that they lie in."""
-
-    def __init__(self, points: list[Place], side: float) -> None:
-        self.side = side
-        self.cubes: dict[Any, Any] = {}
-        for p in points:
-            self.cubes.setdefault(self.cube(p), []).append(p)
-
-    def cube(self, point: Place) -> tuple[int, ...]:
-        return tuple(int(value // self.side) for value in point)
-
-    def nearest(self, point: Place) -> float:
-        """Returns the distance of the nearest other point, or the side where none is in the cubes around."""
-        i, j, k = self.cube(point)
-        near = (self.cubes.get((i + a, j + b, k + c), ()) for a in (-1, 0, 1) for b in (-1, 0, 1) for c in (-1, 0, 1))
-        return min((math.dist(point, other) for cube in near for other in cube if other is not point), default=self.side)
-
-
-def mean_spacing(points: list[Place], share: float) -> float:
-    """Returns the side of the square of the surface that a point has, by the median of distances; each of the points stands for
+def mean_spacing(points: np.ndarray, share: float) -> float:
+    """Returns the side of the square of the surface that a point has, by the median of distances; each of the points (n, 3) stands for
     `share` points."""
-    low, high = ([end(p[k] for p in points) for k in range(3)] for end in (min, max))
-    grid = Grid(points, 2 * math.dist(low, high) / math.sqrt(len(points)) or 1.0)
-    found = sorted(map(grid.nearest, points[::max(1, len(points) // ASKED)]))
-    return found[len(found) // 2] / MEDIAN / math.sqrt(share)
+    side = 2 * float(np.linalg.norm(np.ptp(points, axis=0))) / math.sqrt(len(points)) or 1.0
+    asked = points[::max(1, len(points) // ASKED)]
+    far = np.sort(np.minimum(cKDTree(points).query(asked, 2)[0][:, 1], side))
+    return float(far[len(far) // 2]) / MEDIAN / math.sqrt(share)
 
 
 class Core:
@@ -93,6 +81,10 @@ class Core:
         (a, b, c), (d, e, f), (x, y, z) = self.low, self.high, point
         return (a - overlap <= x <= d + overlap and b - overlap <= y <= e + overlap
                 and c - overlap <= z <= f + overlap)
+
+    def within(self, points: np.ndarray, overlap: float) -> np.ndarray:
+        """The same as `reaches`, for rows of points."""
+        return np.asarray(((points >= np.subtract(self.low, overlap)) & (points <= np.add(self.high, overlap))).all(axis=1))
 
     def halves(self, axis: int, at: float) -> tuple[Core, Core]:
         """Returns the two boxes below and above a plane."""
@@ -130,30 +122,30 @@ def between(a: float, b: float) -> float:
     return b
 
 
-def halving(values: list[float]) -> float | None:
+def halving(values: np.ndarray) -> float | None:
     """Returns a place that parts the values as evenly as may be, or None where they are all the same."""
-    values.sort()
-    middle = values[len(values) // 2]
-    below = [v for v in values if v < middle]
-    if below:
-        return between(below[-1], middle)
-    above = [v for v in values if v > middle]
-    return between(middle, above[0]) if above else None
+    if not len(values):
+        return None
+    middle = np.partition(values, len(values) // 2)[len(values) // 2]
+    below, above = values[values < middle], values[values > middle]
+    if len(below):
+        return between(float(below.max()), float(middle))
+    return between(float(middle), float(above.min())) if len(above) else None
 
 
-def best_cut(core: Core, points: list[Place], overlap: float) -> tuple[int, float] | None:
+def best_cut(core: Core, points: np.ndarray, overlap: float) -> tuple[int, float] | None:
     """Returns the axis and the place of the plane along which the fewest points stand in the overlap, or None where there is none."""
-    inside, found = [p for p in points if core.holds(p)], []
+    inside, found = points[((points >= core.low) & (points < core.high)).all(axis=1)], []
     for axis in range(3):
-        at = halving([p[axis] for p in inside])
+        at = halving(inside[:, axis])
         if at is not None:
-            found.append((sum(abs(p[axis] - at) <= overlap for p in points), axis, at))
+            found.append((int((np.abs(points[:, axis] - at) <= overlap).sum()), axis, at))
     return min(found)[1:] if found else None
 
 
-def divide(core: Core, points: list[Place], share: float, overlap: float, limit: int) -> Core | Cut:
-    """Halves a box until each tile has at most the given number of points, by a sample of points in its box and the overlap; each of
-    these stands for several. The sampling error is allowed for."""
+def divide(core: Core, points: np.ndarray, share: float, overlap: float, limit: int) -> Core | Cut:
+    """Halves a box until each tile has at most the given number of points, by a sample of points (n, 3) in its box and the overlap; each
+    of these stands for several. The sampling error is allowed for."""
     expected = share * len(points) + (4 * share * math.sqrt(len(points)) if share > 1 else 0)
     if expected <= limit:
         return core
@@ -163,7 +155,7 @@ def divide(core: Core, points: list[Place], share: float, overlap: float, limit:
                       'points=, or thin the scan first (recon-scan with side=)')
     axis, at = cut
     below, above = core.halves(axis, at)
-    first, last = ([p for p in points if p[axis] <= at + overlap], [p for p in points if p[axis] >= at - overlap])
+    first, last = points[points[:, axis] <= at + overlap], points[points[:, axis] >= at - overlap]
     return Cut(axis, at, overlap, divide(below, first, share, overlap, limit), divide(above, last, share, overlap, limit))
 
 

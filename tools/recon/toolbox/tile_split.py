@@ -11,19 +11,22 @@ import contextlib
 import json
 import os
 import shutil
-from itertools import chain, islice
+from itertools import chain
 from math import inf, isinf
 from operator import gt
 from dataclasses import dataclass
 from typing import Any, Callable, Dict, Iterator, Sequence
 
+import numpy as np
+
 from recon.toolbox import tile_jobs
 from recon.toolbox.ply_text import SCANNER_LIMIT, Property, Refusal, Writer
 from recon.toolbox.scan_feeds import Fed, feed
-from recon.toolbox.tile_boxes import Core, Cut, Place, Row, Sample, cores_of, divide, mean_spacing
+from recon.toolbox.tile_boxes import Core, Cut, Row, Sample, cores_of, divide, mean_spacing
 from recon.toolbox.tool import Report, left_out, number_of
 
 ROWS_HELD = 400000
+CHUNK = 20000
 SCALED_LIMIT = 2097151
 
 
@@ -153,34 +156,58 @@ class AsItStands:
         return None
 
 
+class Sights:
+    """The lines of sight of a sample: its points (n, 3), and the scanners' places (m, 3) of all sights, those of a point one after another."""
+
+    def __init__(self, rows: Sequence[Row], points: np.ndarray, positions: Sequence[Sequence[str]]) -> None:
+        named = [words[3].split() for _, words in rows]
+        places = np.array([tuple(map(float, position)) for position in positions]).reshape(-1, 3)
+        self.points, self.counts = points, np.array([len(words) for words in named], np.int64)
+        self.starts = np.cumsum(self.counts) - self.counts
+        self.ends = places[np.array([int(word) for words in named for word in words], np.int64)]
+
+    def entering(self, low: np.ndarray, high: np.ndarray, rows: np.ndarray) -> list[int]:
+        """Returns those of some rows with a sight that meets a box."""
+        counts = self.counts[rows]
+        owner = np.repeat(np.arange(len(rows)), counts)
+        at = np.arange(len(owner)) + np.repeat(self.starts[rows] - (np.cumsum(counts) - counts), counts)
+        start, along = self.points[rows][owner], self.ends[at] - self.points[rows][owner]
+        first, last = np.zeros(len(owner)), np.ones(len(owner))
+        with np.errstate(divide='ignore', invalid='ignore'):
+            one, two = (low - start) / along, (high - start) / along
+        for axis in range(3):
+            is_flat = along[:, axis] == 0
+            is_in = (low[axis] <= start[:, axis]) & (start[:, axis] <= high[axis])
+            first = np.maximum(first, np.where(is_flat, np.where(is_in, 0, 2), np.minimum(one[:, axis], two[:, axis])))
+            last = np.minimum(last, np.where(is_flat, 1, np.maximum(one[:, axis], two[:, axis])))
+        return rows[np.unique(owner[first <= last])].tolist()
+
+
 class Splitter:
     """A scan that was looked at, and is cut. `handed` are the rows that were passed to some tile from outside."""
 
     def __init__(self, wanted: Wanted, fed: Fed, look: Look) -> None:
         self.wanted, self.fed, self.look = wanted, fed, look
-        self.places = [tuple(map(float, position)) for position in fed.positions]
+        self.sights = Sights(look.sample.rows, look.sample.points(), fed.positions)
         self.handed: dict[Any, Any] = {}
 
     def divide(self, core: Core, sample: Any) -> Core | Cut:
         limit = self.wanted.points - self.wanted.through - len(self.look.ends)
-        return divide(core, [point for point, _ in sample.rows], sample.share(), self.wanted.overlap, limit)
+        return divide(core, sample.points(), sample.share(), self.wanted.overlap, limit)
 
     def from_outside(self, core: Core) -> dict[Row, None]:
         """Returns the rows from outside a tile's box that it gets: those farthest out, and those of the sample whose sights enter the
         box round its points."""
-        near: list[Row] = []
-        outside: list[Row] = []
-        for row in self.look.sample.rows:
-            (near if core.reaches(row[0], self.wanted.overlap) else outside).append(row)
-        box = [(min(values), max(values)) for values in zip(*(point for point, _ in near))]
-        entering = (row for row in outside if box and self.enters(box, row))
+        rows, sights = self.look.sample.rows, self.sights
+        is_near = core.within(sights.points, self.wanted.overlap)
+        near, outside = sights.points[is_near], np.flatnonzero(~is_near)
+        entering: list[int] = []
+        for start in range(0, len(outside) if len(near) else 0, CHUNK):
+            entering += sights.entering(near.min(axis=0), near.max(axis=0), outside[start:start + CHUNK])
+            if len(entering) >= self.wanted.through:
+                break
         ends = (row for row in self.look.ends if row and not core.reaches(row[0], self.wanted.overlap))
-        return dict.fromkeys(chain(ends, islice(entering, self.wanted.through)))
-
-    def enters(self, box: list[tuple[float, float]], row: Row) -> bool:
-        """Returns whether a sight of a row meets a box."""
-        point, words = row
-        return any(is_met(box, point, self.places[int(word)]) for word in words[3].split())
+        return dict.fromkeys(chain(ends, (rows[k] for k in entering[:self.wanted.through])))
 
     def finished(self, tile: Tile) -> Tile:
         """Returns the tile, whose file ends with what it gets from outside and its scanners."""
@@ -220,20 +247,6 @@ class Splitter:
         return [part for tile in self.hand_out(division, feed_rows, name) for part in self.parted(tile)]
 
 
-def is_met(box: list[tuple[float, float]], a: Sequence[float], b: Sequence[float]) -> bool:
-    """Returns whether the line from a to b meets a box."""
-    first, last = 0.0, 1.0
-    for (low, high), start, end in zip(box, a, b):
-        along = end - start
-        if along == 0:
-            if not low <= start <= high:
-                return False
-            continue
-        one, two = (low - start) / along, (high - start) / along
-        first, last = max(first, min(one, two)), min(last, max(one, two))
-    return first <= last
-
-
 def named(tiles: list[Tile], folder: str) -> list[dict[str, Any]]:
     """Gives the tiles' files their names in the order of the cores, and answers what `tiles.json` says of each."""
     width, found = max(3, len(str(len(tiles) - 1))), []
@@ -261,7 +274,7 @@ def write_folder(scan: list[str], folder: str, wanted: Wanted, options: Any) -> 
     """Writes the tiles of a scan, `tiles.json`, the points from outside, and the jobs into a folder, and returns what was read
     and what `tiles.json` says."""
     fed, look = looked_at(scan, wanted)
-    spacing = mean_spacing([point for point, _ in look.sample.rows], look.sample.share())
+    spacing = mean_spacing(look.sample.points(), look.sample.share())
     if wanted.given is None:
         wanted.overlap = float(f'{wanted.spacings * spacing:.4g}')
     splitter = Splitter(wanted, fed, look)
