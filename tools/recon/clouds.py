@@ -1,7 +1,7 @@
 """What points say of themselves: how far they are apart, how noisy they are, and which origin and unit fit them.
 
-Names: spacing (distance and noise) · tree_of (to find nearest points) · curve_of (an order in which near points are near each other) · frame (origin
-and unit) · lone_points · surrounding (how much of the directions around a scanner has points) · thinning_side, thinned (one point a cube).
+Names: spacing (distance and noise) · tree_of (to find nearest points) · curve_of (an order in which near points are near each other) · box_of · frame
+(origin and unit) · lone_points · surrounding (how much of the directions around a scanner has points) · thinning_side, thinned (one point a cube).
 """
 from __future__ import annotations
 
@@ -67,20 +67,25 @@ def deviations(blocks: np.ndarray, width: np.ndarray) -> np.ndarray:
     return np.sqrt((left ** 2).sum(axis=1) / (blocks.shape[1] - 6)) * width
 
 
+def box_of(points: np.ndarray) -> tuple[np.ndarray, np.ndarray]:
+    """Returns the least and the greatest coordinates of points, column by column, which numpy does four times as fast as by rows."""
+    return np.array([points[:, k].min() for k in range(3)]), np.array([points[:, k].max() for k in range(3)])
+
+
 def frame(points: np.ndarray, scanners: np.ndarray, apart: float | None = None) -> Frame:
     """Returns an origin, 0 if all fits without, and a unit: the power of ten that puts 100 to 1000 units between points, or the
     largest below it at which points and scanners fit. `apart` is the spacing, if it is known. Raises `Invalid` if they are more than
     4,194,302 units of 1 across."""
-    both = np.concatenate([np.asarray(points, float), np.asarray(scanners, float).reshape(-1, 3)])
-    if not len(both):
+    boxes = [box_of(rows) for rows in (np.asarray(points, float).reshape(-1, 3), np.asarray(scanners, float).reshape(-1, 3)) if len(rows)]
+    if not boxes:
         return Frame(np.zeros(3), 1)
     apart = spacing(points).distance if apart is None else apart
-    low, high = both.min(axis=0), both.max(axis=0)
+    low, high = np.min([box[0] for box in boxes], axis=0), np.max([box[1] for box in boxes], axis=0)
     size = max(float((high - low).max()), apart)
     unit = 10 ** int(np.clip(np.floor(np.log10(1000 / apart)) if apart > 0 else 0, 0, 6))
     while unit > 1 and size / 2 * unit * 1.05 > LIMIT:
         unit //= 10
-    if np.abs(both).max() * unit * 1.01 <= LIMIT:
+    if max(np.abs(low).max(), np.abs(high).max()) * unit * 1.01 <= LIMIT:
         return Frame(np.zeros(3), unit)
     return Frame(origin_for(low, high, unit), unit)
 
@@ -96,7 +101,7 @@ def origin_for(low: np.ndarray, high: np.ndarray, unit: int) -> np.ndarray:
 
 
 def tree_of(points: np.ndarray) -> cKDTree:
-    """Returns the tree by which nearest points are found. It is not balanced, and its boxes are not shrunk, which takes twice as long to make."""
+    """Returns the tree by which nearest points are found. To balance it and to shrink its boxes would double the time to make it."""
     return cKDTree(points, balanced_tree=False, compact_nodes=False)
 
 
@@ -142,8 +147,8 @@ def medians(values: np.ndarray, count: int) -> np.ndarray:
 
 def lone_points(points: np.ndarray, factor: float = 4.0, tree: cKDTree | None = None, order: np.ndarray | None = None) -> np.ndarray:
     """Returns which points are more than `factor` times as far from their six nearest as the neighborhoods of their twelve nearest are wide on the
-    median, and as one of the six is. Nearest points are looked for where a point is half as much further from those around it on a curve than they
-    are from theirs, or most of a hundredth of the curve. `tree` is `tree_of(points)` and `order` is `curve_of(points)`, if they are known."""
+    median, and as one of the six is. Nearest points are searched for points alone that are half as many times as far from those around them on a
+    curve as is usual there, or in a hundredth of the curve. `tree` is `tree_of(points)` and `order` is `curve_of(points)`, if they are known."""
     tree, order = tree_of(points) if tree is None else tree, curve_of(points) if order is None else order
     widths = np.empty(len(points))
     widths[order] = along = curve_widths(points[order] - np.median(points[::max(1, len(points) // SAMPLE)], axis=0))

@@ -14,7 +14,7 @@ from typing import Any, NamedTuple, Optional, Sequence
 import numpy as np
 
 from recon.choices import Choices
-from recon.clouds import spacing
+from recon.clouds import box_of, spacing
 from recon.library import Sights
 from recon.program import Invalid
 from recon.sights import above, along_normals, estimated_normals, lies_flat
@@ -56,7 +56,7 @@ class Cloud:
     def with_corners(self, off: float) -> Cloud:
         """Returns the cloud with eight points more: the corners of a box `off` outside of the points, each seen by a scanner as far
         outside of the box. So walls that were scanned from inside become solid."""
-        low, high = self.points.min(axis=0), self.points.max(axis=0)
+        low, high = box_of(self.points)
         signs = np.array([[x, y, z] for x in (0, 1) for y in (0, 1) for z in (0, 1)])
         corners = [np.where(signs, high + k * off, low - k * off) for k in (1, 2)]
         count = len(self.scanners)

@@ -14,7 +14,7 @@ from typing import Any, NamedTuple, Sequence, Union
 
 import numpy as np
 
-from recon.clouds import LIMIT, frame, origin_for, spacing
+from recon.clouds import LIMIT, box_of, frame, origin_for, spacing
 from recon.meshes import Mesh
 from recon.program import Invalid, run
 from recon.sights import SCANNER_LIMIT, along_normals
@@ -121,7 +121,8 @@ def rows_at(whole: np.ndarray, places: np.ndarray) -> np.ndarray:
     """The first row of `whole`, whole coordinates (n, 3), that each of `places` is."""
     if not len(places):
         return np.zeros(0, np.int64)
-    low, (x, y, z) = whole.min(axis=0), (int(size) + 1 for size in np.ptp(whole, axis=0))
+    low, high = box_of(whole)
+    x, y, z = (int(size) + 1 for size in high - low)
     if x * y * z < 1 << 63:
         return first_equal(*((rows[:, 0] - low[0]) * (y * z) + (rows[:, 1] - low[1]) * z + (rows[:, 2] - low[2]) for rows in (whole, places)))
     numbers = np.unique(np.concatenate([whole, places]), axis=0, return_inverse=True)[1].ravel()

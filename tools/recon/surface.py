@@ -27,7 +27,7 @@ from scipy.spatial import cKDTree
 
 from recon.beside import Beside
 from recon.choices import Choices
-from recon.clouds import Spacing, curve_of, frame, lone_points, spacing, surrounding, thinned, thinning_side, tree_of
+from recon.clouds import SAMPLE, Spacing, box_of, curve_of, frame, lone_points, spacing, surrounding, thinned, thinning_side, tree_of
 from recon.finish import MOST_STEPS, Wishes, finished, seen_path
 from recon.inputs import Cloud, Inputs, read_cloud
 from recon.library import Surface, build
@@ -71,8 +71,10 @@ def divided(cloud: Cloud, args: Any, choices: Choices) -> Cloud:
 def cleaned(cloud: Cloud, tree: cKDTree, args: Any, choices: Choices) -> Cloud:
     """The cloud without lone points. `tree` is that of its points, which stand along a curve."""
     points = cloud.points
-    middle = np.median(points, axis=0)
-    away = np.abs(points - middle).max(axis=1)
+    middle = np.median(points[::max(1, len(points) // SAMPLE)], axis=0)
+    away = np.abs(points[:, 0] - middle[0])
+    for k in (1, 2):
+        np.maximum(away, np.abs(points[:, k] - middle[k]), out=away)
     far = int((away > 50 * max(float(np.percentile(away, 99)), 1e-300)).sum())
     if far:
         choices.warn(f'{far} points lie over fifty times as far out as nearly all others: recon-scan with from= and to= leaves them out')
@@ -115,7 +117,8 @@ def closed_around(cloud: Cloud, texture: Spacing, args: Any, choices: Choices) -
         part = surrounding(cloud.points[first == busiest], cloud.scanners[busiest])
     off = args.surround
     if off is None:
-        size = float(np.ptp(cloud.points, axis=0).max())
+        low, high = box_of(cloud.points)
+        size = float((high - low).max())
         off = float(f'{max(10 * texture.distance, 0.02 * size):.3g}') if part > ROOM else 0.0
         where = 'walls all around' if off else 'not from inside'
         choices.choose('surround', f'{off:g}', f'{where}: points in {part:.0%} of the directions around a scanner')
@@ -141,8 +144,9 @@ def prepared(inputs: Inputs) -> Scan:
     texture = spacing(cloud.points, tree)
     if not texture.distance:
         raise NoSurface('most points stand at one place')
+    low, high = box_of(cloud.points)
     choices.tell(f'{read:,} points, {len(cloud.scanners):,} positions; {texture.distance:.4g} apart, noise about {texture.noise:.2g}, '
-                 f'{np.ptp(cloud.points, axis=0).max():.4g} across')
+                 f'{(high - low).max():.4g} across')
     cloud = thin(cleaned(cloud, tree, args, choices), texture, args, choices)
     cloud, off = closed_around(cloud, texture, args, choices)
     origin, unit = framed(cloud, texture, args, choices)
@@ -153,8 +157,7 @@ def prepared(inputs: Inputs) -> Scan:
 def framed(cloud: Cloud, texture: Spacing, args: Any, choices: Choices) -> tuple[np.ndarray, int]:
     """The origin and the scale."""
     given = None if args.origin is None else np.array([float(word) for word in args.origin.split(',')])
-    shift = np.zeros(3) if given is None else given
-    fitting = frame(cloud.points - shift, cloud.scanners - shift, texture.distance)
+    fitting = frame(*((cloud.points, cloud.scanners) if given is None else (cloud.points - given, cloud.scanners - given)), texture.distance)
     origin, unit = fitting.origin if given is None else given, args.unit or fitting.unit
     choices.choose('origin', ','.join(map(plain, origin)), 'given' if given is not None else 'all fits' if not origin.any() else 'far from 0')
     gap = texture.distance * unit
