@@ -29,7 +29,7 @@ from report import begun
 TOP = pathlib.Path(__file__).resolve().parent.parent
 LOG = TOP / 'attack.log'
 # A line of `rt help` that says that `rt ci` takes names of crates.
-TAKES_NAMES = re.compile(r'(?m)^ *rt ci +\[')
+TAKES_NAMES = re.compile(r'(?m)^ *rt ci +(\[|NAME)')
 SIDE_BY_SIDE = 4
 RESULT = re.compile(r'(?:rt: )?must-fail (\w+/\S+)\.edit: (.*)')
 

@@ -1,7 +1,8 @@
 """What points say of themselves: how far they are apart, how noisy they are, and which origin and unit fit them.
 
-Names: spacing (distance and noise) · tree_of (to find nearest points) · curve_of (an order in which near points are near each other) · box_of · frame
-(origin and unit) · lone_points · surrounding (how much of the directions around a scanner has points) · thinning_side, thinned (one point a cube).
+Names: spacing (distance and noise) · centered (blocks of points) · tree_of (to find nearest points) · curve_of (an order in which near points are
+near each other) · box_of · frame (origin and unit) · lone_points · surrounding (how much of the directions around a scanner has points) ·
+thinning_side, thinned (one point a cube).
 """
 from __future__ import annotations
 
@@ -53,18 +54,26 @@ def spacing(points: np.ndarray, tree: cKDTree | None = None) -> Spacing:
     distance = float(np.median(near_ones)) if len(near_ones) else 0.0
     if near.shape[1] < 12 or not distance or not whole.any():
         return Spacing(distance, 0.0)
-    return Spacing(distance, float(np.median(deviations(points[near[whole]], width[whole]))))
+    return Spacing(distance, float(np.median(deviations(points[near[whole]]))))
 
 
-def deviations(blocks: np.ndarray, width: np.ndarray) -> np.ndarray:
+def centered(blocks: np.ndarray) -> tuple[np.ndarray, np.ndarray]:
+    """Returns blocks of points (n, k, 3) moved to their middles and divided so that coordinates are at most 1, and what each was divided by. So no
+    square of a coordinate overflows."""
+    block = blocks - blocks.mean(axis=1, keepdims=True)
+    reach = np.maximum(np.abs(block).max(axis=(1, 2)), 1e-300)
+    return block / reach[:, None, None], reach
+
+
+def deviations(blocks: np.ndarray) -> np.ndarray:
     """The deviation of each block of points (n, k, 3) from the surface of second degree through it. Deviations from a plane would
     count curvature as noise."""
-    block = (blocks - blocks.mean(axis=1, keepdims=True)) / np.maximum(width, 1e-300)[:, None, None]
+    block, reach = centered(blocks)
     turned = np.einsum('nki,nij->nkj', block, np.linalg.eigh(np.einsum('nki,nkj->nij', block, block))[1])
     z, x, y = (turned[:, :, k] for k in range(3))
     terms = np.stack([np.ones_like(x), x, y, x * x, x * y, y * y], axis=2)
     left = z - np.einsum('nki,ni->nk', terms, np.einsum('nij,nj->ni', np.linalg.pinv(terms), z))
-    return np.sqrt((left ** 2).sum(axis=1) / (blocks.shape[1] - 6)) * width
+    return np.sqrt((left ** 2).sum(axis=1) / (blocks.shape[1] - 6)) * reach
 
 
 def box_of(points: np.ndarray) -> tuple[np.ndarray, np.ndarray]:

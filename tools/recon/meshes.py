@@ -43,10 +43,10 @@ class Mesh:
         return unseen_faces(self.vertices, self.faces)
 
     def seen(self, unseen: np.ndarray | None = None) -> Mesh:
-        """Returns the open mesh without the faces that span unseen space, and without pieces under 20 faces that are left of it, which hang
-        together by vertices. All vertices stay. `unseen` is what `unseen` returned, if it is known."""
+        """Returns the open mesh without the faces that span unseen space, and without pieces under 20 faces that are left of it. All
+        vertices stay. `unseen` is what `unseen` returned, if it is known."""
         faces = self.faces[~(self.unseen() if unseen is None else unseen)]
-        part = pieces_by_vertices(faces, len(self.vertices))
+        part = pieces(faces, len(self.vertices))
         return Mesh(self.vertices, faces[np.bincount(part)[part] >= LEAST_PIECE] if len(faces) else faces, self.source)
 
     def to_open3d(self) -> Any:
@@ -157,12 +157,6 @@ def pieces(faces: np.ndarray, count: int) -> np.ndarray:
     """Returns the number of its piece for each face. Faces with an edge in common, of `count` vertices, are of one piece; the mesh may be
     open."""
     return linked(*neighboring(faces, count), len(faces)) if len(faces) else np.zeros(0, np.int32)
-
-
-def pieces_by_vertices(faces: np.ndarray, count: int) -> np.ndarray:
-    """Returns the same for pieces that hang together by vertices, in a third of the time."""
-    corners = faces.astype(np.int32)
-    return linked(np.r_[corners[:, 0], corners[:, 0]], np.r_[corners[:, 1], corners[:, 2]], count)[corners[:, 0]]
 
 
 def mean_angle(places: np.ndarray, faces: np.ndarray) -> float:

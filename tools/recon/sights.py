@@ -9,6 +9,7 @@ from scipy.sparse import coo_matrix
 from scipy.sparse.csgraph import breadth_first_order, connected_components, minimum_spanning_tree
 from scipy.spatial import cKDTree
 
+from recon.clouds import centered
 from recon.program import Invalid
 
 SCANNER_LIMIT = 65_536
@@ -68,7 +69,7 @@ def estimated_normals(points: np.ndarray, around: int = 16) -> np.ndarray:
     """Returns normals (n, 3) of planes through the nearest points, turned alike along a least spanning tree, and so that most point away
     from the middle. They are a guess: sheets nearer to each other than a few spacings may come out wrong."""
     near = cKDTree(points).query(points, min(around, len(points)))[1]
-    block = points[near] - points[near].mean(axis=1, keepdims=True)
+    block, _ = centered(points[np.minimum(near, len(points) - 1)])
     normals = np.linalg.eigh(np.einsum('nki,nkj->nij', block, block))[1][:, :, 0]
     one, other = np.repeat(np.arange(len(points)), near.shape[1] - 1), near[:, 1:].ravel()
     cost = 1.0001 - np.abs(np.einsum('ij,ij->i', normals[one], normals[other]))

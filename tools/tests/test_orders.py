@@ -9,7 +9,7 @@ import numpy as np
 from helpers import equal
 from recon import lone_points
 from recon.clouds import curve_of
-from recon.meshes import areas, longest_edges, mean_angle, pieces, pieces_by_vertices
+from recon.meshes import areas, longest_edges, mean_angle, pieces
 from recon.toolbox.orders import ascending, curve_order, first_equal, turned
 
 
@@ -69,7 +69,6 @@ class Orders(unittest.TestCase):
         for size in (6, 20, 60):
             faces = np.array([draw.permutation(size)[:3] for _ in range(40)])
             same_parts(pieces(faces, size), parts_of(faces.tolist(), lambda one, other: len(one & other) > 1))
-            same_parts(pieces_by_vertices(faces, size), parts_of(faces.tolist(), lambda one, other: len(one & other) > 0))
         equal(len(pieces(faces[:0], 9)), 0)
 
     def test_faces_are_turned(self) -> None:

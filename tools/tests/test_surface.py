@@ -130,6 +130,13 @@ class Surfaces(InFolder):
                 report = json.loads(pathlib.Path('mesh.recon', 'report.json').read_text())
                 equal(report['counts']['points'], 300)
 
+    def test_many_points_at_one_place_and_others_far_out(self) -> None:
+        points = np.r_[sphere(300), np.repeat(sphere(5) + 0.01, 8, axis=0), sphere(20) * 1e38]
+        write('list.xyz', ''.join(' '.join(map(repr, row)) + '\n' for row in points.tolist()))
+        for words in (['list.xyz=0,0,9'], ['list.xyz']):
+            got, said, error = call('surface', *words, '-o', 'mesh.ply', '-q', '--no-check', '--program', RECON)
+            equal((words, got in (1, 3), said, error.count('\n')), (words, True, '', 1))
+
     def test_points_are_left_out(self) -> None:
         points = np.r_[sphere(400), [[0, 0, 2.5]]]
         write('in.ply', scan_text(points, SCANNERS, nearest(points)))
