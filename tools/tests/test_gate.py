@@ -123,4 +123,5 @@ class Gate(InFolder):
         equal(attack.crates_of(['no_crate'])[1], ['no_crate'])
         equal(os.path.isdir(os.path.join(ROOT, 'attack')), True)
         equal(attack.takes_names('usage\n  rt ci [NAME..]          the gate\n'), True)
+        equal(attack.takes_names('usage\n  rt ci          the gate\n  rt ci NAME..   the same for these crates\n'), True)
         equal(attack.takes_names('usage\n  rt ci                   the gate\n  rt must-fail [NAME..]\n'), False)
