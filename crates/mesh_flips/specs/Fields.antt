@@ -2,6 +2,7 @@
 --
 --   HoldsFace points h f            a box contains the corners of a face
 --   HoldsQuad points h q            a box contains the corners of a quad
+--   AreHullsOf points hulls q       boxes contain the new faces of a quad, and one both
 --   HasBox points faces tree i      a box of face number i is inserted at i
 --   IsTreeOf points faces tree      the tree has a box of each face at the face's number
 --   IsReady points faces tree       it has, and each face is a triangle
@@ -15,6 +16,7 @@ use Rattle.hull_tree.specs.declared.hull.Hull.{Hull}
 use Rattle.hull_tree.specs.declared.tree.HullTree.{HullTree}
 use Rattle.mesh_flips.specs.Turns.{IsTriangle}
 use Rattle.mesh_flips.specs.declared.quad.Quad.{Quad}
+use Rattle.mesh_flips.specs.declared.clear.QuadHulls.{QuadHulls}
 
 -- the corners of a face
 abbrev pub HoldsFace : List Point → Hull → List ℕ → Type 0
@@ -28,6 +30,12 @@ pub record HoldsQuad (points : List Point) (h : Hull) (q : Quad) : Type 0 where
   pub b : HoldsPoint h (point_at points q.b)
   pub c : HoldsPoint h (point_at points q.c)
   pub d : HoldsPoint h (point_at points q.d)
+
+-- boxes contain the new faces of a quad, and one both
+pub record AreHullsOf (points : List Point) (hulls : QuadHulls) (q : Quad) : Type 0 where
+  pub first : HoldsFace points hulls.first (q.a ∷ q.d ∷ q.c ∷ [])
+  pub second : HoldsFace points hulls.second (q.d ∷ q.b ∷ q.c ∷ [])
+  pub both : HoldsQuad points hulls.both q
 
 -- a box of the face is inserted at its number
 abbrev pub HasBox : List Point → List (List ℕ) → HullTree → ℕ → Type 0

@@ -1,12 +1,13 @@
 //! Tests whether an edge may be flipped: the new faces are apart from all others, and no other face has the new edge.
 
-ghost use Rattle.std.specs.Prelude.{◌≡◌, ◌≢◌, ◌<◌, ℕ, All, Contains, IfOk, length};
+ghost use Rattle.std.specs.Prelude.{◌≡◌, ◌≢◌, ◌<◌, ℕ, [], ◌∷◌, All, Contains, IfOk, length};
 ghost use Rattle.std.specs.Bool.{OnTrue};
 ghost use Rattle.mesh_flips.specs.Turns.{IsTriangle};
 ghost use Rattle.mesh_flips.specs.Quads.{HasCorners};
 ghost use Rattle.mesh_edges.specs.Edges.{face_at};
 ghost use Rattle.mesh_flips.specs.Clear.{IsClear, IsFree};
-ghost use Rattle.mesh_flips.specs.Fields.{HoldsFace, HoldsQuad, IsTreeOf};
+ghost use Rattle.triangle_gap.specs.Gaps.{AreFacesApart};
+ghost use Rattle.mesh_flips.specs.Fields.{HoldsFace, AreHullsOf, IsTreeOf};
 ghost use Rattle.mesh_ply.specs.Meshes.{is_vertex_of, point_at};
 
 use crate::NoMemory;
@@ -14,6 +15,14 @@ use crate::quad::Quad;
 use geo_sign::Point;
 use hull_tree::{Hull, HullTree};
 use triangle_gap::are_apart;
+
+/// Boxes of the two new faces of a quad, and of both.
+#[derive(Clone, Copy)]
+pub(crate) struct QuadHulls {
+    pub(crate) first: Hull,
+    pub(crate) second: Hull,
+    pub(crate) both: Hull,
+}
 
 /// Returns the point of a vertex.
 fn place(points: &[Point], v: u32) -> Point
@@ -40,36 +49,65 @@ fn has(face: [u32; 3], v: u32) -> bool
     a == v || b == v || c == v
 }
 
-/// Returns whether the new faces of a quad are known to be apart from a face, and the face has not both ends of the new edge. `hull` is
-/// a box of the quad.
-fn is_clear(points: &[Point], face: [u32; 3], hull: Hull, quad: Quad) -> bool
+/// Returns whether two faces are known to be apart, by their boxes or by planes.
+fn are_known_apart(points: &[Point], one: [u32; 3], hull: Hull, other: [u32; 3], near: Hull) -> bool
+    requires one_in { All (λ v. v < length points.now) one }
+    requires other_in { All (λ v. v < length points.now) other }
+    requires hull { HoldsFace points.now hull one }
+    requires near { HoldsFace points.now near other }
+    ensures { OnTrue result (AreFacesApart points.now one other) }
+{
+    if !hull.meets(near) {
+        return true;
+    }
+    are_apart(points, one, other)
+}
+
+/// Returns whether the new faces of a quad are known to be apart from a face, and the face has not both ends of the new edge.
+fn is_clear(points: &[Point], face: [u32; 3], hulls: QuadHulls, quad: Quad) -> bool
     requires face { IsTriangle (length points.now) face }
     requires corners { HasCorners (length points.now) quad }
-    requires hull { HoldsQuad points.now hull quad }
+    requires hulls { AreHullsOf points.now hulls quad }
     ensures { OnTrue result (IsClear points.now quad face) }
 {
-    if !hull_of(points, face).meets(hull) {
+    let hull = hull_of(points, face);
+    if !hull.meets(hulls.both) {
         return true;
     }
     let Quad { a, b, c, d } = quad;
     if has(face, c) && has(face, d) {
         return false;
     }
-    if !are_apart(points, [a, d, c], face) {
+    if !are_known_apart(points, [a, d, c], hulls.first, face, hull) {
         return false;
     }
-    are_apart(points, [d, b, c], face)
+    are_known_apart(points, [d, b, c], hulls.second, face, hull)
 }
 
-/// Returns the box of a quad.
-fn hull_of_quad(points: &[Point], quad: Quad) -> Hull
+/// Returns the smallest box that contains three points.
+fn hull_around(points: &[Point], a: u32, b: u32, c: u32) -> Hull
+    requires a { a < length points.now }
+    requires b { b < length points.now }
+    requires c { c < length points.now }
+    ensures { HoldsFace points.now result (a ∷ b ∷ c ∷ []) }
+{
+    Hull::of_points(place(points, a), place(points, b), place(points, c))
+}
+
+/// Returns the boxes of a quad.
+fn hulls_of(points: &[Point], quad: Quad) -> QuadHulls
     requires { HasCorners (length points.now) quad }
-    ensures { HoldsQuad points.now result quad }
+    ensures { AreHullsOf points.now result quad }
 {
     let Quad { a, b, c, d } = quad;
-    let p = place(points, d);
-    let one = Hull::of_points(place(points, a), place(points, b), place(points, c));
-    one.joined(Hull::of_point(p))
+    let first = hull_around(points, a, d, c);
+    let second = hull_around(points, d, b, c);
+    let both = first.joined(second);
+    QuadHulls {
+        first,
+        second,
+        both,
+    }
 }
 
 /// Returns whether a number is that of one of the quad's own faces, of no face, or of a face that is clear.
@@ -79,18 +117,18 @@ fn is_own_or_clear(
     i: usize,
     one: usize,
     other: usize,
-    hull: Hull,
+    hulls: QuadHulls,
     quad: Quad,
 ) -> bool
     requires each { All (IsTriangle (length points.now)) faces.now }
     requires corners { HasCorners (length points.now) quad }
-    requires hull { HoldsQuad points.now hull quad }
+    requires hulls { AreHullsOf points.now hulls quad }
     ensures { OnTrue result (i < length faces.now → i ≢ one → i ≢ other → IsClear points.now quad (face_at faces.now i)) }
 {
     if i >= faces.len() || i == one || i == other {
         return true;
     }
-    is_clear(points, faces[i], hull, quad)
+    is_clear(points, faces[i], hulls, quad)
 }
 
 /// Returns whether each of some faces, but for two, is clear of a quad.
@@ -100,16 +138,16 @@ fn are_clear(
     found: &[usize],
     one: usize,
     other: usize,
-    hull: Hull,
+    hulls: QuadHulls,
     quad: Quad,
 ) -> bool
     requires each { All (IsTriangle (length points.now)) faces.now }
     requires corners { HasCorners (length points.now) quad }
-    requires hull { HoldsQuad points.now hull quad }
+    requires hulls { AreHullsOf points.now hulls quad }
     ensures { OnTrue result ((i : ℕ) → Contains found.now i → i < length faces.now → i ≢ one → i ≢ other → IsClear points.now quad (face_at faces.now i)) }
 {
     for i in found {
-        if !is_own_or_clear(points, faces, *i, one, other, hull, quad) {
+        if !is_own_or_clear(points, faces, *i, one, other, hulls, quad) {
             return false;
         }
     }
@@ -132,9 +170,9 @@ pub(crate) fn is_free(
     ensures { IfOk result (λ yes. OnTrue yes (IsFree points.now faces.now one other quad)) }
 {
     found.clear();
-    let hull = hull_of_quad(points, quad);
-    tree.near(hull, found)?;
-    if !are_clear(points, faces, found, one, other, hull, quad) {
+    let hulls = hulls_of(points, quad);
+    tree.near(hulls.both, found)?;
+    if !are_clear(points, faces, found, one, other, hulls, quad) {
         return Ok(false);
     }
     let Quad { a, b, c, d } = quad;

@@ -61,7 +61,9 @@ fn try_flip(
     let Some(quad) = quad_at(faces, edge, twin) else {
         return Ok(());
     };
-    if gain(hints, points, edge, twin, quad) <= least {
+    let weighed = gain(hints, points, edge, twin, quad);
+    hints.note(edge, weighed.part);
+    if weighed.part <= least {
         return Ok(());
     }
     let one = (edge / 3) as usize;
@@ -70,10 +72,10 @@ fn try_flip(
         return Ok(());
     }
     turn(points, faces, tree, one, other, quad);
-    hints.turn(points, edge, twin, quad)
+    hints.turn(edge, twin, weighed)
 }
 
-/// Tries all edges, and again those around each flip, until no edge waits.
+/// Tries all edges that may gain, and again those around each flip, until no edge waits.
 fn flip_pass(
     points: &[Point],
     faces: &mut [[u32; 3]],
@@ -87,7 +89,7 @@ fn flip_pass(
     ensures ready { IsReady points.now faces.new tree.new }
 {
     for face in 0..faces.len() {
-        hints.wait_around(face.min(u32::MAX as usize) as u32)?;
+        hints.wait_again(face.min(u32::MAX as usize) as u32)?;
     }
     for _ in 0..faces.len().saturating_mul(LOOKS) {
         match hints.next() {

@@ -14,7 +14,25 @@ pub(crate) struct Hints {
     pub(crate) twins: Vec<u32>,
     pub(crate) normals: Vec<Way>,
     pub(crate) waits: Vec<bool>,
+    /// Whether a flip of the edge gained anything when it was last weighed. All that it depends on is weighed again after each flip.
+    pub(crate) gains: Vec<bool>,
     pub(crate) queue: VecDeque<u32>,
+}
+
+/// What a flip would gain, and the normals of the new faces.
+#[derive(Clone, Copy)]
+pub(crate) struct Weighed {
+    pub(crate) part: f64,
+    pub(crate) left: Way,
+    pub(crate) right: Way,
+}
+
+impl Weighed {
+    const NONE: Weighed = Weighed {
+        part: 0.0,
+        left: Way::NONE,
+        right: Way::NONE,
+    };
 }
 
 /// Returns the next half edge of the face.
@@ -104,6 +122,29 @@ impl Hints {
         Some(h)
     }
 
+    /// Notes whether a flip of an edge gains anything.
+    pub(crate) fn note(&mut self, h: u32, gain: f64) {
+        if (h as usize) < self.gains.len() {
+            self.gains[h as usize] = gain > 0.0;
+        }
+    }
+
+    /// Appends an edge to the queue, if a flip of it gained anything when it was last weighed.
+    fn wait_to_gain(&mut self, h: u32) -> Result<(), NoMemory> {
+        if (h as usize) < self.gains.len() && self.gains[h as usize] {
+            self.wait(h)?;
+        }
+        Ok(())
+    }
+
+    /// Appends those edges of a face to the queue that gained anything when they were last weighed.
+    pub(crate) fn wait_again(&mut self, face: u32) -> Result<(), NoMemory> {
+        let first = face.saturating_mul(3);
+        self.wait_to_gain(first)?;
+        self.wait_to_gain(first.saturating_add(1))?;
+        self.wait_to_gain(first.saturating_add(2))
+    }
+
     /// Appends the three edges of a face to the queue.
     pub(crate) fn wait_around(&mut self, face: u32) -> Result<(), NoMemory> {
         let first = face.saturating_mul(3);
@@ -115,12 +156,10 @@ impl Hints {
     /// Updates opposites, normals and queue after the flip of the edge between two faces.
     pub(crate) fn turn(
         &mut self,
-        points: &[Point],
         edge: u32,
         twin: u32,
-        quad: Quad,
+        weighed: Weighed,
     ) -> Result<(), NoMemory> {
-        let Quad { a, b, c, d } = quad;
         let (one, other) = (edge / 3, twin / 3);
         let (ca, ad) = (self.twin(before(edge)), self.twin(after(twin)));
         let (db, bc) = (self.twin(before(twin)), self.twin(after(edge)));
@@ -130,8 +169,8 @@ impl Hints {
         self.pair(other_side, db);
         self.pair(other_side.saturating_add(1), bc);
         self.pair(one_side.saturating_add(1), other_side.saturating_add(2));
-        self.look(one, normal(points, a, d, c));
-        self.look(other, normal(points, d, b, c));
+        self.look(one, weighed.left);
+        self.look(other, weighed.right);
         self.wait_around(one)?;
         self.wait_around(other)?;
         self.wait_around(ca / 3)?;
@@ -143,13 +182,23 @@ impl Hints {
 
 /// Returns the part by which a flip lowers the sum of angle times length over the five edges of a quad, or 0 if a new face would be
 /// turned over.
-pub(crate) fn gain(hints: &Hints, points: &[Point], edge: u32, twin: u32, quad: Quad) -> f64 {
-    let Quad { a, b, c, d } = quad;
-    let left = way(points, a, d).across(way(points, a, c));
-    let right = way(points, d, b).across(way(points, d, c));
+pub(crate) fn gain(hints: &Hints, points: &[Point], edge: u32, twin: u32, quad: Quad) -> Weighed {
+    let (Some(a), Some(b)) = (place(points, quad.a), place(points, quad.b)) else {
+        return Weighed::NONE;
+    };
+    let (Some(c), Some(d)) = (place(points, quad.c), place(points, quad.d)) else {
+        return Weighed::NONE;
+    };
+    let (ad, ac, db, dc) = (
+        Way::between(a, d),
+        Way::between(a, c),
+        Way::between(d, b),
+        Way::between(d, c),
+    );
+    let (left, right) = (ad.across(ac), db.across(dc));
     let both = left.plus(right);
     if left.dot(both) <= 0.0 || right.dot(both) <= 0.0 {
-        return 0.0;
+        return Weighed::NONE;
     }
     let (left, right) = (left.unit(), right.unit());
     let (one, other) = (hints.normal_at(edge), hints.normal_at(twin));
@@ -157,22 +206,23 @@ pub(crate) fn gain(hints: &Hints, points: &[Point], edge: u32, twin: u32, quad: 
     let on_ca = hints.normal_at(hints.twin(before(edge)));
     let on_ad = hints.normal_at(hints.twin(after(twin)));
     let on_db = hints.normal_at(hints.twin(before(twin)));
-    let (bc, ca) = (way(points, b, c).length(), way(points, c, a).length());
-    let (ad, db) = (way(points, a, d).length(), way(points, d, b).length());
-    let now = one.angle(other) * way(points, a, b).length()
+    let (bc, ca) = (Way::between(b, c).length(), ac.length());
+    let (ad, db) = (ad.length(), db.length());
+    let now = one.angle(other) * Way::between(a, b).length()
         + one.angle(on_bc) * bc
         + one.angle(on_ca) * ca
         + other.angle(on_ad) * ad
         + other.angle(on_db) * db;
-    let then = left.angle(right) * way(points, c, d).length()
+    let then = left.angle(right) * dc.length()
         + right.angle(on_bc) * bc
         + left.angle(on_ca) * ca
         + left.angle(on_ad) * ad
         + right.angle(on_db) * db;
-    if now > 0.0 { (now - then) / now } else { 0.0 }
+    let part = if now > 0.0 { (now - then) / now } else { 0.0 };
+    Weighed { part, left, right }
 }
 
-/// Returns hints for a mesh with these opposite half edges, with all edges in the queue.
+/// Returns hints for a mesh with these opposite half edges, with no edge in the queue.
 pub(crate) fn hints_of(
     alloc: Global,
     points: &[Point],
@@ -185,10 +235,12 @@ pub(crate) fn hints_of(
         normals.push(normal(points, a, b, c))?;
     }
     let waits = vec![in alloc; false; twins.len()]?;
+    let gains = vec![in alloc; true; twins.len()]?;
     Ok(Hints {
         twins,
         normals,
         waits,
+        gains,
         queue: VecDeque::new(alloc),
     })
 }

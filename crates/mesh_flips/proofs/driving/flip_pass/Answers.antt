@@ -1,8 +1,8 @@
 use Rattle.mesh_flips.proofs.Chains.{unchanged, changed_on}
 use Rattle.mesh_flips.proofs.driving.flip_pass.Goals as goal
 
-pub returns-in_err-wait_around-clause-flipped : goal.returns-in_err-wait_around-clause-flipped
-returns-in_err-wait_around-clause-flipped c = unchanged _ _
+pub returns-in_err-wait_again-clause-flipped : goal.returns-in_err-wait_again-clause-flipped
+returns-in_err-wait_again-clause-flipped c = unchanged _ _
 
 pub loop-init : goal.loop-init
 loop-init c = record { flipped = unchanged _ _; ready = c.requires }
