@@ -154,12 +154,7 @@ impl Hints {
     }
 
     /// Updates opposites, normals and queue after the flip of the edge between two faces.
-    pub(crate) fn turn(
-        &mut self,
-        edge: u32,
-        twin: u32,
-        weighed: Weighed,
-    ) -> Result<(), NoMemory> {
+    pub(crate) fn turn(&mut self, edge: u32, twin: u32, weighed: Weighed) -> Result<(), NoMemory> {
         let (one, other) = (edge / 3, twin / 3);
         let (ca, ad) = (self.twin(before(edge)), self.twin(after(twin)));
         let (db, bc) = (self.twin(before(twin)), self.twin(after(edge)));
