@@ -41,7 +41,7 @@ from recon.toolbox.ply_text import IS_NUMBER, Refusal
 MOST, MOST_OF_A_TILE = 1_000_000, 800_000
 LOOK, WRONG = 0.1, 0.25
 # faces that recon-mesh smooths in a second, for one step
-SMOOTHED_A_SECOND = 200_000
+SMOOTHED_A_SECOND = 150_000
 ROOM = 0.8
 
 

@@ -168,6 +168,13 @@ class OtherFiles(InFolder):
         equal(call('scan', 'in.pcd', 'out.ply')[0], 0)
         rows = [list(map(float, row.split())) for row in read('out.ply').split('end_header\n')[1].splitlines()[:10]]
         equal(rows, [[k, 0.5, k % 3, 0] for k in range(10)])
+        # a number that is none, and signals it
+        body = struct.pack('<I', 0x7fa00000) + struct.pack('<9f', *range(9)) + struct.pack('<10f', *range(10)) + struct.pack('<10f', *range(10))
+        head = COMPRESSED[:COMPRESSED.index(b'FIELDS')] + b'FIELDS x y z\nSIZE 4 4 4\nTYPE F F F\nPOINTS 10\nDATA binary_compressed\n'
+        packed = b''.join(bytes([len(body[at:at + 32]) - 1]) + body[at:at + 32] for at in range(0, len(body), 32))
+        write('in.pcd', head + struct.pack('<II', len(packed), len(body)) + packed)
+        status, said, error = call('scan', 'in.pcd', 'out.ply')
+        equal((status, 'left out 1 not finite' in said, error), (0, True, ''))
         spoiled = ((PACKED[:-1], 'cut: the file ends in the compressed body'), (PACKED[:4], 'has not the bytes of 10 points'),
                    (PACKED[:8] + b'\xff' + PACKED[9:], 'not understood'), (PACKED[:8] + b'\0' + PACKED[9:], 'compressed body'))
         for data, part in spoiled:

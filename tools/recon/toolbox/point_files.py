@@ -230,7 +230,9 @@ class PcdReader(FileReader):
             at += count * struct.calcsize('<' + code)
         for start in range(0, count, PACKED_ROWS):
             parts = [column[start:start + PACKED_ROWS] for column in columns]
-            for values in zip(*(part.astype('f8').tolist() if part.dtype.kind == 'f' else part.tolist() for part in parts)):
+            with np.errstate(invalid='ignore'):
+                doubles = [part.astype('f8') if part.dtype.kind == 'f' else part for part in parts]
+            for values in zip(*(part.tolist() for part in doubles)):
                 yield list(map(repr, values))
 
     def text_rows(self, count: int) -> Iterator[list[str]]:
