@@ -1,0 +1,5 @@
+pub mod Back
+pub mod Planes
+pub mod Queues
+pub mod Sides
+pub mod Steps

@@ -1,0 +1,3 @@
+pub mod Beams
+pub mod Planes
+pub mod Ways

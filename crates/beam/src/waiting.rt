@@ -1,0 +1,113 @@
+//! Lines of sight that wait in cells.
+
+ghost use Rattle.std.specs.Prelude.{◌≡◌, ◌≤◌, ◌<◌, ◌+◌, ◌++◌, ◌∷◌, [], ℕ, OnOk, IfOk, IfSome, IsTrue, length, slice_index_or};
+ghost use Rattle.beam.specs.declared.waiting.Waiting.{Waiting};
+ghost use Rattle.beam.specs.Beams.{IsWaiting, AllWait, total};
+
+use crate::NoMemory;
+use crate::ways::Ray;
+use geo_sign::Point;
+use std::alloc::Global;
+use tetra_store::{CellId, Tetra};
+
+/// A cell, and the lines of sight that have come to it and not gone on.
+#[derive(Drop)]
+pub(crate) struct Waiting {
+    pub(crate) cell: CellId,
+    pub(crate) rays: Vec<Ray>,
+}
+
+/// Cells with lines of sight that wait, and for each number of a cell where it may be in that list: tested before it is used.
+#[derive(Drop)]
+pub(crate) struct Queue {
+    pub(crate) cells: Vec<Waiting>,
+    pub(crate) places: Vec<u32>,
+}
+
+/// Adds a line of sight to those that wait in a cell.
+fn join(waiting: &mut Waiting, ray: Ray) -> Result<(), NoMemory>
+    ensures cell { waiting.new.cell ≡ waiting.old.cell }
+    ensures rays { OnOk result (waiting.new.rays.items ≡ waiting.old.rays.items ++ ray ∷ []) }
+{
+    waiting.rays.push(ray)?;
+    Ok(())
+}
+
+/// Returns a cell with one line of sight that waits in it.
+fn alone(alloc: Global, cell: CellId, ray: Ray) -> Result<Waiting, NoMemory>
+    ensures { IfOk result (λ waiting. (waiting.cell ≡ cell) × (waiting.rays.items ≡ ray ∷ [])) }
+{
+    let mut rays = Vec::new(alloc);
+    rays.push(ray)?;
+    Ok(Waiting { cell, rays })
+}
+
+/// Returns whether a cell is at a place in the list.
+fn is_at(queue: &Queue, place: usize, cell: CellId) -> bool
+    ensures { IsTrue result → (place < length queue.now.cells.items) × ((d : Waiting) → (slice_index_or queue.now.cells.items place d).cell ≡ cell) }
+{
+    match queue.cells.get(place) {
+        Some(there) => there.cell == cell,
+        None => false,
+    }
+}
+
+/// Returns where a cell is in the list, if that is noted.
+fn place_of(queue: &Queue, cell: CellId) -> Option<usize>
+    ensures { IfSome result (λ place. (place < length queue.now.cells.items) × ((d : Waiting) → (slice_index_or queue.now.cells.items place d).cell ≡ cell)) }
+{
+    let place = *queue.places.get(cell.number())? as usize;
+    if is_at(queue, place, cell) {
+        Some(place)
+    } else {
+        None
+    }
+}
+
+/// Returns the number of cells in the list.
+fn count_of(queue: &Queue) -> usize
+    ensures { result ≡ length queue.now.cells.items }
+{
+    queue.cells.len()
+}
+
+/// Notes where a cell is in the list.
+fn note_place(queue: &mut Queue, cell: CellId, place: usize)
+    ensures { queue.new.cells.items ≡ queue.old.cells.items }
+{
+    if let Ok(place) = u32::try_from(place) {
+        if let Some(entry) = queue.places.get_mut(cell.number()) {
+            *entry = place;
+        }
+    }
+}
+
+/// Has a line of sight wait in a cell, with the others that do.
+pub(crate) fn put(
+    alloc: Global,
+    t: &Tetra,
+    s: Point,
+    queue: &mut Queue,
+    cell: CellId,
+    ray: Ray,
+) -> Result<(), NoMemory>
+    requires waiting { AllWait t.now s queue.old.cells.items }
+    requires ray { IsWaiting t.now s cell ray }
+    ensures waiting { OnOk result (AllWait t.now s queue.new.cells.items) }
+    ensures sums { OnOk result ((f : ℕ → Ray → ℕ) → total f queue.new.cells.items ≡ total f queue.old.cells.items + f cell ray) }
+    ensures few { OnOk result (length queue.new.cells.items ≤ length queue.old.cells.items + 1) }
+{
+    let (_store, _scanner) = (t, s);
+    match place_of(queue, cell) {
+        Some(place) => {
+            join(&mut queue.cells[place], ray)?;
+            Ok(())
+        }
+        None => {
+            let last = count_of(queue);
+            note_place(queue, cell, last);
+            queue.cells.push(alone(alloc, cell, ray)?)?;
+            Ok(())
+        }
+    }
+}
