@@ -1,0 +1,4 @@
+pub mod Witnessed
+pub mod Known
+pub mod Tidied
+pub mod Covered

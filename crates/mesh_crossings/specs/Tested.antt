@@ -1,0 +1,81 @@
+-- What is known of pairs that were tested.
+--
+--   IsCornersOf points f c         c has the points of a face
+--   IsVerdictOn points f g verdict what a verdict says of two faces
+--   Covers n numbers               each number below n is listed, and no other
+--   face_number ranked             the number of a face with a key
+--   KeepsPairs old new             a list still has all pairs that it had
+--   IsOneMore old p new            a list has no other pairs than before and p
+--   AreSamePairs old new           two lists have the same pairs
+--   pair_in pairs i                the pair at an index
+--   IsKnown points faces crossing undecided i j     the pair is listed, or apart
+--   IsKnownEither ..               the same of two numbers, the smaller first
+--   AreRanksKnown .. numbers .. r s   the same of the numbers at two indices
+--   AreAllKnown .. numbers .. n    the same of all before index n
+use Rattle.std.specs.Prelude.{ℕ, ◌≡◌, ◌<◌, ◌⊎◌, ⊤, List, [], ◌∷◌, All, Contains, slice_index, slice_index_or}
+use Rattle.geo_sign.specs.Point.{Point}
+use Rattle.mesh_ply.specs.Meshes.{point_at}
+use Rattle.mesh_edges.specs.Edges.{face_at}
+use Rattle.mesh_edges.specs.declared.pair.Pair.{Pair}
+use Rattle.triangle_gap.specs.Gaps.{AreFacesApart}
+use Rattle.mesh_crossings.specs.Crossings.{IsListedPair}
+use Rattle.mesh_crossings.specs.declared.judge.Verdict.{Verdict}
+use Rattle.mesh_crossings.specs.declared.judge.Verdict.TheVariants.{Apart, Crossing, Undecided}
+use Rattle.mesh_crossings.specs.declared.order.Ranked.{Ranked}
+use Rattle.mesh_crossings.specs.declared.witness.Corners.{Corners}
+
+-- c has the points of the face
+abbrev pub IsCornersOf : List Point → List ℕ → Corners → Type 0
+IsCornersOf points (a ∷ b ∷ c ∷ []) t = (t.a ≡ point_at points a) × (t.b ≡ point_at points b) × (t.c ≡ point_at points c)
+IsCornersOf points _ t = ⊥
+
+-- what a verdict says of two faces
+abbrev pub IsVerdictOn : List Point → (f g : List ℕ) → Verdict → Type 0
+IsVerdictOn points f g Apart = AreFacesApart points f g
+IsVerdictOn points f g Crossing = ¬ AreFacesApart points f g
+IsVerdictOn points f g Undecided = ⊤
+
+-- each number below n is listed, and no other
+pub record Covers (n : ℕ) (numbers : List ℕ) : Type 0 where
+  pub below : All (λ i. i < n) numbers
+  pub all : (i : ℕ) → i < n → Contains numbers i
+
+-- the number of a face with a key
+abbrev pub face_number : Ranked → ℕ
+face_number ranked = ranked.number
+
+-- the list still has all pairs that it had
+abbrev pub KeepsPairs : (old new : List Pair) → Type 0
+KeepsPairs old new = (p : Pair) → Contains old p → Contains new p
+
+-- the list has no other pairs than before and p
+abbrev pub IsOneMore : (old : List Pair) → Pair → (new : List Pair) → Type 0
+IsOneMore old p new = (q : Pair) → Contains new q → Contains old q ⊎ (q ≡ p)
+
+-- the two lists have the same pairs
+abbrev pub AreSamePairs : (old new : List Pair) → Type 0
+AreSamePairs old new = KeepsPairs old new × KeepsPairs new old
+
+-- the pair at an index
+abbrev pub pair_in : List Pair → ℕ → Pair
+pair_in pairs i = slice_index_or pairs i (record { first = 0; second = 0 })
+
+-- the pair is listed, or apart
+abbrev pub IsKnown : List Point → List (List ℕ) → (crossing undecided : List Pair) → (i j : ℕ) → Type 0
+IsKnown points faces crossing undecided i j =
+    IsListedPair crossing i j ⊎ (IsListedPair undecided i j ⊎ AreFacesApart points (face_at faces i) (face_at faces j))
+
+-- the same of two numbers, the smaller first
+pub record IsKnownEither (points : List Point) (faces : List (List ℕ)) (crossing undecided : List Pair) (i j : ℕ) : Type 0 where
+  pub forth : i < j → IsKnown points faces crossing undecided i j
+  pub back : j < i → IsKnown points faces crossing undecided j i
+
+-- the same of the numbers at two indices
+abbrev pub AreRanksKnown : List Point → List (List ℕ) → List ℕ → (crossing undecided : List Pair) → (r s : ℕ) → Type 0
+AreRanksKnown points faces numbers crossing undecided r s =
+    IsKnownEither points faces crossing undecided (slice_index numbers r) (slice_index numbers s)
+
+-- the same of all before index n
+abbrev pub AreAllKnown : List Point → List (List ℕ) → List ℕ → (crossing undecided : List Pair) → (n : ℕ) → Type 0
+AreAllKnown points faces numbers crossing undecided n =
+    (r s : ℕ) → s < r → r < n → AreRanksKnown points faces numbers crossing undecided r s

@@ -1,0 +1,22 @@
+//! Pairs of faces that cross: they share a point that is no common corner and on no common edge.
+//!
+//! [`find_crossings`] tests each pair of faces whose boxes overlap, and [`count_crossings`] counts what it finds. That two faces are apart
+//! is shown by planes (`triangle_gap`). That they cross is shown by whole weights of their corners that give one point of both: weights
+//! are proposed by volumes and areas, without a contract, and verified. A pair for which neither is shown is undecided. So the answer is
+//! exact but for the pairs that it lists as undecided.
+//!
+//! It depends on `triangle_gap` (faces that are apart), `mesh_flips` (boxes of faces), `hull_tree` (boxes near a box) and `mesh_edges`
+//! (pairs of numbers).
+#![tactic(auto)]
+
+mod counts;
+mod gather;
+mod judge;
+mod order;
+mod propose;
+mod tidy;
+mod witness;
+
+pub use counts::{CrossingCounts, count_crossings};
+pub use gather::{Crossings, find_crossings};
+pub use mesh_edges::NoMemory;
