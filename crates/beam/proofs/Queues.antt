@@ -1,14 +1,16 @@
 -- Lines of sight that wait, with one more; and sums over them.
-use Rattle.std.proofs.Common.{ℕ, ◌≡◌, refl, sym, subst, arith, List, [], ◌∷◌, ◌++◌}
+use Rattle.std.proofs.Common.{ℕ, ◌+◌, ◌*◌, ◌≡◌, refl, sym, subst, arith, List, [], ◌∷◌, ◌++◌}
 use Rattle.std.specs.List.{All, sum_by}
 use Rattle.std.proofs.lemmas.List.Elements.{All-nil, All-cons, All-head, All-tail, All-push}
 use Rattle.std.proofs.lemmas.List.Sums.{sum_by-cons}
+use Rattle.std.proofs.lemmas.List.Sorted.{All-permutation, sum_by_popped, length_permutation}
+use Rattle.std.specs.List.Sorted.{IsPermutation}
 use Rattle.geo_sign.specs.Point.{Point}
 use Rattle.tetra_store.specs.Links.{links_of, IsLive}
 use Rattle.tetra_store.specs.Store.{Store}
 use Rattle.beam.specs.declared.waiting.Waiting.{Waiting}
 use Rattle.beam.specs.declared.ways.Ray.{Ray}
-use Rattle.beam.specs.Beams.{IsWaiting, AreWaiting, total}
+use Rattle.beam.specs.Beams.{IsWaiting, AreWaiting, total, steps_left, work}
 
 -- one joins a list
 pub joined : (s : Store) (o : Point) (old new : Waiting) (y : ℕ) (r : Ray) → AreWaiting s o old → IsWaiting s o y r → old.cell ≡ y
@@ -49,3 +51,18 @@ total_one f w =
     let g : Waiting → ℕ = λ x. sum_by (f x.cell) x.rays.items in
     let a = sum_by-cons g w [] in
     omega (arith, a)
+
+-- ---- a cell is removed
+pub left_by : (P : Waiting → Type 0) (xs ys : List Waiting) (w : Waiting) → IsPermutation xs (w ∷ ys) → All P xs → P w × All P ys
+left_by P xs ys w h a = let b = All-permutation P xs (w ∷ ys) h a in (All-head P w ys b, All-tail P w ys b)
+
+pub total_left : (f : ℕ → Ray → ℕ) (xs ys : List Waiting) (w : Waiting) → IsPermutation xs (w ∷ ys)
+    → total f ys + sum_by (f w.cell) w.rays.items ≡ total f xs
+total_left f xs ys w h = sum_by_popped (λ x. sum_by (f x.cell) x.rays.items) w xs ys h
+
+pub work_left : (s : Store) (o : Point) (xs ys : List Waiting) (w : Waiting) → IsPermutation xs (w ∷ ys)
+    → work s o ys + 2 * sum_by (steps_left s o w.cell) w.rays.items + 1 ≡ work s o xs
+work_left s o xs ys w h =
+    let a = total_left (steps_left s o) xs ys w h in
+    let b = length_permutation xs (w ∷ ys) h in
+    omega (arith, a, b)

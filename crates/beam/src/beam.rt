@@ -20,10 +20,11 @@ ghost use Rattle.beam.specs.Ways.{IsRayIn};
 ghost use Rattle.beam.specs.Beams.{IsPassage, IsWaiting, AreWaiting, AllWait, total, weight_on, still_added, steps_left, work};
 
 use crate::NoMemory;
-use crate::waiting::{Queue, Waiting, put};
+use crate::waiting::{Queue, Waiting, put, take};
 use crate::ways::{Ray, Ways, side_entered, ways_into};
 use geo_sign::Point;
 use std::alloc::Global;
+use std::collections::BinaryHeap;
 use tetra_store::{CellId, Tetra};
 use tetra_walk::NO_SIDE;
 
@@ -160,7 +161,7 @@ fn follow(
     ensures count { length crossed.new ≡ length crossed.old }
     ensures sums { OnOk result ((id k : ℕ) → IsLive (links_of t.now.slots) id → k < 4 → slice_index crossed.new (4 * id + k) ≡ slice_index crossed.old (4 * id + k) + total (still_added t.now s id k) queue.old.cells.items) }
 {
-    while let Some(from) = queue.cells.pop() {
+    while let Some(from) = take(queue) {
         leave(alloc, t, s, &from, queue, crossed)?;
     }
     Ok(())
@@ -180,6 +181,7 @@ impl Beams {
             queue: Queue {
                 cells: Vec::new(alloc),
                 places: vec![in alloc; 0; t.number_limit()]?,
+                order: BinaryHeap::new(alloc),
             },
         })
     }
@@ -207,6 +209,7 @@ impl Beams {
     {
         t.facts();
         self.queue.cells.clear();
+        self.queue.order.clear();
         self.queue.cells.push(Waiting { cell: end, rays })?;
         follow(alloc, t, s, &mut self.queue, crossed)?;
         Ok(())

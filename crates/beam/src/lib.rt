@@ -5,10 +5,11 @@
 //! from the scanner is computed once, and then each line of sight takes one or two signs of a product of three 64-bit numbers.
 //!
 //! `plane` has these signs, `ways` the side through which a line of sight came into a cell, `waiting` the lines of sight that
-//! have come to a cell, and `beam` the loops over them.
+//! have come to a cell, `order` which cell is left next, and `beam` the loops over them.
 #![tactic(auto)]
 
 mod beam;
+mod order;
 mod plane;
 mod waiting;
 mod ways;

@@ -1,13 +1,17 @@
 //! Lines of sight that wait in cells.
 
-ghost use Rattle.std.specs.Prelude.{◌≡◌, ◌≤◌, ◌<◌, ◌+◌, ◌++◌, ◌∷◌, [], ℕ, OnOk, IfOk, IfSome, IsTrue, length, slice_index_or};
+ghost use Rattle.std.specs.Prelude.{◌≡◌, ◌≤◌, ◌<◌, ◌+◌, ◌++◌, ◌∷◌, [], ℕ, OnOk, IfOk, IfSome, IfNone, IsTrue, length, slice_index_or};
+ghost use Rattle.std.specs.List.Sorted.{IsPermutation};
+ghost use Rattle.tetra_store.specs.Links.{links_of, IsLive};
 ghost use Rattle.beam.specs.declared.waiting.Waiting.{Waiting};
 ghost use Rattle.beam.specs.Beams.{IsWaiting, AllWait, total};
 
 use crate::NoMemory;
+use crate::order::rank_of;
 use crate::ways::Ray;
 use geo_sign::Point;
 use std::alloc::Global;
+use std::collections::BinaryHeap;
 use tetra_store::{CellId, Tetra};
 
 /// A cell, and the lines of sight that have come to it and not gone on.
@@ -17,11 +21,13 @@ pub(crate) struct Waiting {
     pub(crate) rays: Vec<Ray>,
 }
 
-/// Cells with lines of sight that wait, and for each number of a cell where it may be in that list: tested before it is used.
+/// Cells with lines of sight that wait. The rest are hints, tested before they are used: for each number of a cell where it may
+/// be in that list, and cells by their ranks and numbers, the greatest rank first.
 #[derive(Drop)]
 pub(crate) struct Queue {
     pub(crate) cells: Vec<Waiting>,
     pub(crate) places: Vec<u32>,
+    pub(crate) order: BinaryHeap<(i64, usize)>,
 }
 
 /// Adds a line of sight to those that wait in a cell.
@@ -82,6 +88,17 @@ fn note_place(queue: &mut Queue, cell: CellId, place: usize)
     }
 }
 
+/// Notes the rank of a cell.
+fn note_rank(t: &Tetra, s: Point, queue: &mut Queue, cell: CellId) -> Result<(), NoMemory>
+    requires { IsLive (links_of t.now.slots) cell }
+    ensures { queue.new.cells.items ≡ queue.old.cells.items }
+{
+    t.facts();
+    let rank = rank_of(t, t.vertices(cell), s);
+    queue.order.push((rank, cell.number()))?;
+    Ok(())
+}
+
 /// Has a line of sight wait in a cell, with the others that do.
 pub(crate) fn put(
     alloc: Global,
@@ -97,7 +114,6 @@ pub(crate) fn put(
     ensures sums { OnOk result ((f : ℕ → Ray → ℕ) → total f queue.new.cells.items ≡ total f queue.old.cells.items + f cell ray) }
     ensures few { OnOk result (length queue.new.cells.items ≤ length queue.old.cells.items + 1) }
 {
-    let (_store, _scanner) = (t, s);
     match place_of(queue, cell) {
         Some(place) => {
             join(&mut queue.cells[place], ray)?;
@@ -106,8 +122,67 @@ pub(crate) fn put(
         None => {
             let last = count_of(queue);
             note_place(queue, cell, last);
+            note_rank(t, s, queue, cell)?;
             queue.cells.push(alone(alloc, cell, ray)?)?;
             Ok(())
+        }
+    }
+}
+
+/// Returns the noted place of the next cell in the order, which is removed there.
+fn next_place(queue: &mut Queue) -> usize
+    ensures { queue.new.cells.items ≡ queue.old.cells.items }
+{
+    match queue.order.pop() {
+        Some((_, number)) => match queue.places.get(number) {
+            Some(place) => *place as usize,
+            None => usize::MAX,
+        },
+        None => usize::MAX,
+    }
+}
+
+/// Returns the place of a cell to be left next: of the next in the order, or else the last one. Returns `None` exactly if there
+/// is none.
+fn pick(queue: &mut Queue) -> Option<usize>
+    ensures same { queue.new.cells.items ≡ queue.old.cells.items }
+    ensures some { IfSome result (λ place. place < length queue.old.cells.items) }
+    ensures none { IfNone result (queue.old.cells.items ≡ []) }
+{
+    let count = count_of(queue);
+    if count == 0 {
+        return None;
+    }
+    let place = next_place(queue);
+    if place < count {
+        Some(place)
+    } else {
+        Some(count - 1)
+    }
+}
+
+/// Notes the place of the cell that is there now, if there is one.
+fn note_moved(queue: &mut Queue, place: usize)
+    ensures { queue.new.cells.items ≡ queue.old.cells.items }
+{
+    let cell = match queue.cells.get(place) {
+        Some(there) => there.cell,
+        None => return,
+    };
+    note_place(queue, cell, place);
+}
+
+/// Removes a cell from the list: the next in the order, if the hints are right.
+pub(crate) fn take(queue: &mut Queue) -> Option<Waiting>
+    ensures some { IfSome result (λ waiting. IsPermutation queue.old.cells.items (waiting ∷ queue.new.cells.items)) }
+    ensures none { IfNone result (queue.old.cells.items ≡ []) }
+{
+    match pick(queue) {
+        None => None,
+        Some(place) => {
+            let waiting = queue.cells.swap_remove(place);
+            note_moved(queue, place);
+            Some(waiting)
         }
     }
 }

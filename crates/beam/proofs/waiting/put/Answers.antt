@@ -18,6 +18,6 @@ pub returns-in_ok-push-in-None-clause-waiting : goal.returns-in_ok-push-in-None-
 returns-in_ok-push-in-None-clause-waiting c =
     let s = c.args.t.now in let o = c.args.s in let w = c.in_ok-alone-in-None in let old = c.args.queue.now.cells.items in
     All-same (AreWaiting s o) c.push.new.self.items (old ++ w.field-0 ∷ [])
-    (c.in_ok-push-in-None.ensures.items ∙ ap (λ (ws : List Waiting). ws ++ w.field-0 ∷ []) c.note_place.ensures)
+    (c.in_ok-push-in-None.ensures.items ∙ ap (λ (ws : List Waiting). ws ++ w.field-0 ∷ []) (c.note_rank.ensures ∙ c.note_place.ensures))
     (All-push (AreWaiting s o) old w.field-0 c.requires.waiting
     (alone s o w.field-0 c.args.cell c.args.ray c.requires.ray w.ensures.0 w.ensures.1))
