@@ -18,6 +18,7 @@ import numpy as np
 
 from recon.toolbox.ply_text import FORMATS, Refusal
 from recon.toolbox.vectors import axes, normal
+from recon.toolbox.whole_text import whole_numbers
 
 HEAD = re.compile(rb'ply\nformat ascii 1\.0\nelement vertex ([0-9]{1,10})\nproperty int x\nproperty int y\nproperty int z\n'
                   rb'element face ([0-9]{1,10})\nproperty list uchar int vertex_indices\nend_header\n')
@@ -39,7 +40,7 @@ def read_mesh(path: str, most: int = LIMIT) -> tuple[np.ndarray, np.ndarray]:
         raise Refusal(NOT_OURS + ('its coordinates are floating point already, or it is another file' if floats
                                   else 'its header is another'))
     count, faces = int(head[1]), int(head[2])
-    values = numbers_of(data[head.end():], 3 * count + 4 * faces)
+    values = numbers_of(data, head.end(), 3 * count + 4 * faces)
     places, rows = values[:3 * count].reshape(-1, 3), values[3 * count:].reshape(-1, 4)
     corners = rows[:, 1:].ravel()
     if (rows[:, 0] != 3).any() or corners.min(initial=0) < 0 or corners.max(initial=-1) >= count:
@@ -53,8 +54,18 @@ def refuse(why: str) -> NoReturn:
     raise Refusal(NOT_OURS + why)
 
 
-def numbers_of(data: bytes, count: int) -> np.ndarray:
-    """Returns the whole numbers of a text."""
+def numbers_of(data: bytes, begin: int, count: int) -> np.ndarray:
+    """Returns the whole numbers of a text from `begin` on."""
+    values = whole_numbers(data, begin)
+    if values is None:
+        values = other_numbers(data[begin:])
+    if len(values) != count:
+        refuse(f'it has {len(values)} numbers where its header says {count}')
+    return values
+
+
+def other_numbers(data: bytes) -> np.ndarray:
+    """The same of a text whose words are long, or no whole numbers."""
     if data.translate(None, b'-0123456789 \n') or data and not data.endswith(b'\n'):
         refuse('it is cut or has words that are no whole numbers')
     # a sign at the start is after the last letter, which is an end of a line
@@ -64,10 +75,7 @@ def numbers_of(data: bytes, count: int) -> np.ndarray:
         refuse('a word is no whole number')
     with warnings.catch_warnings():
         warnings.simplefilter('ignore')
-        values = np.zeros(0, np.int64) if not data or data.isspace() else np.fromstring(data, np.int64, sep=' ')
-    if len(values) != count:
-        refuse(f'it has {len(values)} numbers where its header says {count}')
-    return values
+        return np.zeros(0, np.int64) if not data or data.isspace() else np.fromstring(data, np.int64, sep=' ')
 
 
 @dataclass

@@ -13,10 +13,11 @@ from typing import BinaryIO, NamedTuple
 import numpy as np
 
 from recon.toolbox.ply_text import FORMATS, ORDERS, SCANNER_LIMIT, Element, Refusal, read_head
+from recon.toolbox.whole_text import whole_numbers
 
-LETTERS = b'0123456789+-.eE \t\r\n'
+BLANKS = b' \t\r\n'
+LETTERS = b'0123456789+-.eE' + BLANKS
 SPACE = ord(' ')
-EXACT = 1 << 53
 
 
 class PlainPly(NamedTuple):
@@ -27,18 +28,17 @@ class PlainPly(NamedTuple):
 
 def numbers_in(body: bytes) -> np.ndarray | None:
     """Returns the numbers of a text as floating point, or None if a word of it is no finite number. Whole numbers are read as such first, which takes
-    less than half the time."""
-    others = body.translate(None, b'0123456789- \r\n')
-    if others.translate(None, LETTERS):
+    a fraction of the time."""
+    whole = whole_numbers(body, blanks=BLANKS)
+    if whole is not None:
+        return whole.astype(float)
+    if body.translate(None, LETTERS):
         return None
     is_space = np.frombuffer(body, np.uint8) <= SPACE
     count = int(np.count_nonzero(is_space[:-1] > is_space[1:])) + int(not is_space[:1].all())
     with warnings.catch_warnings():
         warnings.simplefilter('ignore')
-        values = np.fromstring(body, np.int64 if count and not others else float, sep=' ') if count else np.zeros(0)
-        if values.dtype != float:
-            is_exact = max(values.max(initial=0), -values.min(initial=0)) < EXACT
-            values = values.astype(float) if is_exact else np.fromstring(body, float, sep=' ')
+        values = np.fromstring(body, float, sep=' ') if count else np.zeros(0)
     return values if len(values) == count and np.isfinite(values).all() else None
 
 

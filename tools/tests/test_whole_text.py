@@ -1,0 +1,72 @@
+"""Whole numbers of a text, beside Python's own reading of its words."""
+from __future__ import annotations
+
+import random
+import unittest
+from typing import Optional
+
+import numpy as np
+
+from helpers import equal
+from recon.toolbox import whole_text
+from recon.toolbox.plain_tables import numbers_in
+from recon.toolbox.whole_text import whole_numbers
+
+GOOD = (b'', b'\n', b' \n  ', b'0\n', b'-0 7\n', b'00000000 99999999\n', b'-99999999\n', b'1 2\n3\n', b'12345678 ', b'1  2\n\n3 ')
+BAD = (b'1', b'1\n2', b'-\n', b'1 - 2\n', b'--1\n', b'1-2\n', b'1.5\n', b'+1\n', b'1e3\n', b'a\n', b'123456789\n', b'-123456789\n', b'1\t2\n', b'1\r\n',
+       b'1\x002\n', b'1\xff\n', b'1/2\n', b'1:\n', b'\x80\n', b'0x10\n', b'1_0\n', b'12345678901234567890\n', b'\xb2\n')
+
+
+def plain(text: bytes) -> Optional[list[int]]:
+    """The numbers of a text that is good."""
+    return [int(word) for word in text.split()]
+
+
+def got(text: bytes, begin: int = 0) -> Optional[list[int]]:
+    numbers = whole_numbers(text, begin)
+    return None if numbers is None else numbers.tolist()
+
+
+class WholeText(unittest.TestCase):
+    def setUp(self) -> None:
+        self.chunk = whole_text.CHUNK
+
+    def tearDown(self) -> None:
+        whole_text.CHUNK = self.chunk
+
+    def test_good_texts(self) -> None:
+        for text in GOOD:
+            for before in (b'', b'7', b'ply -', b'end_header\n', b'12345678'):
+                equal((text, before, got(before + text, len(before))), (text, before, plain(text)))
+
+    def test_other_texts(self) -> None:
+        for text in BAD:
+            for rest in (b'', b'1 2 3\n', b'12345678 -5\n'):
+                equal((text, got(rest + text)), (text, None))
+        equal((whole_numbers(b'1\t2\r\n', blanks=b' \t\r\n').tolist(), whole_numbers(b'1\x0b2\n', blanks=b' \t\r\n')), ([1, 2], None))
+
+    def test_many_numbers_in_parts_of_all_sizes(self) -> None:
+        draw = random.Random(1)
+        words = [str(draw.choice([1, -1]) * draw.randrange(10 ** draw.randrange(1, 9))).encode() for _ in range(400)]
+        text = b''.join(word + draw.choice([b' ', b'\n', b'  ']) for word in words)
+        for chunk in (1, 2, 7, 30, 1000, 1 << 17):
+            whole_text.CHUNK = chunk
+            equal((got(text), got(text + b'x\n'), got(text + b'123456789\n')), (plain(text), None, None))
+
+    def test_spoiled_texts(self) -> None:
+        draw, good = random.Random(2), b'3 10 -200 3000\n-40000 500000 6000000\n'
+        for _ in range(3000):
+            at = draw.randrange(len(good))
+            text = good[:at] + bytes([draw.choice([0, 9, 10, 32, 45, 46, 47, 48, 57, 58, 101, 128, 255])]) + good[at + draw.randrange(2):]
+            words = text.replace(b'\n', b' ').split(b' ')
+            is_good = text[-1:] in (b' ', b'\n') and all(word.lstrip(b'-').isdigit() and word.count(b'-') == word[:1].count(b'-') and len(word.lstrip(b'-')) <= 8
+                                                         for word in words if word)
+            equal((text, got(text)), (text, [int(word) for word in words if word] if is_good else None))
+
+    def test_numbers_as_floating_point(self) -> None:
+        for text in (b'1 2\t3\r\n', b'123456789 -5\n', b'9007199254740993 1\n', b'1.5 2\n', b'1e2\n', b''):
+            numbers = numbers_in(text)
+            assert numbers is not None
+            equal((text, numbers.dtype, numbers.tolist()), (text, np.dtype(float), [float(word) for word in text.split()]))
+        for text in (b'1 x\n', b'1e999\n', b'nan\n', b'1,2\n', b'- 1\n'):
+            equal((text, numbers_in(text)), (text, None))
