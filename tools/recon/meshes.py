@@ -19,6 +19,7 @@ FACTOR = 8.0
 LEAST_PIECE = 20
 SAMPLE = 4_000
 CHUNK = 1 << 14
+SLOTS = 8
 MIXING, MASK = 0x9E3779B97F4A7, (1 << 40) - 1
 
 
@@ -126,14 +127,45 @@ def areas(vertices: np.ndarray, faces: np.ndarray) -> np.ndarray:
 
 
 def neighboring(faces: np.ndarray, count: int) -> tuple[np.ndarray, np.ndarray]:
-    """Returns pairs of faces with an edge in common, of `count` vertices, as two columns; of more than two faces at an edge each with the next
-    one."""
-    corners = faces.astype(np.int64)
-    keys = np.concatenate([np.minimum(one, other) * count + np.maximum(one, other)
-                           for one, other in ((corners[:, k], corners[:, (k + 1) % 3]) for k in range(3))])
-    order, keys = ascending(keys, count * count)
-    same = np.flatnonzero(keys[1:] == keys[:-1])
-    return (order[same] % len(faces)).astype(np.int32), (order[same + 1] % len(faces)).astype(np.int32)
+    """Returns pairs of faces with an edge in common, of `count` vertices, as two columns, so that the pairs link all faces of an edge. Sides are put
+    into a table, in one of eight slots of their lower vertex; those that one of another edge covers are sorted."""
+    keys, slots = side_keys(faces, count)
+    table = np.zeros(SLOTS * count, np.int32)
+    pairs: list[tuple[np.ndarray, np.ndarray]] = []
+    left: list[np.ndarray] = []
+    for rows in chunks(len(keys)):
+        table[slots[rows]] = np.arange(rows.start, rows.stop, dtype=np.int32)
+    for rows in chunks(len(keys)):
+        last = table[slots[rows]]
+        is_same = keys[last] == keys[rows]
+        other = np.flatnonzero(is_same & (last != np.arange(rows.start, rows.stop)))
+        pairs.append((last[other] // 3, ((other + rows.start) // 3).astype(np.int32)))
+        left.append(np.flatnonzero(~is_same) + rows.start)
+    covered = np.concatenate(left)
+    order, sorted_keys = ascending(keys[covered], count * count)
+    same = np.flatnonzero(sorted_keys[1:] == sorted_keys[:-1])
+    owner = (covered[order] // 3).astype(np.int32)
+    pairs.append((owner[same], owner[same + 1]))
+    return np.concatenate([one for one, _ in pairs]), np.concatenate([other for _, other in pairs])
+
+
+def side_keys(faces: np.ndarray, count: int) -> tuple[np.ndarray, np.ndarray]:
+    """Returns the number of the edge of each side, face after face, and the slot in which it is looked for."""
+    keys, slots = np.empty((len(faces), 3), np.int64), np.empty((len(faces), 3), np.int32)
+    for rows in chunks(len(faces)):
+        corners = [np.ascontiguousarray(faces[rows, k], np.int64) for k in range(3)]
+        for k, one in enumerate(corners):
+            other = corners[(k + 1) % 3]
+            low, high = np.minimum(one, other), np.maximum(one, other)
+            keys[rows, k] = low * count + high
+            slots[rows, k] = low * SLOTS + high % SLOTS
+    return keys.ravel(), slots.ravel()
+
+
+def chunks(count: int) -> Iterator[slice]:
+    """Yields slices of so many rows, some thousands each, so that what is computed of them stays in the cache."""
+    for start in range(0, count, CHUNK):
+        yield slice(start, min(start + CHUNK, count))
 
 
 def linked(one: np.ndarray, other: np.ndarray, count: int) -> np.ndarray:
