@@ -41,10 +41,7 @@ class Cloud:
 
     def take(self, rows: np.ndarray) -> Cloud:
         """Returns the points of these rows, in their order, with all scanners."""
-        counts = self.sights.counts[rows]
-        starts = (np.cumsum(self.sights.counts) - self.sights.counts)[rows]
-        at = np.repeat(starts - (np.cumsum(counts) - counts), counts) + np.arange(counts.sum())
-        return Cloud(self.points[rows], self.scanners, Sights(counts, self.sights.scanners[at]), None if self.colors is None else self.colors[rows],
+        return Cloud(self.points[rows], self.scanners, self.sights.take(rows), None if self.colors is None else self.colors[rows],
                      None if self.weights is None else self.weights[rows], self.is_made_up)
 
     def first_scanners(self) -> np.ndarray:
@@ -261,7 +258,7 @@ def finite(cloud: Cloud) -> Cloud:
 
 def are_near(points: np.ndarray) -> np.ndarray:
     """Which points have coordinates whose squares are in the range of floating point."""
-    return np.asarray((np.abs(points) < FAR).all(axis=1))
+    return np.asarray(np.logical_and.reduce([np.abs(points[:, k]) < FAR for k in range(3)]))
 
 
 def with_normals(inputs: Inputs) -> Table:

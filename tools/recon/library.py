@@ -32,6 +32,18 @@ class Sights(NamedTuple):
     counts: np.ndarray
     scanners: np.ndarray
 
+    def are_single(self) -> bool:
+        """Whether one scanner saw each point."""
+        return bool((self.counts == 1).all())
+
+    def take(self, rows: np.ndarray) -> Sights:
+        """The sights of these points, in their order."""
+        counts = self.counts[rows]
+        if self.are_single():
+            return Sights(counts, self.scanners[rows])
+        starts = (np.cumsum(self.counts) - self.counts)[rows]
+        return Sights(counts, self.scanners[np.repeat(starts - (np.cumsum(counts) - counts), counts) + np.arange(counts.sum())])
+
 
 def points_of(values: Any, what: str) -> np.ndarray:
     """Returns rows of three finite numbers. Raises `Invalid` with the first row at fault."""
@@ -77,7 +89,7 @@ def is_ragged(seen_by: Any) -> bool:
 def whole_rows(rows: np.ndarray, origin: np.ndarray, unit: int, what: str) -> np.ndarray:
     """Returns rows in whole units. Raises `Invalid` for one that is out of range."""
     whole = np.rint((rows - origin) * unit)
-    far = np.flatnonzero((np.abs(whole) > LIMIT).any(axis=1))
+    far = np.flatnonzero(np.logical_or.reduce([np.abs(whole[:, k]) > LIMIT for k in range(3)]))
     if len(far):
         raise Invalid(f'row {far[0]} of {what} is over {LIMIT:,} units from the origin', int(far[0]),
                       'take a smaller unit, or an origin near the object')
@@ -86,7 +98,7 @@ def whole_rows(rows: np.ndarray, origin: np.ndarray, unit: int, what: str) -> np
 
 def write_scan(path: str | Path, points: np.ndarray, sights: Sights, scanners: np.ndarray, weights: np.ndarray | None) -> None:
     """Writes a scan of whole numbers as binary PLY, which `recon` reads at unit=1."""
-    is_single = bool((sights.counts == 1).all())
+    is_single = sights.are_single()
     fields: list[tuple[str, str, np.ndarray]] = [(axis, 'int', points[:, k]) for k, axis in enumerate('xyz')]
     if weights is not None:
         fields.append(('weight', 'uchar', weights))
@@ -145,6 +157,15 @@ class Surface(Mesh):
     counts: dict[str, int] = field(default_factory=dict)
     folder: Path = Path('.')
     program: str | None = None
+    rows: np.ndarray | None = None
+    spots: np.ndarray = field(default_factory=lambda: np.zeros((0, 3), np.int64))
+
+    def load(self) -> None:
+        """Reads the mesh, where the program has built it and `rows` are the points of the scan in whole units."""
+        if self.rows is not None:
+            self.spots, corners = read_mesh(os.fspath(self.mesh))
+            self.vertices, self.faces = self.spots / self.unit + self.origin, corners.reshape(-1, 3)
+            self.source, self.rows = rows_at(self.rows, self.spots), None
 
     @property
     def scan(self) -> Path:
@@ -220,7 +241,8 @@ class Surface(Mesh):
 
     def whole(self) -> tuple[np.ndarray, np.ndarray]:
         """The mesh as the program wrote it: places (n, 3) in whole units, and the corners of all faces one after another."""
-        return np.rint((self.vertices - self.origin) * self.unit).astype(np.int64), self.faces.ravel()
+        is_known = len(self.spots) == len(self.vertices)
+        return self.spots if is_known else np.rint((self.vertices - self.origin) * self.unit).astype(np.int64), self.faces.ravel()
 
     def finish(self, pieces: int | None = None, flips: bool = True, smooth: int = 0, within: float | None = None,
                manifold: bool = False) -> Mesh:
@@ -258,6 +280,16 @@ def build(points: Any, scanners: Any = None, seen_by: SeenBy | None = None, *, n
 
     Raises `Invalid` for arrays that make no scan, `Refused` with the program's error, and FileNotFoundError without the program.
     """
+    surface = build_files(points, scanners, seen_by, normals=normals, weights=weights, smooth=smooth, vote=vote, unit=unit, origin=origin, far=far,
+                          folder=folder, program=program, is_shown=is_shown)
+    surface.load()
+    return surface
+
+
+def build_files(points: Any, scanners: Any = None, seen_by: SeenBy | None = None, *, normals: Any = None, weights: Any = None, smooth: int = 3,
+                vote: int = 8, unit: int | None = None, origin: Any = None, far: float | None = None, folder: str | Path | None = None,
+                program: str | None = None, is_shown: bool = False) -> Surface:
+    """Does what `build` does, but leaves the mesh to `Surface.load`, so that something else can be done with the files first."""
     places = points_of(points, 'points')
     if not len(places) or len(places) > POINT_LIMIT:
         raise Invalid(f'{len(places):,} points: a scan has 1 to {POINT_LIMIT:,}', hint='thin them (recon.thinned), or cut them into tiles')
@@ -265,9 +297,8 @@ def build(points: Any, scanners: Any = None, seen_by: SeenBy | None = None, *, n
     kept = Path(tempfile.mkdtemp(prefix='recon-') if folder is None else folder)
     scan = written_scan(places, stations, sights, weights, unit, origin, kept)
     counts = run(['build', kept / 'scan.ply', kept / 'mesh.ply', kept / 'scan.cert', f'smooth={smooth}', f'vote={vote}'], program, is_shown)
-    spots, corners = read_mesh(os.fspath(kept / 'mesh.ply'))
-    surface = Surface(spots / scan.unit + scan.origin, corners.reshape(-1, 3), rows_at(scan.points, spots), scan.unit, scan.origin, smooth, vote,
-                      counts, kept, program)
+    none = np.zeros((0, 3))
+    surface = Surface(none, none.astype(np.int64), np.zeros(0, np.int64), scan.unit, scan.origin, smooth, vote, counts, kept, program, scan.points)
     if folder is None:
         weakref.finalize(surface, shutil.rmtree, kept, True)
     return surface

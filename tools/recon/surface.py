@@ -30,7 +30,7 @@ from recon.choices import Choices
 from recon.clouds import SAMPLE, Spacing, box_of, curve_of, frame, lone_points, spacing, surrounding, thinned, thinning_side, tree_of
 from recon.finish import MOST_STEPS, Wishes, finished, seen_path
 from recon.inputs import Cloud, Inputs, read_cloud
-from recon.library import Surface, build
+from recon.library import Surface, build_files
 from recon.mesh_program import mesh_program_path
 from recon.meshes import pieces
 from recon.outputs import Made, write_outputs
@@ -199,11 +199,11 @@ def built(scan: Scan, args: Any, folder: Path, choices: Choices) -> Surface:
 
 
 def built_at(smooth: int, scan: Scan, args: Any, folder: Path, choices: Choices) -> Surface:
-    """The surface at an area weight, of tiles where there are too many points."""
+    """The surface at an area weight, whose mesh is still to be read; of tiles where there are too many points."""
     cloud, given = scan.cloud, {'smooth': smooth, 'vote': args.vote, 'unit': scan.unit, 'origin': scan.origin, 'weights': scan.cloud.weights,
                                 'folder': folder, 'program': args.program}
     if 'tiles' not in choices.chosen:
-        return build(cloud.points, cloud.scanners, lists_of(cloud), is_shown=sys.stderr.isatty() and not args.quiet, **given)
+        return build_files(cloud.points, cloud.scanners, lists_of(cloud), is_shown=sys.stderr.isatty() and not args.quiet, **given)
     from recon.tiled import build_tiles
     shutil.rmtree(folder / 'tiles', ignore_errors=True)
     surface = build_tiles(cloud.points, cloud.scanners, cloud.sights, most=min(args.max_points, MOST_OF_A_TILE), tell=choices.tell, **given)
@@ -216,7 +216,7 @@ def built_at(smooth: int, scan: Scan, args: Any, folder: Path, choices: Choices)
 
 def lists_of(cloud: Cloud) -> Any:
     """Who saw each point, as `build` takes it."""
-    if (cloud.sights.counts == 1).all():
+    if cloud.sights.are_single():
         return cloud.sights.scanners
     rows = np.empty(len(cloud.points), object)
     rows[:] = np.split(cloud.sights.scanners, np.cumsum(cloud.sights.counts)[:-1])
@@ -276,6 +276,8 @@ def made(args: Any, choices: Choices, folder: Path) -> Made:
     scan = prepared(Inputs(args, folder, choices))
     surface = built(scan, args, folder, choices)
     with Beside(surface, is_checked=not args.no_check) as beside:
+        surface.load()
+        choices.timed('read mesh')
         wishes = wishes_for(surface, scan, args, choices)
         choices.tell(f'finishing {len(surface.faces):,} faces')
         mesh, report = finished(os.fspath(surface.mesh), wishes, mesh=surface.whole())

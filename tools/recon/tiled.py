@@ -90,7 +90,7 @@ def build_tiles(points: np.ndarray, scanners: np.ndarray, sights: Sights, *, wei
     joined = join(os.fspath(tiles), os.fspath(mesh), True, None)
     spots, corners = read_mesh(os.fspath(mesh))
     return Tiled(spots / scan.unit + scan.origin, corners.reshape(-1, 3), rows_at(scan.points, spots), scan.unit, scan.origin, smooth, vote,
-                 counts_of(tiles, names), folder, program, names, joined)
+                 counts_of(tiles, names), folder, program, names=names, joined=joined)
 
 
 __all__ = ['Tiled', 'build_tiles']
