@@ -8,13 +8,14 @@ import os
 import random
 import struct
 import subprocess
+import sys
 import unittest
 from fractions import Fraction
 from typing import Any, Sequence
 
 import numpy as np
 
-from helpers import RECON, RECON_MESH, InFolder, call, equal, head, refuses, write
+from helpers import PACKAGE, RECON, RECON_MESH, InFolder, call, equal, head, refuses, write
 from crossing import cross, orient
 from recon.toolbox.vectors import axes, normal
 from triangles import crossing
@@ -245,6 +246,32 @@ class Finish(InFolder):
         with open('out.obj', encoding='ascii') as lines:
             rows = [line.split() for line in lines]
         equal((rows[2], rows[-1][0], len(rows)), (['v', '100', '-100', '-100', '0.003922', '0.2', '1'], 'f', 9))
+
+    def test_meshes_with_comments(self) -> None:
+        plain = mesh_text([(0, 0, 0), (9, 0, 0), (0, 9, 0), (0, 0, 9)], TETRAHEDRON)
+        comments = 'comment recon-mesh finish pieces=1\ncomment scale 1024\ncomment\n'
+        write('in.ply', plain)
+        equal(call('finish', 'in.ply', 'plain.ply', 'flips=no')[0], 0)
+        write('in.ply', plain.replace('element vertex', comments + 'element vertex'))
+        equal(call('finish', 'in.ply', 'out.ply', 'flips=no')[0], 0)
+        equal(call('mesh_to_floats', 'in.ply', 'floats.ply')[0], 0)
+        with open('plain.ply', 'rb') as one, open('out.ply', 'rb') as other:
+            equal(one.read() == other.read(), True)
+        for wrong in ('comments 1\n', 'obj_info 1\n', 'comment\x0b\n', 'comment ' + 'c' * 999 + '\n', 'comment\n' * 101):
+            write('in.ply', plain.replace('element vertex', wrong + 'element vertex'))
+            refuses('finish', 'its header is another', 'in.ply', 'out.ply', 'flips=no')
+
+    def test_programs_with_and_without_an_option_for_comments(self) -> None:
+        write('in.ply', mesh_text([(0, 0, 0), (9, 0, 0), (0, 9, 0), (0, 0, 9)], TETRAHEDRON))
+        knows = 'for word; do [ "$word" = comments=no ] && no=1; done\n'
+        programs = (knows + '[ $no ] && { echo refused words; exit 2; }\ncp "$2" "$3"\n',
+                    knows + '[ $no ] && cp "$2" "$3" || sed "s/^element vertex/comment x\\n&/" "$2" > "$3"\n')
+        for program in programs:
+            write('program', '#!/bin/sh\n' + program + 'echo finished points 4 faces 4\n')
+            os.chmod('program', 0o755)
+            done = subprocess.run([sys.executable, PACKAGE, 'finish', 'in.ply', 'out.ply'], capture_output=True, text=True,
+                                  env={**os.environ, 'RECON_MESH': './program'})
+            equal((done.returncode, done.stderr, 'wrote 4 vertices and 4 faces' in done.stdout), (0, '', True))
 
     @unittest.skipUnless(RECON_MESH, 'recon-mesh is not built here')
     def test_pieces_and_smoothing(self) -> None:

@@ -1,4 +1,4 @@
-"""Meshes read as `recon build` wrote them, and written as PLY, STL, GLB or OBJ.
+"""Meshes read as `recon build` and `recon-mesh finish` wrote them, and written as PLY, STL, GLB or OBJ.
 
 Names: read_mesh · Finished (a mesh to be written: coordinates, corners, and columns of values of vertices and faces) ·
 write_mesh (by the ending of the name).
@@ -20,7 +20,8 @@ from recon.toolbox.ply_text import FORMATS, Refusal
 from recon.toolbox.vectors import axes, normal
 from recon.toolbox.whole_text import whole_numbers
 
-HEAD = re.compile(rb'ply\nformat ascii 1\.0\nelement vertex ([0-9]{1,10})\nproperty int x\nproperty int y\nproperty int z\n'
+HEAD = re.compile(rb'ply\nformat ascii 1\.0\n(?:comment(?: [^\n]{0,998})?\n){0,100}'
+                  rb'element vertex ([0-9]{1,10})\nproperty int x\nproperty int y\nproperty int z\n'
                   rb'element face ([0-9]{1,10})\nproperty list uchar int vertex_indices\nend_header\n')
 WHOLE = ('char', 'uchar', 'short', 'ushort', 'int', 'uint', 'int8', 'uint8', 'int16', 'uint16', 'int32', 'uint32')
 NOT_OURS = 'this is no mesh as `recon build` wrote it: '
