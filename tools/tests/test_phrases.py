@@ -85,8 +85,17 @@ class Phrases(InFolder):
                 ('in rooms of a building', []), ('room for an arc', ['room']), ('the words of a command', ['word']), ('in other words', []),
                 ('at the unit of the scan', ['unit']), ('a unit test', []), ('each form has received it', ['form']), ('in the form of a list', []),
                 ('it is worth 3', ['is worth']), ('it is worth reading', []), ('a thin tube', []), ('fans of triangles', []), ('lawn', []),
-                ('least-inside labels', ['least inside']), ('WANT OF MEMORY', ['want of memory']), ('wrong bodies', ['wrong body'])):
+                ('each face costs smooth.', ['smooth']), ('a smooth mesh', []), ('least-inside labels', ['least inside']), ('WANT OF MEMORY', ['want of memory']), ('wrong bodies', ['wrong body'])):
             equal((text, found(text)), (text, names))
+
+    def test_each_phrase_of_the_rules_is_counted(self) -> None:
+        for text in ('want of memory', 'refusal', 'mend', 'cure', 'law', 'wrong body', 'is proved', 'clause', 'tells', 'the program beside', 'plain cells',
+                     'plain network', 'written positively', 'written anew', 'row of a cell', 'turned facet', 'the cell across', 'fan', 'rim', 'tie rule',
+                     'displaced scanner', 'kept cell', 'side back', 'room of an arc', 'is worth', 'fixed cell', 'least-inside labels', 'the smooth of a mesh',
+                     'vote', 'strays', 'pieces in the air', 'touching edges', 'into a form and each form', 'receipt', 'stamp', 'watch', 'told',
+                     'the word', 'said line', 'crowd', 'tube', 'the unit', 'handed in', 'behind the text', 'in front of the text', 'front of the text',
+                     'rising', 'stands on', 'let go', 'of which', 'whoever', 'so many'):
+            equal((text, bool(found(text))), (text, True))
 
     def test_some_words_count_for_users_alone(self) -> None:
         equal(found('It is proved: a clause tells it.'), ['is proved', 'clause', 'tells'])

@@ -418,7 +418,7 @@ class Program(InFolder):
             return [line for line in at_terminal('build', 'scan', 'mesh', 'cert', *words)[2].split(CLEAR)[-1].split('\r\n') if line]
 
         write('scan', example('tetrahedron.ply'))
-        # The surface is against no sight, and each face costs smooth.
+        # The surface contradicts no line of sight, and each face costs the area weight.
         for words in ((), ('smooth=0',), ('vote=16', 'smooth=2'), ('smooth=1', 'unit=1', 'vote=8')):
             equal(hints(*words), ['recon: 0.000 contradictions for each line of sight'])
         # A ball with each fifth point seen from behind: a surface is there, and lines of sight contradict it.
