@@ -1,13 +1,14 @@
 #!/usr/bin/env python3
-"""Runs the commands of the pages for users, and fails if one prints something else than its page shows.
+"""Runs the commands of the pages for users, and fails if one ends or prints otherwise than its page shows.
 
 usage: dev/pages.py [PAGE..]            (default: README.md, docs/tutorial.md and docs/howto/)
        dev/pages.py write [PAGE..]      (puts what the commands print into the pages)
 
-Two kinds of commands are found in a page. Those in a block ```console after `$ ` are run, in their order, in a folder of their own with
-examples/, and what they print has to be what follows, where a line `..` stands for any lines, and times and names of temporary files may
-differ. Commands in indented blocks and in the text that begin with `recon` are run without any files: the program has to miss a file, and not
-to reject the arguments.
+The commands of a page are those after `$ ` in a block ```console, those in indented blocks, and those between backticks in the text that
+begin with a program and name a file or an option. They are run in their order, in a folder with examples/ and the files that users have
+(dev/page_files.py). What a command of a block prints has to be what follows, where a line `..` stands for any lines, and times and names of
+temporary files may differ. The exit status has to be 0, or the one of the line that the page shows (`no ..`: 1, `refused ..`: 2 or 3).
+Commands in NOT_RUN are not run, for the reason given there.
 
 The programs are those of RECON and RECON_MESH, or built here. If `recon` is not built, the unverified reference program runs its commands
 `build`, `check`, `cells` and `demo`, and the model of dev/model runs `slice`, `export`, and `ask` on a small scan; other commands of a
@@ -16,7 +17,6 @@ missing program, and those that need their outputs, are skipped with a message.
 from __future__ import annotations
 
 import importlib.util
-import math
 import os
 import pathlib
 import re
@@ -25,17 +25,36 @@ import subprocess
 import sys
 import tempfile
 from collections.abc import Iterator
+from concurrent.futures import ThreadPoolExecutor
 from dataclasses import dataclass, field
 
+from page_files import write_named
 from report import begun, reported
 
 TOP = pathlib.Path(__file__).resolve().parent.parent
 PACKAGE, EXAMPLES = TOP / 'tools/recon', TOP / 'examples'
-BLOCK = re.compile(r'(?ms)^```console\n(.*?)^```$')
-REFERENCE = TOP / 'dev/reference/target/release/recon-reference'
 OF_REFERENCE, OF_MODEL = ('build', 'check', 'cells', 'demo'), ('slice', 'export', 'ask examples/tetrahedron.ply')
-# What differs from run to run: seconds, and the names of temporary folders.
+PROGRAM = r'(?:\./)?(?:recon|recon-[a-z-]+|python3|make|pip|xargs|parallel|sbatch|pdal|CloudCompare|meshlabserver)'
+COMMANDS = re.compile(rf'(?m)^```(?P<kind>\w*)\n(?P<block>[\s\S]*?)^```$|^ {{4,}}(?P<indented>\S[^\n]*)$|`(?P<inline>{PROGRAM} [^`\n]+)`')
+NAMES_SOMETHING = re.compile(r' \S*[.=]')
+# Commands that are not run here: how they begin, and why.
+NOT_RUN = {
+    'make run': 'verifies and builds the programs, which the gate does',
+    'make test': 'runs the gate, which runs this',
+    'make install': 'verifies and builds the programs first',
+    'make dist': 'verifies and builds the programs first',
+    'make try': 'needs cargo',
+    'pip install': 'changes the Python installation',
+    'CloudCompare': 'is a program of others; dev/page_files.py makes the file that it would write',
+    'meshlabserver': 'is a program of others; dev/page_files.py makes the file that it would write',
+    'pdal': 'is a program of others; dev/page_files.py makes the file that it would write',
+    'parallel': 'is a program of others, and runs what make and xargs run',
+    'sbatch': 'needs a cluster, and runs what make and xargs run',
+}
+# Exit statuses by the beginning of the line that shows them.
+STATUSES = (('no ', 1), ('ls: ', 2), ('refused words', 2), ('refused ', 3))
 FILE = re.compile(r'(?<![\w./-])[\w./-]+\.[a-z]\w*\b')
+# What differs from run to run: seconds, and the names of temporary folders.
 DIFFERS = [(re.compile(r'(?m)^(recon-surface:) +\d+\.\d s'), r'\1 0.0 s'), (re.compile(r'\(\d+\.\d s, beside'), '(0.0 s, beside'),
            (re.compile(r'\.recon-\w{8}'), '.recon-00000000')]
 
@@ -77,47 +96,55 @@ class Programs:
     def missing_of(self, command: str) -> str:
         """Returns which program a command needs that is missing, or nothing."""
         words = shlex.split(command, comments=True)
-        name = words[0].removeprefix('./')
+        name = 'recon-' + words[2] if words[0] == 'python3' else words[0].removeprefix('./')
         if name == 'recon' and not self.recon:
             runs = OF_MODEL + (OF_REFERENCE if self.reference else ())
             return '' if ' '.join(words[1:]).startswith(runs) else 'recon'
-        if name == 'recon-mesh' and not self.mesh:
-            return 'recon-mesh'
-        uses_recon = name in ('recon-surface', 'make') or 'surface' in words[:3]
-        return 'recon' if uses_recon and not (self.recon or self.reference) else ''
+        if not (self.recon or self.reference) and (name in ('recon-surface', 'make', 'xargs') or words[:2] == ['recon-tiles', 'join']):
+            return 'recon'
+        return 'recon-mesh' if not self.mesh and name in ('recon-mesh', 'recon-finish', 'recon-surface') else ''
 
 
 @dataclass
-class Shown:
-    """A command of a page and the lines that it prints, with the line of the page where it stands."""
+class Command:
+    """A command of a page with the line of the page where it stands, and the lines that it prints, if the page shows them."""
     page: pathlib.Path
     line: int
-    command: str
-    printed: list[str]
+    text: str
+    printed: list[str] | None = None
+
+    def name(self) -> str:
+        """Returns the page and the line, and the command."""
+        page = self.page.relative_to(TOP) if self.page.is_relative_to(TOP) else self.page.name
+        return f'{page} line {self.line}: {self.text}'
+
+    def not_run(self) -> str | None:
+        """Returns the entry of NOT_RUN for a command that is not run, or None."""
+        return next((begin for begin in NOT_RUN if (self.text + ' ').startswith(begin + ' ')), None)
+
+    def status(self) -> int:
+        """Returns the exit status that the page shows by a line of the output, or 0."""
+        return next((status for line in self.printed or [] for begin, status in STATUSES if line.startswith(begin)), 0)
 
 
-def shown_in(page: pathlib.Path, text: str) -> Iterator[list[Shown]]:
-    """Yields the commands of each block of a page."""
-    for block in BLOCK.finditer(text):
-        commands: list[Shown] = []
-        for at, line in enumerate(block[1].splitlines(), text.count('\n', 0, block.start()) + 2):
-            if line.startswith('$ '):
-                commands.append(Shown(page, at, line[2:], []))
-            else:
-                commands[-1].printed.append(line)
-        yield commands
+def shown_in(page: pathlib.Path, block: str, at: int) -> Iterator[Command]:
+    """Yields the commands of a block whose first line has a number in its page, each with what it prints."""
+    for part in re.split(r'(?m)^\$ ', block)[1:]:
+        command, *printed = part.splitlines()
+        yield Command(page, at, command, printed)
+        at += 1 + len(printed)
 
 
-def inputs(folder: pathlib.Path) -> None:
-    """Writes files that pages import: cloud.xyz, and left.xyz and right.pts of two stations, of the figurine; normals.xyz of a ball."""
-    rows = [line.split() for line in (EXAMPLES / 'figurine.ply').read_text().splitlines() if len(line.split()) == 4 and line[0] in '-0123456789']
-    of = {scanner: [row[:3] for row in rows if row[3] == scanner] for scanner in '67'}
-    (folder / 'cloud.xyz').write_text(''.join(' '.join(row) + '\n' for row in of['6']))
-    (folder / 'left.xyz').write_text(''.join(' '.join(row) + '\n' for row in of['6']))
-    (folder / 'right.pts').write_text(f'{len(of["7"])}\n' + ''.join(' '.join(row) + ' 0\n' for row in of['7']))
-    ball = [(math.sqrt(1 - z * z), z, 2.4 * k) for k in range(200) for z in [(k + 0.5) / 100 - 1]]
-    places = [(r * math.cos(turn), r * math.sin(turn), z) for r, z, turn in ball]
-    (folder / 'normals.xyz').write_text(''.join(' '.join(f'{c:.5f}' for c in place * 2) + '\n' for place in places))
+def commands_of(page: pathlib.Path) -> list[Command]:
+    """Returns the commands of a page, in their order."""
+    text, commands = page.read_text(), list[Command]()
+    for found in COMMANDS.finditer(text):
+        at, alone = text.count('\n', 0, found.start()) + 1, found['indented'] or found['inline'] or ''
+        if found['kind'] == 'console':
+            commands += shown_in(page, found['block'], at + 1)
+        elif found['indented'] or NAMES_SOMETHING.search(alone) and not re.search(r' \.\.|\[', alone):
+            commands.append(Command(page, at, alone))
+    return commands
 
 
 def plain(text: str) -> str:
@@ -136,105 +163,108 @@ def is_as_shown(got: list[str], shown: list[str]) -> bool:
 class Runs:
     """The commands of one page, run in a folder."""
 
-    def __init__(self, programs: Programs, folder: pathlib.Path) -> None:
-        self.programs, self.folder = programs, folder
+    def __init__(self, page: pathlib.Path, programs: Programs, folder: pathlib.Path) -> None:
+        self.programs, self.folder, self.at = programs, folder, folder
         self.lost: set[str] = set()
         programs.put_into(folder)
         (folder / 'examples').symlink_to(EXAMPLES)
-        inputs(folder)
+        write_named(page.read_text(), folder)
 
     def is_skipped(self, command: str) -> bool:
         """Returns whether a program is missing, or a file that a skipped command would have written."""
         return bool(self.programs.missing_of(command) or self.lost & set(FILE.findall(command)))
 
-    def printed(self, command: str) -> list[str] | None:
-        """Runs a command and returns the lines that it prints, or None if it is skipped."""
+    def done(self, command: str) -> tuple[int, list[str]] | None:
+        """Runs a command and returns its status and the lines that it prints, or None if it is skipped."""
         if self.is_skipped(command):
-            self.lost |= {name for name in FILE.findall(command) if not (self.folder / name).exists()}
+            self.lost |= {name for name in FILE.findall(command) if not (self.at / name).exists()}
             return None
+        if command.startswith('cd '):
+            self.at = self.at / command[3:]
+            return 0, []
         path = f'{self.folder / "bin"}:{os.path.dirname(sys.executable)}:{os.environ["PATH"]}'
         environ = {**os.environ, 'PATH': path, 'LC_ALL': 'C', 'RECON': self.programs.recon or self.programs.reference}
-        done = subprocess.run(['bash', '-c', command], cwd=self.folder, env=environ, stdout=subprocess.PIPE, stderr=subprocess.STDOUT, text=True)
-        return done.stdout.splitlines()
+        done = subprocess.run(['bash', '-c', command], cwd=self.at, env=environ, stdin=subprocess.DEVNULL, stdout=subprocess.PIPE,
+                              stderr=subprocess.STDOUT, text=True)
+        return done.returncode, done.stdout.splitlines()
 
-    def fault(self, it: Shown) -> str | None:
+    def fault(self, it: Command) -> str | None:
         """Returns what is wrong with a command of a page, or None; a skipped one is right."""
-        got = self.printed(it.command)
-        if got is None:
+        done = self.done(it.text)
+        if done is None:
             return None
-        shown = [line for line in it.printed if self.programs.recon or not line.startswith('recon: ')]
-        if is_as_shown(plain('\n'.join(got)).split('\n') if got else [], plain('\n'.join(shown)).split('\n') if shown else []):
-            return None
-        return f'{it.page.relative_to(TOP)} line {it.line}: {it.command}\n' + '\n'.join(f'  prints {line}' for line in got)
+        status, got = done
+        shown = None if it.printed is None else [line for line in it.printed if self.programs.recon or not line.startswith('recon: ')]
+        if shown is not None and not is_as_shown(plain('\n'.join(got)).splitlines(), plain('\n'.join(shown)).splitlines()):
+            return it.name() + ''.join(f'\n  prints {line}' for line in got)
+        if status != it.status():
+            return f'{it.name()}\n  ends with {status} and not with {it.status()}' + ''.join(f'\n  prints {line}' for line in got)
+        return None
 
 
-def faults_of(page: pathlib.Path, programs: Programs) -> tuple[list[str], int, int]:
-    """Runs the commands of a page; returns its faults, how many were run, and how many skipped."""
+@dataclass
+class Tally:
+    """What came of the commands of a page: what is wrong, how many were compared, run alone and skipped, and the entries of NOT_RUN."""
+    faults: list[str] = field(default_factory=list)
+    compared: int = 0
+    run: int = 0
+    skipped: int = 0
+    not_run: list[str] = field(default_factory=list)
+
+
+def tally_of(page: pathlib.Path, programs: Programs) -> Tally:
+    """Runs the commands of a page."""
+    tally = Tally()
     with tempfile.TemporaryDirectory() as folder:
-        runs, count, skipped = Runs(programs, pathlib.Path(folder)), 0, 0
-        faults: list[str] = []
-        for it in (it for block in shown_in(page, page.read_text()) for it in block):
-            lost = runs.is_skipped(it.command)
-            fault = runs.fault(it)
-            faults += [fault] if fault else []
-            count, skipped = count + (not lost), skipped + lost
-        return faults, count, skipped
+        runs = Runs(page, programs, pathlib.Path(folder))
+        for it in commands_of(page):
+            if it.not_run():
+                tally.not_run.append(it.not_run() or '')
+                continue
+            is_skipped, fault = runs.is_skipped(it.text), runs.fault(it)
+            tally.faults += [fault] if fault else []
+            tally.skipped += is_skipped
+            tally.compared += not is_skipped and it.printed is not None
+            tally.run += not is_skipped and it.printed is None
+    return tally
+
+
+def tallies_of(names: list[pathlib.Path], programs: Programs) -> list[Tally]:
+    """Runs the commands of pages, one page on each processor."""
+    with ThreadPoolExecutor(os.cpu_count()) as executor:
+        return list(executor.map(lambda page: tally_of(page, programs), names))
 
 
 def written(page: pathlib.Path, programs: Programs) -> str:
     """Returns the text of a page with what its commands print; what is skipped, or has a line `..`, stays."""
     with tempfile.TemporaryDirectory() as folder:
-        runs = Runs(programs, pathlib.Path(folder))
-
-        def block(found: re.Match[str]) -> str:
-            lines: list[str] = []
-            for it in next(shown_in(page, found[0])):
-                got = runs.printed(it.command)
-                is_same = got is not None and plain('\n'.join(got)) == plain('\n'.join(it.printed))
-                keeps = is_same or '..' in it.printed or not programs.recon and any(line.startswith('recon: ') for line in it.printed)
-                lines += ['$ ' + it.command, *(it.printed if keeps or got is None else got)]
-            return '```console\n' + '\n'.join(lines) + '\n```'
-
-        return BLOCK.sub(block, page.read_text())
-
-
-def commands_alone(page: pathlib.Path) -> list[tuple[int, str]]:
-    """Returns the commands of indented blocks and of the text that begin with `recon`, without those in blocks that are run, with their lines."""
-    text = BLOCK.sub(lambda found: '\n' * found[0].count('\n'), page.read_text())
-    found = re.finditer(r'(?m)^ {4,}(recon\S* [^\n]+)$|`(recon-[a-z-]+ [^`\n]*[.=][^`\n]*)`', text)
-    commands = [(text.count('\n', 0, it.start()) + 1, (it[1] or it[2]).strip()) for it in found]
-    return [(at, line) for at, line in commands if '[' not in line and '..' not in line]
-
-
-def is_understood(command: str, programs: Programs) -> bool:
-    """Returns whether a command without its files misses one, or needs none, and does not reject its arguments."""
-    with tempfile.TemporaryDirectory() as folder:
-        programs.put_into(pathlib.Path(folder))
-        environ = {**os.environ, 'PATH': f'{folder}/bin:{os.environ["PATH"]}', 'RECON': programs.recon or programs.reference}
-        done = subprocess.run(['bash', '-c', command], cwd=folder, env=environ, capture_output=True, text=True)
-        if command.split()[0] in ('recon', 'recon-mesh'):
-            return done.returncode in (0, 4)
-        return done.returncode == 0 or done.returncode == 1 and 'No such file' in done.stderr
+        runs, lines = Runs(page, programs, pathlib.Path(folder)), page.read_text().splitlines()
+        for it in reversed([(it, None if it.not_run() else runs.done(it.text)) for it in commands_of(page)]):
+            command, done = it
+            if done is None or command.printed is None or '..' in command.printed:
+                continue
+            is_same = plain('\n'.join(done[1])) == plain('\n'.join(command.printed))
+            if not is_same and (programs.recon or not any(line.startswith('recon: ') for line in command.printed)):
+                lines[command.line:command.line + len(command.printed)] = done[1]
+        return '\n'.join(lines) + '\n'
 
 
 def main(words: list[str]) -> int:
     programs = Programs()
-    names = [word for word in words if word != 'write']
-    faults: list[str] = []
-    count = skipped = understood = 0
-    for page in [TOP / name for name in names] or pages():
-        if 'write' in words:
+    names = [TOP / word for word in words if word != 'write'] or pages()
+    if 'write' in words:
+        for page in names:
             page.write_text(written(page, programs))
-            continue
-        found, run, left = faults_of(page, programs)
-        faults, count, skipped = faults + found, count + run, skipped + left
-        for at, command in commands_alone(page):
-            if not programs.missing_of(command):
-                understood += 1
-                faults += [] if is_understood(command, programs) else [f'{page.relative_to(TOP)} line {at} is not understood: {command}']
+        return 0
+    tallies = tallies_of(names, programs)
+    faults, not_run = [fault for tally in tallies for fault in tally.faults], [begin for tally in tallies for begin in tally.not_run]
+    if not words:
+        faults += [f'NOT_RUN has {begin}, and no page has it' for begin in NOT_RUN if begin not in not_run]
+    skipped = sum(tally.skipped for tally in tallies)
     missing = [name for name, path in (('recon', programs.recon), ('recon-mesh', programs.mesh)) if not path]
-    note = f', {skipped} skipped ({" and ".join(missing)} not built here)' if skipped else ''
-    return reported('pages', faults, f'{count} commands print what their pages show, {understood} more are understood{note}')
+    note = f', {skipped} are skipped ({" and ".join(missing)} not built here)' if skipped else ''
+    return reported('pages', faults, f'{sum(tally.compared for tally in tallies)} commands print what their pages show, '
+                    f'{sum(tally.run for tally in tallies)} more end as they should, {len(not_run)} are not run{note}')
 
 
 if __name__ == '__main__':

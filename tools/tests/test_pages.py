@@ -23,8 +23,12 @@ $ cat gone.ply
 ply
 ```
 
-    recon-scan a.ply b.ply
-    recon-scan [the same options]
+    recon-scan cloud.xyz=0.15,-0.2,0.75 b.ply
+    cd examples
+    cat cube.ply
+    make run        # is not run
+
+`recon-scan a.ply b.ply` and `recon-scan ..` and `recon-scan [the same options]`
 '''
 
 
@@ -33,36 +37,39 @@ class Pages(unittest.TestCase):
         programs = pages.Programs()
         if not (programs.recon or programs.reference):
             self.skipTest('recon is not built here, and no reference program')
-        skipped = 0
-        for page in pages.pages():
+        tallies = pages.tallies_of(pages.pages(), programs)
+        for page, tally in zip(pages.pages(), tallies):
             with self.subTest(page.name):
-                faults, _, left = pages.faults_of(page, programs)
-                skipped += left
-                equal(faults, [])
+                equal(tally.faults, [])
+        equal({begin for tally in tallies for begin in tally.not_run}, set(pages.NOT_RUN))
+        equal(sum(tally.compared + tally.run + tally.skipped for tally in tallies) > 90, True)
+        skipped = sum(tally.skipped for tally in tallies)
         if skipped:
             self.skipTest(f'{skipped} commands of pages need recon or recon-mesh, which are not built here')
 
-    def test_commands_of_pages_are_understood(self) -> None:
-        programs = pages.Programs()
-        commands = [(page.name, at, command) for page in pages.pages() for at, command in pages.commands_alone(page)]
-        equal(len(commands) > 30, True)
-        equal([it for it in commands if not programs.missing_of(it[2]) and not pages.is_understood(it[2], programs)], [])
-
 
 class Faults(InFolder):
+    def setUp(self) -> None:
+        super().setUp()
+        self.page = pathlib.Path('page.md').resolve()
+
+    def came_of(self, text: str) -> tuple[list[str], int, int, int, list[str]]:
+        """Returns what came of the commands of a page, without any program."""
+        self.page.write_text(text)
+        tally = pages.tally_of(self.page, pages.Programs('', '', ''))
+        return tally.faults, tally.compared, tally.run, tally.skipped, tally.not_run
+
     def test_what_is_printed_is_compared(self) -> None:
-        pathlib.Path('page.md').write_text(PAGE)
-        nothing = pages.Programs('', '', '')
-        page = pathlib.Path.cwd() / 'page.md'
-        equal(pages.faults_of(page, nothing), ([], 2, 2))
-        equal(pages.commands_alone(page), [(17, 'recon-scan a.ply b.ply')])
-        kept, pages.TOP = pages.TOP, pathlib.Path.cwd()
-        try:
-            page.write_text(PAGE.replace('\ntwo\n', '\nthree\n'))
-            equal(pages.faults_of(page, nothing)[0], ['page.md line 4: echo one; echo two\n  prints one\n  prints two'])
-        finally:
-            pages.TOP = kept
-        equal(pages.written(page, nothing), PAGE)
+        equal(self.came_of(PAGE.partition('`recon-scan')[0]), ([], 2, 3, 2, ['make run']))
+        equal(self.came_of(PAGE.partition('`recon-scan')[0].replace('\ntwo\n', '\nthree\n'))[0],
+              ['page.md line 4: echo one; echo two\n  prints one\n  prints two'])
+        equal(pages.written(self.page, pages.Programs('', '', '')), PAGE.partition('`recon-scan')[0])
+
+    def test_a_status_is_0_or_the_one_shown(self) -> None:
+        equal(self.came_of(PAGE)[0], ['page.md line 22: recon-scan a.ply b.ply\n  ends with 1 and not with 0\n  prints recon-scan: refused: '
+                                      'No such file or directory: a.ply'])
+        block = '```console\n$ echo refused 7; exit {}\nrefused 7\n```\n'
+        equal([len(self.came_of(block.format(status))[0]) for status in (3, 0, 1)], [0, 1, 1])
 
     def test_times_and_names_of_temporary_files_may_differ(self) -> None:
         equal(pages.plain('recon-surface:    12.3 s  to .recon-ab12cd_4/points.ply'), 'recon-surface: 0.0 s  to .recon-00000000/points.ply')
