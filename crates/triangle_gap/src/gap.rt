@@ -10,6 +10,7 @@ ghost use Rattle.triangle_gap.specs.Gaps.{AreFacesApart};
 
 use crate::corners::{Excluded, Marks, Triangle};
 use crate::planes::excluded_by;
+use crate::upright::{are_in_one_plane, axis_off};
 use geo_sign::{Point, Vector};
 
 /// The three sides of a triangle.
@@ -42,7 +43,7 @@ fn normal_of(sides: &Sides) -> Vector
     pq.cross(qr)
 }
 
-/// Returns the corners that are excluded before or by planes along one side and each of three others.
+/// Returns the corners that are excluded before or by planes along a side or an axis and each of three sides.
 fn excluded_along(
     side: Vector,
     sides: &Sides,
@@ -81,6 +82,30 @@ fn is_settled(excluded: Excluded, common: Excluded) -> bool
     are_covered(excluded.one, common.one) || are_covered(excluded.other, common.other)
 }
 
+/// Returns whether these excluded corners or planes along a side of each triangle show that two triangles are apart.
+fn is_gap_along_sides(
+    one: &Triangle,
+    other: &Triangle,
+    common: Excluded,
+    excluded: Excluded,
+) -> bool
+    requires { AreExcluded one.now other.now excluded }
+    ensures { OnTrue result (AreSettled one.now other.now common) }
+{
+    let Sides { pq, qr, rp } = sides_of(one);
+    let sides = sides_of(other);
+    let excluded = excluded_along(pq, &sides, one, other, excluded);
+    if is_settled(excluded, common) {
+        return true;
+    }
+    let excluded = excluded_along(qr, &sides, one, other, excluded);
+    if is_settled(excluded, common) {
+        return true;
+    }
+    let excluded = excluded_along(rp, &sides, one, other, excluded);
+    is_settled(excluded, common)
+}
+
 /// Returns whether planes show that two triangles with these common corners are apart.
 fn is_gap(one: &Triangle, other: &Triangle, common: Excluded) -> bool
     ensures { OnTrue result (AreSettled one.now other.now common) }
@@ -94,28 +119,28 @@ fn is_gap(one: &Triangle, other: &Triangle, common: Excluded) -> bool
         one: none,
         other: none,
     };
-    let Sides { pq, qr, rp } = sides_of(one);
-    let across = pq.cross(qr);
-    let excluded = excluded_by(across, one, other, excluded);
+    let own = sides_of(one);
+    let first = normal_of(&own);
+    let excluded = excluded_by(first, one, other, excluded);
     if is_settled(excluded, common) {
         return true;
     }
     let sides = sides_of(other);
-    let across = normal_of(&sides);
-    let excluded = excluded_by(across, one, other, excluded);
+    let second = normal_of(&sides);
+    let excluded = excluded_by(second, one, other, excluded);
     if is_settled(excluded, common) {
         return true;
     }
-    let excluded = excluded_along(pq, &sides, one, other, excluded);
+    if !are_in_one_plane(one, other, first) {
+        return is_gap_along_sides(one, other, common, excluded);
+    }
+    let axis = axis_off(first, second);
+    let excluded = excluded_along(axis, &own, one, other, excluded);
     if is_settled(excluded, common) {
         return true;
     }
-    let excluded = excluded_along(qr, &sides, one, other, excluded);
-    if is_settled(excluded, common) {
-        return true;
-    }
-    let excluded = excluded_along(rp, &sides, one, other, excluded);
-    is_settled(excluded, common)
+    let excluded = excluded_along(axis, &sides, one, other, excluded);
+    is_gap_along_sides(one, other, common, excluded)
 }
 
 /// Returns whether a face has a vertex.
@@ -154,7 +179,7 @@ fn triangle_of(points: &[Point], face: [u32; 3]) -> Triangle
 /// Returns whether planes show that each point that two faces contain is one of their common corners or on the edge between them.
 ///
 /// `true` is exact. That `true` is returned for each such pair is not promised: eleven planes are tried, those of the two faces and
-/// those parallel to an edge of each.
+/// those parallel to an edge of each, and six more for faces in one plane, each parallel to an edge and an axis.
 pub fn are_apart(points: &[Point], one: [u32; 3], other: [u32; 3]) -> bool
     requires one_in { All (λ v. v < length points.now) one }
     requires other_in { All (λ v. v < length points.now) other }
