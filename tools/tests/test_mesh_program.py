@@ -157,6 +157,11 @@ class MeshProgram(InFolder):
             equal(len(crossing_pairs(places, after)) <= len(crossing_pairs(places, before)), True)
             equal(total_angle(places, after) < 0.9 * total_angle(places, before), True)
 
+    def test_dents_in_the_edges_of_a_box_with_flat_sides(self) -> None:
+        points, faces = dented_box(4)
+        kept, new = self.finish(points, faces)
+        equal((kept, six_volume(points, faces) < 6 * 64, six_volume(kept, new)), (points, True, 6 * 64))
+
     def test_smoothing_lowers_the_angles(self) -> None:
         for size, roughness, within, fine in ((3000, 0.1, 300, 1024), (1000000, 0.1, 100000, 2), (4000000, 0.1, 400000, 1), (300, 0.3, 30, 1024)):
             places, faces = ball(6, size, roughness)
@@ -234,6 +239,36 @@ def cube(x: int, y: int, z: int) -> Solid:
     return places, [face for a, b, c, d in quads for face in ((a, b, c), (a, c, d))]
 
 
+def dented_box(size: int) -> Solid:
+    """A cube of this side, its sides cut into unit squares. One step of each edge is flipped, from corner to corner of the two sides."""
+    points: list[Place] = []
+    faces: list[tuple[int, ...]] = []
+    grid = [(i, j) for i in range(size) for j in range(size)]
+    for axis in range(3):
+        for top in (0, size):
+            for i, j in grid:
+                square = [(i, j, top), (i + 1, j, top), (i + 1, j + 1, top), (i, j + 1, top)]
+                corners = [(p[-axis % 3], p[(1 - axis) % 3], p[(2 - axis) % 3]) for p in (square if top else square[::-1])]
+                points += [place for place in corners if place not in points]
+                a, b, c, d = map(points.index, corners)
+                faces += [(a, b, c), (a, c, d)]
+    for axis in range(3):
+        for k in range(4):
+            ends = [[size * (k & 1), size * (k >> 1)] for _ in range(2)]
+            for step, end in enumerate(ends):
+                end.insert(axis, 1 + step)
+            a, b = [points.index((x, y, z)) for x, y, z in ends]
+            (one, c), (other, d) = [(i, w) for i, face in enumerate(faces) for u, v, w in turns(face) if {u, v} == {a, b}]
+            a, b = [(u, v) for u, v, w in turns(faces[one]) if w == c][0]
+            faces[one], faces[other] = (a, d, c), (d, b, c)
+    return points, faces
+
+
+def turns(face: Sequence[int]) -> list[tuple[int, ...]]:
+    """The face, written from each of its corners on."""
+    return [(*face[k:], *face[:k]) for k in range(3)]
+
+
 def rough_ball() -> Solid:
     """A ball of 48 faces and 26 points."""
     places, faces = ball(2, 300)
@@ -266,8 +301,13 @@ def inspected(points: Sequence[Any], faces: Sequence[Any]) -> str:
         closed = f'closed no edge {a} {b} there {count[a, b]} back {count[b, a]}'
     corners = [[points[v] for v in face] for face in faces]
     flat_faces = sum(not any(product(difference(a, b), difference(a, c))) for a, b, c in corners)
-    volume = sum(sum(x * y for x, y in zip(a, product(b, c))) for a, b, c in corners)
+    volume = six_volume(points, faces)
     return f'inspected points {len(points)} faces {len(faces)} {closed} {topology(faces)} flat_faces {flat_faces} volume {volume}/6\n'
+
+
+def six_volume(points: Sequence[Any], faces: Sequence[Any]) -> int:
+    """Six times the signed volume."""
+    return sum(x * y for a, b, c in faces for x, y in zip(points[a], product(points[b], points[c])))
 
 
 def topology(faces: Sequence[Any]) -> str:
