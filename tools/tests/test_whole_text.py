@@ -1,4 +1,4 @@
-"""Whole numbers of a text, beside Python's own reading of its words."""
+"""Whole numbers of a text, compared with what Python itself reads."""
 from __future__ import annotations
 
 import random

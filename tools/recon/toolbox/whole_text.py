@@ -45,7 +45,7 @@ def whole_numbers(data: bytes, begin: int = 0, blanks: bytes = b' \n') -> np.nda
 
 
 def numbers_before(data: bytes, letters: np.ndarray, ends: np.ndarray, sizes: np.ndarray) -> np.ndarray | None:
-    """The numbers of words of these sizes before these places, which are at least eight bytes behind the first; None if a word is none."""
+    """The numbers whose digits end at these positions, the first at least eight bytes after the start; None if one is no number."""
     is_minus = None
     if (letters[ends[0] - sizes[0]:ends[-1]] == MINUS).any():
         is_minus = letters[ends - sizes] == MINUS
