@@ -100,7 +100,8 @@ class Programs:
         if name == 'recon' and not self.recon:
             runs = OF_MODEL + (OF_REFERENCE if self.reference else ())
             return '' if ' '.join(words[1:]).startswith(runs) else 'recon'
-        if not (self.recon or self.reference) and (name in ('recon-surface', 'make', 'xargs') or words[:2] == ['recon-tiles', 'join']):
+        builds = name in ('recon-surface', 'make', 'xargs') or words[:2] == ['recon-tiles', 'join']
+        if builds and not self.recon and ('--sweep' in words or not self.reference):
             return 'recon'
         return 'recon-mesh' if not self.mesh and name in ('recon-mesh', 'recon-finish', 'recon-surface') else ''
 
