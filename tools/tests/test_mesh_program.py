@@ -222,6 +222,7 @@ class MeshProgram(InFolder):
                 split, new = self.finish(points, faces, *options)
                 equal((len(split), set(edges_of(new).values())), (16, {1}))
                 equal(edges_of(new), Counter((b, a) for a, b in edges_of(new).elements()))
+                equal(topology(new), 'nonmanifold_edges 0 nonmanifold_vertices 0 pieces 2')
 
     def finish(self, points: list[Place], faces: Sequence[Any], *options: str) -> Solid:
         """The points and faces that `finish` writes of this mesh."""

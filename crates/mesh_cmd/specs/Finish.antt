@@ -20,7 +20,7 @@ use Rattle.mesh_finish.specs.Steps.{AreFinished}
 use Rattle.mesh_finish.specs.declared.options.FinishOptions.{FinishOptions}
 use Rattle.mesh_finish.specs.declared.options.SmoothOptions.{SmoothOptions}
 use Rattle.mesh_finish.specs.declared.options.Step.{Step}
-use Rattle.mesh_finish.specs.declared.options.Step.TheVariants.{Pairing, Pieces, Splitting}
+use Rattle.mesh_finish.specs.declared.options.Step.TheVariants.{Pairing, Pieces, Splitting, Umbrellas}
 use Rattle.command_run.specs.Answers.{Answer, Task, mesh_task, invalid}
 use Rattle.command_run.specs.Lines.{labelled, text_line}
 use Rattle.command_run.specs.Words.{Names}
@@ -63,6 +63,7 @@ abbrev pub unverified_line : Step → List ℕ
 unverified_line Pairing = text_line (codes "refused 31 unverified pairing")
 unverified_line Pieces = text_line (codes "refused 31 unverified pieces")
 unverified_line Splitting = text_line (codes "refused 31 unverified splitting")
+unverified_line Umbrellas = text_line (codes "refused 31 unverified umbrellas")
 
 -- The text of a mesh after what the options ask for is written. Its numbers of points and faces are said, and after smoothing its scale.
 pub record WritesFinished (output : List ℕ) (options : FinishOptions) (mesh : Surface) (answer : Answer) : Type 0 where

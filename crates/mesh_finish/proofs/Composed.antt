@@ -1,12 +1,12 @@
 -- The steps, one after another.
-use Rattle.std.proofs.Common.{ℕ, ◌≡◌, ◌∙◌, Bool, false, Option, None, Some, sym, subst, List, length}
+use Rattle.std.proofs.Common.{ℕ, ◌≡◌, ◌∙◌, Bool, true, false, Option, None, Some, sym, subst, List, length}
 use Rattle.std.specs.List.{All}
 use Rattle.geo_sign.specs.Point.{Point}
 use Rattle.mesh_edges.specs.Edges.{IsBalanced}
 use Rattle.mesh_flips.specs.Turns.{IsTriangle}
 use Rattle.mesh_split.specs.Splits.{AreSingle}
 use Rattle.mesh_split.proofs.Keys.{two_faces}
-use Rattle.mesh_finish.specs.Steps.{ArePiecesIf, IsSplitIf, AreFlippedIf, IsSmoothedIf, AreFinished}
+use Rattle.mesh_finish.specs.Steps.{ArePiecesIf, IsSplitIf, AreFlippedIf, IsSmoothedIf, AreUmbrellas, AreFinished}
 use Rattle.mesh_finish.specs.declared.options.FinishOptions.{FinishOptions}
 use Rattle.mesh_finish.specs.declared.options.SmoothOptions.{SmoothOptions}
 use Rattle.mesh_finish.proofs.Rewritten.{smoothed_balanced, smoothed_single}
@@ -30,8 +30,8 @@ module _ (options : FinishOptions) (points : List Point) (faces : List (List ℕ
   pub composed : ArePiecesIf options.pieces points faces kp kf → IsSplitIf options.manifold kp kf sp sf → fp ≡ sp
       → AreFlippedIf options.flips sp sf ff → IsSmoothedIf options.smoothing fp ff np nf fine → (options.flips ≡ false → nf ≡ ff)
       → All (IsTriangle (length fp)) ff → IsBalanced faces → IsBalanced ff → (AreSingle sf → AreSingle ff)
-      → AreFinished options points faces np nf fine
-  composed pieces split same flips smooth still each was closed single =
+      → (options.manifold ≡ true → AreUmbrellas (length np) nf) → AreFinished options points faces np nf fine
+  composed pieces split same flips smooth still each was closed single around =
       record {
         kept_points = kp;
         kept_faces = kf;
@@ -49,6 +49,7 @@ module _ (options : FinishOptions) (points : List Point) (faces : List (List ℕ
             two_faces nf
             (single_if options.smoothing fp ff np nf fine each smooth
             (single (subst (λ (b : Bool). IsSplitIf b kp kf sp sf) on split).once)) now;
+        umbrellas = around;
       }
     where
       now : IsBalanced nf

@@ -4,13 +4,15 @@
 --   IsSplitIf manifold points faces ..      vertices are split, or all is as it was
 --   AreFlippedIf flips points old new       edges are flipped, or the faces are as they were
 --   IsSmoothedIf smoothing points faces ..  points are moved, or all is as it was
+--   AreUmbrellas count faces                around no vertex are the faces other than one cycle
 --   AreFinished options points faces ..     what the options ask for, step after step
 --   ExplainsFinish faces error                    what an error says of the faces
-use Rattle.std.specs.Prelude.{ℕ, ◌≡◌, Bool, true, false, Option, None, Some, List, ⊤}
+use Rattle.std.specs.Prelude.{ℕ, ◌≡◌, ◌<◌, length, Bool, true, false, Option, None, Some, List, ⊤}
 use Rattle.geo_sign.specs.Point.{Point}
 use Rattle.mesh_edges.specs.Edges.{IsBalanced, IsFirstUnbalanced}
 use Rattle.mesh_pieces.specs.Pieces.{ArePieces}
 use Rattle.mesh_split.specs.Splits.{IsSplit, HasTwoFaces}
+use Rattle.mesh_measures.specs.Manifolds.{IsManifoldVertex}
 use Rattle.mesh_finish.specs.Finished.{IsFinished, AreSmoothed}
 use Rattle.mesh_finish.specs.declared.options.FinishError.{FinishError}
 use Rattle.mesh_finish.specs.declared.options.FinishError.TheVariants.{NotClosed, Unverified, NoMemory}
@@ -37,9 +39,14 @@ abbrev pub IsSmoothedIf : Option SmoothOptions → List Point → List (List ℕ
 IsSmoothedIf None points faces new_points new_faces fine = (new_points ≡ points) × (new_faces ≡ faces) × (fine ≡ 1)
 IsSmoothedIf (Some s) points faces new_points new_faces fine = AreSmoothed points faces new_points new_faces fine s.within
 
+-- no vertex is one around which the faces are not one cycle
+abbrev pub AreUmbrellas : (count : ℕ) → List (List ℕ) → Type 0
+AreUmbrellas count faces = (v : ℕ) → v < count → (IsManifoldVertex faces v → ⊥) → ⊥
+
 -- Pieces are kept, then vertices are split, then edges are flipped, then points move, each if the options ask for it. One unit of the
--- mesh is `fine` units of the new one. The mesh was closed and is, and after a split each edge has two faces. Without flips the faces
--- are those after the split. Flips and moves keep apart what is apart in the mesh before them.
+-- mesh is `fine` units of the new one. The mesh was closed and is, and after a split each edge has two faces and the faces around each
+-- vertex are one cycle. Without flips the faces are those after the split. Flips and moves keep apart what is apart in the mesh before
+-- them.
 pub record AreFinished (options : FinishOptions) (points : List Point) (faces : List (List ℕ)) (new_points : List Point)
     (new_faces : List (List ℕ)) (fine : ℕ) : Type 0 where
   pub kept_points : List Point
@@ -55,6 +62,7 @@ pub record AreFinished (options : FinishOptions) (points : List Point) (faces : 
   pub was_closed : IsBalanced faces
   pub closed : IsBalanced new_faces
   pub two : options.manifold ≡ true → HasTwoFaces new_faces
+  pub umbrellas : options.manifold ≡ true → AreUmbrellas (length new_points) new_faces
 
 -- the first edge that is not balanced; the other errors say nothing of the faces
 abbrev pub ExplainsFinish : List (List ℕ) → FinishError → Type 0

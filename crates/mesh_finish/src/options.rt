@@ -11,7 +11,7 @@ use mesh_edges::UnbalancedEdge;
 pub struct FinishOptions {
     /// How many of the largest pieces are kept at most (default: all).
     pub pieces: Option<u32>,
-    /// Vertices are split, so that each edge has two faces (default: false).
+    /// Vertices are split, so that each edge has two faces and the faces around each vertex are one cycle (default: false).
     pub manifold: bool,
     /// Edges are flipped where the angles between faces fall (default: true).
     pub flips: bool,
@@ -38,6 +38,8 @@ pub enum Step {
     Pieces,
     /// Vertices are split.
     Splitting,
+    /// The faces around each vertex are one cycle.
+    Umbrellas,
 }
 
 /// Why a mesh is not finished.
@@ -45,8 +47,8 @@ pub enum Step {
 pub enum FinishError {
     /// The mesh is not closed: this is its smallest edge that occurs another number of times than its reverse.
     NotClosed(UnbalancedEdge),
-    /// What the search of this step found did not pass its verification. For pairs and pieces this was never seen; vertices cannot be
-    /// split where the same two umbrellas meet in an edge more than once.
+    /// What the search of this step found did not pass its verification. For pairs, pieces and umbrellas this was never seen; vertices
+    /// cannot be split where the same two umbrellas meet in an edge more than once.
     Unverified(Step),
     /// Out of memory.
     NoMemory,

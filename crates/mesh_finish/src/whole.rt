@@ -15,6 +15,7 @@ use crate::order::in_order;
 use crate::smoothed::{FinishedMesh, smoothed};
 use crate::steps::{kept, paired, split};
 use crate::turned::turned_faces;
+use crate::umbrellas::test_umbrellas;
 use geo_sign::Point;
 use half_edges::find_twins;
 use mesh_flips::flip_edges;
@@ -74,7 +75,7 @@ fn flipped(alloc: Global, mesh: Mesh, flips: bool) -> Result<Mesh, NoMemory>
 /// Returns the mesh after what the options ask for, and its scale.
 ///
 /// Half edges are paired first, so a mesh that is not closed is an error in any case. Then pieces are kept, vertices split, edges
-/// flipped and points moved.
+/// flipped and points moved. If vertices were split, the faces around each vertex of the result are tested to be one cycle.
 pub fn finish_mesh(
     alloc: Global,
     mesh: Mesh,
@@ -91,5 +92,6 @@ pub fn finish_mesh(
     let split = split(alloc, kept, options.manifold)?;
     let flipped = flipped(alloc, split.mesh, options.flips)?;
     let new = smoothed(alloc, flipped, options)?;
+    test_umbrellas(alloc, &new.mesh, options.manifold)?;
     Ok(new)
 }

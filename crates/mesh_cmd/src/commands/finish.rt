@@ -187,5 +187,6 @@ fn line_of_unverified(alloc: Global, step: Step) -> Result<Vec<u8>, NoMemory>
         Step::Pairing => line_of_text(alloc, b"refused 31 unverified pairing"),
         Step::Pieces => line_of_text(alloc, b"refused 31 unverified pieces"),
         Step::Splitting => line_of_text(alloc, b"refused 31 unverified splitting"),
+        Step::Umbrellas => line_of_text(alloc, b"refused 31 unverified umbrellas"),
     }
 }

@@ -24,7 +24,7 @@ returns-clause-finished c =
     (flipped.ensures.closed
     (paired_closed (length split.split.mesh.points.items) split.split.mesh.faces.items split.split.twins.items
     split.ensures.valid.each split.ensures.paired))
-    flipped.ensures.single
+    flipped.ensures.single c.in_ok-test_umbrellas.ensures.umbrellas
 
 pub returns-clause-boxed : goal.returns-clause-boxed
 returns-clause-boxed c = λ boxed.
@@ -37,3 +37,6 @@ returns-in_err-kept-clause-why c = search (rules, c.in_err-kept.ensures.why c.ar
 
 pub returns-in_err-split-clause-why : goal.returns-in_err-split-clause-why
 returns-in_err-split-clause-why c = search (rules, c.in_err-split.ensures.why c.args.mesh.faces.items)
+
+pub returns-in_err-test_umbrellas-clause-why : goal.returns-in_err-test_umbrellas-clause-why
+returns-in_err-test_umbrellas-clause-why c = search (rules, c.in_err-test_umbrellas.ensures.why c.args.mesh.faces.items)
