@@ -12,3 +12,4 @@ pub mod Scenes
 pub mod Stored
 pub mod CountLists
 pub mod CellCuts
+pub mod LongSights

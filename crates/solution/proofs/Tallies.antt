@@ -77,7 +77,7 @@ facet_adds s scanners cells sight line is id k =
     ap₂ (λ (p : ℕ) (q : Point). cond (is_crossed_at s p (displaced q) id k) line.added 0) is.vertex is.scanner
     ∙ ap (λ (amount : ℕ). cond (crosses s scanners id k sight) amount 0) is.added
 
-cell_adds : (s : Store) (scanners : List Point) (cells : List ℕ) (sight : Sight) (line : Line)
+pub cell_adds : (s : Store) (scanners : List Point) (cells : List ℕ) (sight : Sight) (line : Line)
     → IsLineOf scanners cells sight line → (id : ℕ)
     → added_behind s line id ≡ cond (is_before s scanners id sight) (added_by sight) 0
 cell_adds s scanners cells sight line is id =

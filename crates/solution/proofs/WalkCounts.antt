@@ -173,6 +173,13 @@ shorter amount from to xs ys step =
     plus : length (side to.at to.entered ∷ to.to_come) ≡ length to.to_come + 1
     plus = omega arith
 
+-- so has a walk that is not counted
+pub go_shorter : (from to : Walk) → IsGoneOn from to → length to.to_come < length from.to_come
+go_shorter from to on = let e : length from.to_come ≡ length to.to_come + 1 = ap length on.first ∙ plus in omega (arith, e)
+  where
+    plus : length (side to.at to.entered ∷ to.to_come) ≡ length to.to_come + 1
+    plus = omega arith
+
 -- a counter that a walk raises has room where each total has
 pub has_room : (s : Store) (amount : ℕ) (now : Walk) (beside total : (id k : ℕ) → ℕ) (xs : List ℕ)
     → IsCounting s amount now beside total xs

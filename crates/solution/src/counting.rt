@@ -1,6 +1,6 @@
 //! The visibility weights of a scene's sights at linked cells and their sides.
 
-ghost use Rattle.std.specs.Prelude.{◌≡◌, ◌<◌, ◌^◌, IfOk, All, length};
+ghost use Rattle.std.specs.Prelude.{◌≡◌, ◌<◌, ◌≤◌, ◌^◌, IfOk, All, length};
 ghost use Rattle.geo_sign.specs.declared.point.TheConstants.{DATA_LIMIT};
 ghost use Rattle.geo_sign.specs.Point.{IsWithin};
 ghost use Rattle.flow_net.specs.Weights.{IsSightList};
@@ -12,13 +12,15 @@ ghost use Rattle.cell_net.specs.Counts.{AreCountsOf};
 ghost use Rattle.solution.specs.Counts.{HasCellsOf, IsInRange, AreScannerCells, AreCounted};
 
 use crate::NoMemory;
+use crate::beaming::count_together;
+use crate::choosing::{number_alone, together};
 use crate::fixing::{fixed_cells, scanner_cells};
 use crate::ordering::ordered;
 use crate::tally::{Counts, count_sights};
 use cell_net::StoreCounts;
 use flow_net::Sight;
 use geo_sign::Point;
-use host::Watch;
+use host::{Stage, Watch};
 use std::alloc::{AllocError, Global};
 use tetra_store::{CellId, Tetra};
 use visibility::Scene;
@@ -50,6 +52,39 @@ impl Votes {
     }
 }
 
+/// Returns the counts of sights: those before an index by a walk along each, and the others those of a scanner together.
+fn count_in_order<W: Watch>(
+    alloc: Global,
+    t: &Tetra,
+    scanners: &[Point],
+    cells: &[CellId],
+    sights: &[Sight],
+    place: usize,
+    watch: &mut W,
+) -> Result<Counts, NoMemory>
+    requires delaunay { IsDelaunay (vertices_of t.now) (links_of t.now.slots) }
+    requires sights { All (IsInRange (vertices_of t.now) scanners.now) sights.now }
+    requires few { IsSightList sights.now }
+    requires data_points { All (IsWithin DATA_LIMIT) scanners.now }
+    requires cells { AreScannerCells t.now scanners.now cells.now }
+    requires place { place ≤ length sights.now }
+    ensures { IfOk result (λ counts. AreCounted t.now scanners.now sights.now counts.crossed.items counts.behind.items) }
+{
+    let mut counts = count_sights(alloc, t, scanners, cells, &sights[..place], watch)?;
+    count_together(
+        alloc,
+        t,
+        scanners,
+        cells,
+        &sights[place..],
+        sights.len(),
+        &mut counts.crossed,
+        &mut counts.behind,
+        watch,
+    )?;
+    Ok(counts)
+}
+
 /// Returns the counts of the sights, which are traversed in another order. That order is freed before it returns.
 fn counts_of<W: Watch>(
     alloc: Global,
@@ -66,12 +101,22 @@ fn counts_of<W: Watch>(
     requires cells { AreScannerCells t.now scanners.now cells.now }
     ensures { IfOk result (λ counts. AreCounted t.now scanners.now sights.now counts.crossed.items counts.behind.items) }
 {
-    let walked = ordered(alloc, t, scanners, cells, sights)?;
-    count_sights(alloc, t, scanners, cells, &walked, watch)
+    watch.stage(Stage::Sights, sights.len() as u64);
+    let flags = together(alloc, t, scanners, cells, sights)?;
+    let order = ordered(alloc, t, scanners, cells, sights, &flags)?;
+    count_in_order(
+        alloc,
+        t,
+        scanners,
+        cells,
+        &order,
+        number_alone(&flags, &order),
+        watch,
+    )
 }
 
-/// Returns a scene's accumulated visibility weights and the cells fixed outside, by a walk along each sight. Reports the stage
-/// and the number of counted sights to a progress callback.
+/// Returns a scene's accumulated visibility weights and the cells fixed outside, by a walk along each sight, or for all sights
+/// of a scanner together if they are long. Reports the stage and the number of counted sights to a progress callback.
 ///
 /// All points have to be inserted, and the cells Delaunay, as `delaunay::build` leaves them. Equal sights count as often as
 /// they occur, each by its weight, and a scanner that sees nothing fixes its cell as well. The only error is out of memory,

@@ -9,17 +9,20 @@
 //! points with the accumulated visibility weights, and `cutting` solves over the implicit network: by the numbers of cells the
 //! minimum cut with the smallest inside, and a flow whose value is its cost.
 //!
-//! `counting` walks along each sight once, from its point to its scanner, and adds its weight to each directed facet that it
-//! crosses and to the cell behind its point, by the numbers of cells in the store (`counted`). Run time is proportional to the
-//! number of crossings. `fixing` finds the cells of the scanners and the cells fixed outside, `ordering` sorts the sights so that
-//! successive ones cross much the same cells, and `tally` counts along them, two at a time.
+//! `counting` adds the weight of each sight to each directed facet that it crosses and to the cell behind its point, by the
+//! numbers of cells in the store (`counted`). `fixing` finds the cells of the scanners and the cells fixed outside. Along most
+//! sights `tally` walks, from the point to the scanner, two at a time; `ordering` sorts them so that successive ones cross much
+//! the same cells. Run time is proportional to the number of crossings. Where a scanner's sights are so long that many pass the
+//! same cells, which `choosing` estimates, `beaming` follows them together, by the crate `beam`.
 //!
 //! The crate depends on `scan` and `merge` (the content of a scan, each point once), `visibility` and `flow_net` (cost and
-//! flows), `mesh_ply` and `cert_text` (meshes and certificates), `delaunay` (cells), `tetra_walk` and `sight` (walks), `cell_net`
-//! (the network), `max_flow` (flow and labels), and the theorems of `cell_laws`.
+//! flows), `mesh_ply` and `cert_text` (meshes and certificates), `delaunay` (cells), `tetra_walk`, `sight` and `beam` (walks),
+//! `cell_net` (the network), `max_flow` (flow and labels), and the theorems of `cell_laws`.
 #![tactic(auto)]
 
+mod beaming;
 mod cells;
+mod choosing;
 mod counting;
 mod cutting;
 mod fixing;

@@ -1,7 +1,7 @@
 //! Sorts sights so that successive ones cross much the same cells: from near vertices to near scanners. Near cells mostly have
 //! near numbers, so a sight is a point in the plane whose coordinates are the number of its scanner's cell and that of a cell
 //! at its vertex, and the order is that of the curve of Morton (1966) in this plane: for any cache size, most sights stay for a
-//! while in a set of cells that fits.
+//! while in a set of cells that fits. Those that are counted together come last, by their scanners.
 
 ghost use Rattle.std.specs.Prelude.{◌≡◌, IfOk, All, length, map};
 ghost use Rattle.std.specs.List.Sorted.{IsPermutation};
@@ -10,6 +10,7 @@ ghost use Rattle.solution.specs.Counts.{IsInRange};
 ghost use Rattle.solution.specs.Ordering.{the_sight};
 
 use crate::NoMemory;
+use crate::choosing::is_together;
 use flow_net::Sight;
 use geo_sign::Point;
 use std::alloc::Global;
@@ -32,8 +33,15 @@ fn spread(number: u64) -> u64 {
     (bits | bits << 1) & 0x5555_5555_5555_5555
 }
 
-/// Returns a sight with its key: the interleaved bits of the numbers of its scanner's cell and of a cell at its vertex.
-fn with_key(t: &Tetra, scanners: &[Point], cells: &[CellId], sight: Sight) -> Keyed
+/// Returns a sight with its key: if it is walked along, the interleaved bits of the numbers of its scanner's cell and of a cell
+/// at its vertex, without the lowest; else, after all of these, its scanner and the cell.
+fn with_key(
+    t: &Tetra,
+    scanners: &[Point],
+    cells: &[CellId],
+    sight: Sight,
+    together: &[bool],
+) -> Keyed
     requires sight { IsInRange (vertices_of t.now) scanners.now sight }
     requires cells { length cells.now ≡ length scanners.now }
     ensures { the_sight result ≡ sight }
@@ -41,10 +49,12 @@ fn with_key(t: &Tetra, scanners: &[Point], cells: &[CellId], sight: Sight) -> Ke
     let _scanners = scanners;
     let scanner_cell = cells[sight.scanner as usize].number() as u64;
     let vertex_cell = t.cell_at(sight.vertex).number() as u64;
-    Keyed {
-        key: spread(scanner_cell) << 1 | spread(vertex_cell),
-        sight,
-    }
+    let key = if is_together(together, sight) {
+        1 << 63 | (sight.scanner as u64) << 31 | vertex_cell >> 1
+    } else {
+        spread(scanner_cell) | spread(vertex_cell) >> 1
+    };
+    Keyed { key, sight }
 }
 
 /// Returns the sights with their keys.
@@ -54,6 +64,7 @@ fn with_keys(
     scanners: &[Point],
     cells: &[CellId],
     sights: &[Sight],
+    together: &[bool],
 ) -> Result<Vec<Keyed>, NoMemory>
     requires sights { All (IsInRange (vertices_of t.now) scanners.now) sights.now }
     requires cells { length cells.now ≡ length scanners.now }
@@ -61,7 +72,7 @@ fn with_keys(
 {
     let mut list = Vec::with_capacity(alloc, sights.len())?;
     for sight in sights {
-        list.push(with_key(t, scanners, cells, *sight))?;
+        list.push(with_key(t, scanners, cells, *sight, together))?;
     }
     Ok(list)
 }
@@ -80,12 +91,13 @@ fn sorted(
     scanners: &[Point],
     cells: &[CellId],
     sights: &[Sight],
+    together: &[bool],
 ) -> Result<Vec<Keyed>, NoMemory>
     requires sights { All (IsInRange (vertices_of t.now) scanners.now) sights.now }
     requires cells { length cells.now ≡ length scanners.now }
     ensures { IfOk result (λ list. IsPermutation sights.now (map the_sight list.items)) }
 {
-    let mut list = with_keys(alloc, t, scanners, cells, sights)?;
+    let mut list = with_keys(alloc, t, scanners, cells, sights, together)?;
     sort(&mut list);
     Ok(list)
 }
@@ -108,11 +120,12 @@ pub(crate) fn ordered(
     scanners: &[Point],
     cells: &[CellId],
     sights: &[Sight],
+    together: &[bool],
 ) -> Result<Vec<Sight>, NoMemory>
     requires sights { All (IsInRange (vertices_of t.now) scanners.now) sights.now }
     requires cells { length cells.now ≡ length scanners.now }
     ensures { IfOk result (λ ordered. IsPermutation sights.now ordered.items) }
 {
-    let list = sorted(alloc, t, scanners, cells, sights)?;
+    let list = sorted(alloc, t, scanners, cells, sights, together)?;
     without_keys(alloc, &list)
 }

@@ -1,11 +1,13 @@
 //! Accumulates weights along sights.
 
-ghost use Rattle.std.specs.Prelude.{◌≡◌, ◌<◌, ◌≤◌, ◌+◌, ◌*◌, ◌^◌, ℕ, [], All, IfOk, IsTrue, IsFalse, length, slice_index};
+ghost use Rattle.std.specs.Prelude.{◌≡◌, ◌<◌, ◌≤◌, ◌+◌, ◌*◌, ◌^◌, ℕ, [], All, IfOk, true, IsTrue, IsFalse, length, slice_index};
 ghost use Rattle.geo_sign.specs.declared.point.TheConstants.{DATA_LIMIT};
 ghost use Rattle.geo_sign.specs.Point.{IsWithin};
+ghost use Rattle.geo_sign.specs.Rational.{displaced};
+ghost use Rattle.geo_sign.specs.Sights.{is_behind};
 ghost use Rattle.flow_net.specs.Weights.{IsSightList};
 ghost use Rattle.tetra_store.specs.Delaunay.{IsDelaunay};
-ghost use Rattle.tetra_store.specs.Links.{links_of};
+ghost use Rattle.tetra_store.specs.Links.{links_of, IsLive};
 ghost use Rattle.tetra_store.specs.Store.{vertices_of};
 ghost use Rattle.solution.specs.Counts.{IsInRange, added_by as added_by_sight, AreScannerCells, AreCounted};
 ghost use Rattle.solution.specs.Lines.{IsLineOf, IsLineIn, added_on, added_behind, HasCounterRoom, IsCountedStep};
@@ -13,7 +15,7 @@ ghost use Rattle.solution.specs.Lines.{IsLineOf, IsLineIn, added_on, added_behin
 use crate::NoMemory;
 use flow_net::Sight;
 use geo_sign::Point;
-use host::{Stage, Watch, tell};
+use host::{Watch, tell};
 use sight::{SightWalk, walk_into};
 use std::alloc::{AllocError, Global};
 use tetra_store::{CellId, MOST_CELLS, Tetra};
@@ -36,15 +38,15 @@ fn added_by(sight: Sight) -> u32
 
 /// A sight to be traversed, from its vertex to its scanner in the cell `end`, with the weight that it adds.
 #[derive(Clone, Copy)]
-struct Line {
-    vertex: u32,
-    scanner: Point,
-    end: CellId,
-    added: u32,
+pub(crate) struct Line {
+    pub(crate) vertex: u32,
+    pub(crate) scanner: Point,
+    pub(crate) end: CellId,
+    pub(crate) added: u32,
 }
 
 /// Returns the line of a sight.
-fn line_of(scanners: &[Point], cells: &[CellId], sight: Sight) -> Line
+pub(crate) fn line_of(scanners: &[Point], cells: &[CellId], sight: Sight) -> Line
     requires scanner { sight.scanner < length scanners.now }
     requires cell { sight.scanner < length cells.now }
     ensures { IsLineOf scanners.now cells.now sight result }
@@ -117,11 +119,11 @@ fn count_crossed_by_two(t: &Tetra, one: &Line, other: &Line, crossed: &mut [u32]
 }
 
 /// Adds the weight of a line to the cell behind it.
-fn count_behind(t: &Tetra, line: &Line, before: &mut [u32])
+pub(crate) fn count_behind(t: &Tetra, line: &Line, before: &mut [u32])
     requires delaunay { IsDelaunay (vertices_of t.now) (links_of t.now.slots) }
     requires line { IsLineIn t.now line.now }
     requires fits { length t.now.slots ≤ length before.old }
-    requires room { (id : ℕ) → slice_index before.old id + line.now.added < 2 ^ 32 }
+    requires room { (id : ℕ) → IsLive (links_of t.now.slots) id → is_behind (vertices_of t.now) line.now.vertex (displaced line.now.scanner) ((links_of t.now.slots).at id) ≡ true → slice_index before.old id + line.now.added < 2 ^ 32 }
     ensures count { length before.new ≡ length before.old }
     ensures added { (id : ℕ) → slice_index before.new id ≡ slice_index before.old id + added_behind t.now line.now id }
 {
@@ -150,7 +152,7 @@ fn count_two(t: &Tetra, one: &Line, other: &Line, crossed: &mut [u32], before: &
 
 /// Adds up for each directed facet the weights of the sights that cross it, and for each cell those of the sights that it is
 /// behind, given the cells of the scanners. Allocates memory for the counters alone, four of 32 bits for each number of a cell
-/// and one more. Reports the stage and the number of counted sights to a progress callback.
+/// and one more. Reports the number of counted sights to a progress callback.
 pub(crate) fn count_sights<W: Watch>(
     alloc: Global,
     t: &Tetra,
@@ -172,7 +174,6 @@ pub(crate) fn count_sights<W: Watch>(
     }
     let mut crossed = vec![in alloc; 0; 4 * limit]?;
     let mut behind = vec![in alloc; 0; limit]?;
-    watch.stage(Stage::Sights, sights.len() as u64);
     let mut k = 0;
     while k + 1 < sights.len() {
         tell(watch, k);

@@ -10,22 +10,22 @@ use Rattle.solution.specs.Counts.{IsInRange, AreCounted}
 use Rattle.solution.proofs.Scenes.{counted_anyhow}
 use Rattle.solution.proofs.counting.counts_of.Goals as goal
 
-pub count_sights-requires-clause-sights : goal.count_sights-requires-clause-sights
-count_sights-requires-clause-sights g c =
-    let walked : IsPermutation c.args.sights.now c.deref.result.now =
-    subst (λ (z : List Sight). IsPermutation c.args.sights.now z) (sym c.deref.ensures.value) c.in_ok-walked.ensures in
-    All-permutation (IsInRange (vertices_of c.args.t.now) c.args.scanners.now) c.args.sights.now c.deref.result.now walked
+pub count_in_order-requires-clause-sights : goal.count_in_order-requires-clause-sights
+count_in_order-requires-clause-sights g c =
+    let walked : IsPermutation c.args.sights.now c.deref-2.result.now =
+    subst (λ (z : List Sight). IsPermutation c.args.sights.now z) (sym c.deref-2.ensures.value) c.in_ok-order.ensures in
+    All-permutation (IsInRange (vertices_of c.args.t.now) c.args.scanners.now) c.args.sights.now c.deref-2.result.now walked
     c.requires.sights
 
-pub count_sights-requires-clause-few : goal.count_sights-requires-clause-few
-count_sights-requires-clause-few g c =
-    let walked : IsPermutation c.args.sights.now c.deref.result.now =
-    subst (λ (z : List Sight). IsPermutation c.args.sights.now z) (sym c.deref.ensures.value) c.in_ok-walked.ensures in
-    let n : length c.deref.result.now ≡ length c.args.sights.now =
-    length_permutation c.args.sights.now c.deref.result.now walked in
+pub count_in_order-requires-clause-few : goal.count_in_order-requires-clause-few
+count_in_order-requires-clause-few g c =
+    let walked : IsPermutation c.args.sights.now c.deref-2.result.now =
+    subst (λ (z : List Sight). IsPermutation c.args.sights.now z) (sym c.deref-2.ensures.value) c.in_ok-order.ensures in
+    let n : length c.deref-2.result.now ≡ length c.args.sights.now =
+    length_permutation c.args.sights.now c.deref-2.result.now walked in
     record {
       few = omega (arith, n, c.requires.few.few);
-      weighed = All-permutation IsWeighed c.args.sights.now c.deref.result.now walked c.requires.few.weighed;
+      weighed = All-permutation IsWeighed c.args.sights.now c.deref-2.result.now walked c.requires.few.weighed;
     }
 
 pub returns : goal.returns
@@ -33,9 +33,9 @@ returns g c =
     let s = c.args.t.now in
     let scanners = c.args.scanners.now in
     let sights = c.args.sights.now in
-    let order = c.deref.result.now in
+    let order = c.deref-2.result.now in
     let walked : IsPermutation sights order =
-    subst (λ (z : List Sight). IsPermutation sights z) (sym c.deref.ensures.value) c.in_ok-walked.ensures in
-    IfOk-weaker c.count_sights.result (λ (x : Counts). AreCounted s scanners order x.crossed.items x.behind.items)
+    subst (λ (z : List Sight). IsPermutation sights z) (sym c.deref-2.ensures.value) c.in_ok-order.ensures in
+    IfOk-weaker c.count_in_order.result (λ (x : Counts). AreCounted s scanners order x.crossed.items x.behind.items)
     (λ (x : Counts). AreCounted s scanners sights x.crossed.items x.behind.items)
-    (λ (x : Counts). counted_anyhow s scanners sights order x.crossed.items x.behind.items walked) c.count_sights.ensures
+    (λ (x : Counts). counted_anyhow s scanners sights order x.crossed.items x.behind.items walked) c.count_in_order.ensures

@@ -118,7 +118,7 @@ count_behind-requires-clause-fits g c =
     omega (arith, fits, same)
 
 pub count_behind-requires-clause-room : goal.count_behind-requires-clause-room
-count_behind-requires-clause-room g c id =
+count_behind-requires-clause-room g c id live at =
     let a = c.args in let l = c.loop-k in
     let last =
     line_weight a.scanners.now a.cells.now (sight_at a.sights.now l.k) c.line_of-last.result

@@ -1,0 +1,6 @@
+use Rattle.std.proofs.Common.{◌≡◌, take, map}
+use Rattle.solution.specs.LongSights.{ray_of}
+use Rattle.solution.proofs.beaming.rays_of.Given as goal
+
+abbrev pub invariant-loop-sight : goal.invariant-loop-sight
+invariant-loop-sight l = l.rays.items ≡ map (ray_of l.t) (take l.sight-index l.sights)
