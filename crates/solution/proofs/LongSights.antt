@@ -1,8 +1,8 @@
 -- What sights of one scanner add as they are followed together is what they add as sights (facets_of). Of a list, what its first
 -- sights and the others add makes what all add, so counters that the first ones raised have room for the others (split_facets,
 -- split_cells).
-use Rattle.std.proofs.Common.{ℕ, ◌≡◌, ◌<◌, ◌≤◌, ◌+◌, ◌*◌, ◌^◌, refl, sym, ap, subst, ◌∙◌, arith, Bool, true, ◌&&◌, cond, List, [], ◌∷◌}
-use Rattle.std.proofs.Common.{All, map, length, take, drop, get_or, slice_index}
+use Rattle.std.proofs.Common.{ℕ, ◌≡◌, ◌<◌, ◌≤◌, ◌+◌, refl, sym, ap, ◌∙◌, arith, Bool, true, ◌&&◌, cond, List, [], ◌∷◌}
+use Rattle.std.proofs.Common.{All, map, length, take, drop}
 use Rattle.std.specs.Prelude.{slice_index_or}
 use Rattle.std.specs.List.{sum_by}
 use Rattle.std.proofs.lemmas.List.Elements.{All-head, All-tail, All-map, All-weaker}
