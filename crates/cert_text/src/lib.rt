@@ -23,7 +23,7 @@ mod stamp_read;
 mod words;
 
 pub use certificate::{Certificate, FlowRow, NoMemory, SinkRow};
-pub use digits::digits_of;
+pub use digits::{digest_of, digits_of};
 pub use laws::certificate_texts_are_distinct;
 pub use print::push_cert;
 pub use read::read_cert;

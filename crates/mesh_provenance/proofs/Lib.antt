@@ -1,0 +1,4 @@
+pub mod OptionCodes
+pub mod OptionForms
+pub mod FileCodes
+pub mod FileRefused

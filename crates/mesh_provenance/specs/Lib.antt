@@ -1,0 +1,5 @@
+pub mod Options
+pub mod Tails
+pub mod Texts
+pub mod Refusals
+pub mod Laws
