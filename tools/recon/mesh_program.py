@@ -48,23 +48,13 @@ class Whole(NamedTuple):
     fine: int
 
 
-def run_finish(words: List[str], program: str) -> Dict[str, int]:
-    """Runs `recon-mesh finish` without comments in the header, where the program has an option for that; an earlier one writes none."""
-    try:
-        return run(['finish', *words, 'comments=no'], program)
-    except Refused as error:
-        if error.status != 2:
-            raise
-        return run(['finish', *words], program)
-
-
 def finish_mesh(path: str, wanted: Wanted, out: str, program: Optional[str] = None) -> Whole:
-    """Finishes the mesh of a file into another file, and returns it. Raises `Refusal` with the program's error, or without the program."""
+    """Finishes the mesh of a file into another file without comments, and returns it. Raises `Refusal` with the program's error, or without the program."""
     found = mesh_program_path(program)
     if found is None:
         raise Refusal('the program recon-mesh was not found: put it on the PATH, or name it in the variable RECON_MESH')
     try:
-        done = run_finish([path, out, *wanted.options()], found)
+        done = run(['finish', path, out, *wanted.options(), 'comments=no'], found)
     except Refused as error:
         is_open = error.line.startswith('refused 28 unbalanced')
         raise Refusal(f'the mesh is not closed: recon-mesh says {error.line}' if is_open else f'recon-mesh: {error}') from None

@@ -3,6 +3,7 @@ between faces.
 They run where it is built (the path in RECON_MESH, ./recon-mesh, or what is left in crates/mesh_main/out)."""
 from __future__ import annotations
 
+import hashlib
 import os
 import random
 import subprocess
@@ -27,7 +28,22 @@ CUBE_FACES = [face for a, b, c, d in SIDES for face in ((a, b, c), (a, c, d))]
 # options that are invalid: one of the two numbers alone, a number out of range, an option twice
 NO_SMOOTHING = [('smooth=1',), ('within=1',), ('smooth=0', 'within=1'), ('smooth=101', 'within=1'), ('smooth=1', 'within=0'),
                 ('smooth=1', 'within=8388609'), ('smooth=', 'within=1'), ('smooth=1', 'within=-1'), ('smooth=1', 'within=1.5'),
-                ('smooth=1', 'smooth=1', 'within=1'), ('smooth=1', 'within=1', 'within=2'), ('smooth', 'within=1'), ('smooth=1', 'flips=no')]
+                ('smooth=1', 'smooth=1', 'within=1'), ('smooth=1', 'within=1', 'within=2'), ('smooth', 'within=1'), ('smooth=1', 'flips=no'),
+                ('comments=yes',), ('comments=no', 'comments=no'), ('comments',)]
+
+# options, how the header states them, and the scale
+STATED = [((), '', 1), (('flips=no',), ' flips=no', 1), (('manifold=yes', 'pieces=007'), ' pieces=7 manifold=yes', 1),
+          (('within=20', 'smooth=3'), ' smooth=3 within=20', 1024),
+          (('within=2', 'smooth=1', 'flips=no', 'manifold=yes', 'pieces=1'), ' pieces=1 manifold=yes flips=no smooth=1 within=2', 1024)]
+
+# the line of an error in a header, and what is changed there
+INVALID_HEADERS = [
+    (3, 'comment recon-mesh finish', 'comment by recon-mesh'), (3, 'pieces=4294967295 ', 'pieces=4294967296 '), (3, 'pieces=4294967295 ', 'pieces=0 '),
+    (3, 'pieces=4294967295 ', 'pieces=01 '), (3, 'pieces=4294967295 ', 'pieces=1  '), (3, ' manifold=yes flips=no', ' flips=no manifold=yes'),
+    (3, 'manifold=yes', 'manifold=no'), (3, 'smooth=100 ', 'smooth=101 '), (3, 'smooth=100 ', 'smooth=0 '), (3, ' within=8388608', ''),
+    (3, 'within=8388608', 'within=8388609'), (3, 'within=8388608', 'within=8388608 '), (4, 'scale 4294967295', 'scale 4294967296'),
+    (4, 'scale 4294967295', 'scale 0'), (4, 'comment scale', 'comment  scale'), (5, 'sha256 ', 'sha256  '), (5, 'comment sha256', 'comment sha512'),
+    (6, 'element vertex 4', 'element vertex 04'), (13, '100 100 100', '100 100 +100'), (17, '3 0 1 2', '3 0 1 4'), (21, '3 1 3 2', '3 1 3 2\n')]
 
 
 def moved(points: Sequence[Any], by: Sequence[int]) -> list[tuple[int, ...]]:
@@ -57,6 +73,13 @@ INSPECTED: list[tuple[Any, Any, str, int, int, int, int, int]] = [
     (*two_cubes((1, 1, 0)), 'yes', 1, 2, 1, 0, 12),
     ([(0, 0, 0), (1, 1, 1), (3, 3, 3), (0, 0, 0)], [(0, 1, 2), (0, 2, 1), (0, 3, 1), (0, 1, 3)], 'yes', 1, 2, 1, 4, 0),
 ]
+
+
+def with_provenance(text: str, options: str, scale: int, source: str) -> str:
+    """The text of a mesh, with comments on what was done to which mesh."""
+    comments = f'comment recon-mesh finish{options}\ncomment scale {scale}\ncomment sha256 {hashlib.sha256(source.encode()).hexdigest()}\n'
+    head, rest = text.split('element vertex', 1)
+    return f'{head}{comments}element vertex{rest}'
 
 
 def mesh_program(*words: str) -> Any:
@@ -96,7 +119,7 @@ class MeshProgram(InFolder):
                       ('inspect', 'mesh.ply', 'out.ply')):
             status, line, error = mesh_program(*words)
             equal((status, line), (2, 'refused words\n'))
-            usage = 'usage: recon-mesh finish MESH OUT [pieces=N] [manifold=yes] [flips=no] [smooth=N within=D]\nusage: recon-mesh inspect MESH\n'
+            usage = 'usage: recon-mesh finish MESH OUT [pieces=N] [manifold=yes] [flips=no] [smooth=N within=D] [comments=no]\nusage: recon-mesh inspect MESH\n'
             equal(usage in error, True)
         equal(os.listdir('.'), ['mesh.ply'])
 
@@ -123,8 +146,34 @@ class MeshProgram(InFolder):
         places, faces = ball(6, 3000, 0.1)
         for text in (mesh_text(POINTS, FACES), mesh_text(places, [turned(face) for face in faces]), mesh_text([], [])):
             write('mesh.ply', text)
-            status, said, _ = mesh_program('finish', 'mesh.ply', 'out.ply', 'flips=no')
-            equal((status, said.startswith('finished points '), read('out.ply')), (0, True, text))
+            for words in (('flips=no', 'comments=no'), ('comments=no', 'flips=no')):
+                status, said, _ = mesh_program('finish', 'mesh.ply', 'out.ply', *words)
+                equal((status, said.startswith('finished points '), read('out.ply')), (0, True, text))
+
+    def test_the_header_states_where_a_mesh_comes_from(self) -> None:
+        text = mesh_text(POINTS, FACES)
+        write('mesh.ply', text)
+        for words, stated, scale in STATED:
+            equal(mesh_program('finish', 'mesh.ply', 'out.ply', *words)[0], 0)
+            equal(mesh_program('finish', 'mesh.ply', 'plain.ply', *words, 'comments=no')[0], 0)
+            equal(read('out.ply'), with_provenance(read('plain.ply'), stated, scale, text))
+        write('mesh.ply', read('out.ply'))
+        equal(mesh_program('inspect', 'mesh.ply'), mesh_program('inspect', 'plain.ply'))
+        equal(mesh_program('finish', 'mesh.ply', 'again.ply', 'flips=no')[0], 0)
+        equal(read('again.ply'), with_provenance(read('plain.ply'), ' flips=no', 1, read('mesh.ply')))
+
+    def test_invalid_headers(self) -> None:
+        text = mesh_text(POINTS, FACES)
+        good = with_provenance(text, ' pieces=4294967295 manifold=yes flips=no smooth=100 within=8388608', 4294967295, text)
+        write('mesh.ply', good)
+        equal(mesh_program('inspect', 'mesh.ply')[0], 0)
+        for line, old, new in INVALID_HEADERS:
+            equal(good.count(old), 1)
+            write('mesh.ply', good.replace(old, new))
+            equal(mesh_program('inspect', 'mesh.ply')[:2], (3, f'refused 29 mesh_line line {line}\n'))
+        for size in (10, 30, 70, 150, 200, 250, len(good) - 1):
+            write('mesh.ply', good[:size])
+            equal(mesh_program('inspect', 'mesh.ply')[:2], (3, 'refused 30 mesh_cut\n'))
 
     def test_inspections(self) -> None:
         for points, faces, closed, edges, vertices, pieces, flat, volume in INSPECTED:

@@ -18,7 +18,8 @@ mod status;
 
 pub use carrying::{carry_out, conclude};
 pub use lines::{
-    line_of_bad_arguments, line_of_number, line_of_text, line_of_too_long_mesh, push_labelled,
+    line_of_bad_arguments, line_of_mesh_error, line_of_number, line_of_text, line_of_too_long_mesh,
+    push_labelled,
 };
 pub use meshes::{FILE_LIMIT, MeshReading, read_mesh_file};
 pub use names::{are_names, is_name};

@@ -2,18 +2,18 @@
 use Rattle.std.proofs.Common.{ℕ, ◌≡◌, ◌⊎◌, inl, inr, ap, ◌∙◌, List}
 use Rattle.mesh_ply.specs.Meshes.{Surface}
 use Rattle.mesh_edges.specs.Edges.{IsFirstUnbalanced}
-use Rattle.mesh_finish.specs.declared.options.FinishOptions.{FinishOptions}
 use Rattle.mesh_finish.specs.declared.options.Step.{Step}
 use Rattle.command_run.specs.Answers.{Answer, invalid}
 use Rattle.command_run.specs.declared.status.Status.TheVariants.{Done, Refused}
+use Rattle.mesh_cmd.specs.declared.options.FinishRequest.{FinishRequest}
 use Rattle.mesh_cmd.specs.Finish.{FinishAnswer, IsNotFinished, not_closed_line, unverified_line}
 
 -- it is done or refused
-pub answer_ends : (output : List ℕ) (options : FinishOptions) (mesh : Surface) (answer : Answer)
-    → FinishAnswer output options mesh answer → (answer.status ≡ Done) ⊎ (answer.status ≡ Refused)
-answer_ends output options mesh answer (inl writes) = inl (ap (λ (a : Answer). a.status) writes.is)
-answer_ends output options mesh answer (inr (inl edge)) = inr (ap (λ (a : Answer). a.status) edge.is)
-answer_ends output options mesh answer (inr (inr step)) = inr (ap (λ (a : Answer). a.status) step.1)
+pub answer_ends : (output : List ℕ) (request : FinishRequest) (digest : List ℕ) (mesh : Surface) (answer : Answer)
+    → FinishAnswer output request digest mesh answer → (answer.status ≡ Done) ⊎ (answer.status ≡ Refused)
+answer_ends output request digest mesh answer (inl writes) = inl (ap (λ (a : Answer). a.status) writes.is)
+answer_ends output request digest mesh answer (inr (inl edge)) = inr (ap (λ (a : Answer). a.status) edge.is)
+answer_ends output request digest mesh answer (inr (inr step)) = inr (ap (λ (a : Answer). a.status) step.1)
 
 -- the line says of an edge that it is the first that is not balanced
 pub answers_open : (mesh : Surface) (answer : Answer) (line : List ℕ) (from to there back : ℕ)

@@ -24,11 +24,11 @@ use Rattle.mesh_cmd.specs.Inspect.{inspect_task}
 use Rattle.mesh_cmd.specs.Options.{finish_options}
 use Rattle.mesh_cmd.specs.declared.commands.Command.{Command}
 use Rattle.mesh_cmd.specs.declared.commands.Command.TheVariants as commands
-use Rattle.mesh_finish.specs.declared.options.FinishOptions.{FinishOptions}
+use Rattle.mesh_cmd.specs.declared.options.FinishRequest.{FinishRequest}
 
 -- a command with its names and options
 pub data Asked : Type 0 where
-  finish : Names → FinishOptions → Asked
+  finish : Names → FinishRequest → Asked
   inspect : List ℕ → Asked
 
 -- two names, and options
@@ -56,12 +56,12 @@ command_of (word ∷ words) =
 
 -- a command as the program holds it
 abbrev pub asked : Command → Asked
-asked (commands.Finish words) = finish (finish_names words) words.options
+asked (commands.Finish words) = finish (finish_names words) words.request
 asked (commands.Inspect words) = inspect words.mesh.now
 
 -- what a command is apart from its arguments
 abbrev pub task_of : Asked → Task
-task_of (finish names options) = finish_task names options
+task_of (finish names request) = finish_task names request
 task_of (inspect name) = inspect_task name
 
 -- the answer of a command, or to invalid arguments, where the files are these

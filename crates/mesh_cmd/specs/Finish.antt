@@ -3,29 +3,34 @@
 --   finish_names words                   the names that the program holds
 --   scale_text smoothing fine            the part of the line on the scale of a smoothed mesh
 --   finished_line smoothing points faces fine   the line
---   finish_done output smoothing mesh fine      the answer that writes this mesh
+--   stated_by request digest fine        where a mesh comes from, if its file states that
+--   finish_done output request ..        the answer that writes this mesh
 --   not_closed_line from to there back   the line of a mesh that is not closed
 --   unverified_line step                 the line of a step whose result did not pass its verification
---   WritesFinished output options ..     the answer writes a mesh after what the options ask for
+--   WritesFinished output request ..     the answer writes a mesh after what the options ask for
 --   IsNotClosed mesh answer              the mesh is not closed, which the answer says
 --   IsUnverified answer                  a step did not pass its verification, which the answer says
 --   IsNotFinished mesh answer            one of the last two
---   FinishAnswer output options ..       a mesh is written, or it is said why not
---   finish_task names options            the command
-use Rattle.std.specs.Prelude.{ℕ, List, [], ◌∷◌, ◌++◌, codes, ◌≡◌, ◌⊎◌, length, Option, None, Some}
+--   FinishAnswer output request ..       a mesh is written, or it is said why not
+--   finish_task names request            the command
+use Rattle.std.specs.Prelude.{ℕ, List, [], ◌∷◌, ◌++◌, codes, ◌≡◌, ◌⊎◌, length, Option, None, Some, if◌then◌else◌}
+use Rattle.sha2.specs.Sha256.{sha256}
 use Rattle.mesh_ply.specs.Meshes.{Surface}
-use Rattle.mesh_ply.specs.Texts.{mesh_text, IsPrinted}
+use Rattle.mesh_ply.specs.Texts.{IsPrinted}
+use Rattle.mesh_provenance.specs.Texts.{file_text}
+use Rattle.mesh_provenance.specs.declared.provenance.Provenance.{Provenance}
 use Rattle.mesh_edges.specs.Edges.{IsFirstUnbalanced}
 use Rattle.mesh_finish.specs.Steps.{AreFinished}
-use Rattle.mesh_finish.specs.declared.options.FinishOptions.{FinishOptions}
-use Rattle.mesh_finish.specs.declared.options.SmoothOptions.{SmoothOptions}
+use Rattle.mesh_provenance.specs.declared.options.SmoothOptions.{SmoothOptions}
 use Rattle.mesh_finish.specs.declared.options.Step.{Step}
 use Rattle.mesh_finish.specs.declared.options.Step.TheVariants.{Pairing, Pieces, Splitting, Umbrellas}
-use Rattle.command_run.specs.Answers.{Answer, Task, mesh_task, invalid}
+use Rattle.command_run.specs.Answers.{Answer, Task, invalid}
 use Rattle.command_run.specs.Lines.{labelled, text_line}
 use Rattle.command_run.specs.Words.{Names}
 use Rattle.command_run.specs.declared.status.Status.TheVariants.{Done}
+use Rattle.mesh_cmd.specs.Input.{file_task}
 use Rattle.mesh_cmd.specs.declared.commands.finish.FinishWords.{FinishWords}
+use Rattle.mesh_cmd.specs.declared.options.FinishRequest.{FinishRequest}
 
 -- the names that the program holds
 abbrev pub finish_names : FinishWords → Names
@@ -42,14 +47,19 @@ finished_line smoothing points faces fine =
     labelled (codes "finished points ") points
     ++ (labelled (codes " faces ") faces ++ (scale_text smoothing fine ++ (10 ∷ [])))
 
--- the answer that writes the text of this mesh
-abbrev pub finish_done : (output : List ℕ) → Option SmoothOptions → Surface → (fine : ℕ) → Answer
-finish_done output smoothing mesh fine =
+-- the options, the scale and the digest of the file that was read, unless the header is to have no comments
+abbrev pub stated_by : FinishRequest → (digest : List ℕ) → (fine : ℕ) → Option Provenance
+stated_by request digest fine =
+    if request.comments then Some (record { options = request.options; fine = fine; digest = digest }) else None
+
+-- the answer that writes the text of this mesh, with where it comes from
+abbrev pub finish_done : (output : List ℕ) → FinishRequest → (digest : List ℕ) → Surface → (fine : ℕ) → Answer
+finish_done output request digest mesh fine =
     record {
       status = Done;
       reads = 1;
-      writes = (output, mesh_text mesh.points mesh.faces) ∷ [];
-      line = finished_line smoothing (length mesh.points) (length mesh.faces) fine;
+      writes = (output, file_text (stated_by request digest fine) mesh.points mesh.faces) ∷ [];
+      line = finished_line request.options.smoothing (length mesh.points) (length mesh.faces) fine;
     }
 
 -- the line of a mesh that is not closed: its smallest edge that occurs another number of times than its reverse, with both counts
@@ -65,13 +75,14 @@ unverified_line Pieces = text_line (codes "refused 31 unverified pieces")
 unverified_line Splitting = text_line (codes "refused 31 unverified splitting")
 unverified_line Umbrellas = text_line (codes "refused 31 unverified umbrellas")
 
--- The text of a mesh after what the options ask for is written. Its numbers of points and faces are said, and after smoothing its scale.
-pub record WritesFinished (output : List ℕ) (options : FinishOptions) (mesh : Surface) (answer : Answer) : Type 0 where
+-- The text of a mesh after what the options ask for is written. Unless the options leave it out, its header states them, its scale,
+-- and the digest of the file that was read. Its numbers of points and faces are said, and after smoothing its scale.
+pub record WritesFinished (output : List ℕ) (request : FinishRequest) (digest : List ℕ) (mesh : Surface) (answer : Answer) : Type 0 where
   pub finished : Surface
   pub fine : ℕ
   pub printed : IsPrinted finished.points finished.faces
-  pub so : AreFinished options mesh.points mesh.faces finished.points finished.faces fine
-  pub is : answer ≡ finish_done output options.smoothing finished fine
+  pub so : AreFinished request.options mesh.points mesh.faces finished.points finished.faces fine
+  pub is : answer ≡ finish_done output request digest finished fine
 
 -- the mesh is not closed, which the line says
 pub record IsNotClosed (mesh : Surface) (answer : Answer) : Type 0 where
@@ -91,9 +102,11 @@ abbrev pub IsNotFinished : Surface → Answer → Type 0
 IsNotFinished mesh answer = IsNotClosed mesh answer ⊎ IsUnverified answer
 
 -- a finished mesh is written, or it is said why not
-abbrev pub FinishAnswer : List ℕ → FinishOptions → Surface → Answer → Type 0
-FinishAnswer output options mesh answer = WritesFinished output options mesh answer ⊎ IsNotFinished mesh answer
+abbrev pub FinishAnswer : List ℕ → FinishRequest → (digest : List ℕ) → Surface → Answer → Type 0
+FinishAnswer output request digest mesh answer = WritesFinished output request digest mesh answer ⊎ IsNotFinished mesh answer
 
--- it reads the mesh, and writes a finished one if the mesh is valid
-abbrev pub finish_task : Names → FinishOptions → Task
-finish_task names options = mesh_task ⊥ names.input (FinishAnswer names.output options)
+-- It reads the mesh, and writes a finished one if the mesh is valid. The digest is the SHA-256 of the bytes that were read, by the kit's
+-- own definition.
+abbrev pub finish_task : Names → FinishRequest → Task
+finish_task names request =
+    file_task ⊥ names.input (λ bytes provenance mesh answer. FinishAnswer names.output request (sha256 bytes) mesh answer)

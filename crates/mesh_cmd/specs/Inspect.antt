@@ -17,9 +17,10 @@ use Rattle.mesh_measures.specs.Flat.{IsFlat}
 use Rattle.mesh_measures.specs.Topology.{IsTopologyOf}
 use Rattle.mesh_measures.specs.Volumes.{six_volume}
 use Rattle.mesh_measures.specs.declared.topology.Topology.{Topology}
-use Rattle.command_run.specs.Answers.{Answer, Task, mesh_task}
+use Rattle.command_run.specs.Answers.{Answer, Task}
 use Rattle.command_run.specs.Lines.{labelled}
 use Rattle.command_run.specs.declared.status.Status.TheVariants.{Done}
+use Rattle.mesh_cmd.specs.Input.{file_task}
 use Rattle.mesh_cmd.specs.declared.commands.inspect.Measures.{Measures}
 
 -- The first edge that occurs another number of times than its reverse, if the mesh is not closed; the numbers of non-manifold edges and
@@ -72,4 +73,4 @@ pub record IsInspection (mesh : Surface) (answer : Answer) : Type 0 where
 
 -- it reads the mesh, and says its measures if the mesh is valid
 abbrev pub inspect_task : List ℕ → Task
-inspect_task name = mesh_task ⊥ name IsInspection
+inspect_task name = file_task ⊥ name (λ bytes provenance mesh answer. IsInspection mesh answer)

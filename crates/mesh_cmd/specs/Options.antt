@@ -1,7 +1,7 @@
 -- The options of `finish`, which are given one after another.
 --
 --   limited most number, whole_number most result, limited_in most text    the number from 1 to `most` that digits are
---   without_flips, with_split          the options with one more, if it is not given yet
+--   without_flips, with_split, without_comments   the options with one more, if it is not given yet
 --   first_number given number          a number, if none is given yet
 --   with_pieces, with_steps, with_within   the options with a number more, if it is not given yet
 --   with_key_number o word             the options with the number of an argument, if it is one that is not given yet
@@ -18,8 +18,9 @@ use Rattle.std.specs.Option.{option_and_then, option_map}
 use Rattle.std.specs.Str.{bytes_eq}
 use Rattle.num_text.specs.WholeNumbers.{whole_of}
 use Rattle.num_text.specs.declared.refusal.NumRefusal.{NumRefusal}
-use Rattle.mesh_finish.specs.declared.options.FinishOptions.{FinishOptions}
-use Rattle.mesh_finish.specs.declared.options.SmoothOptions.{SmoothOptions}
+use Rattle.mesh_provenance.specs.declared.options.SmoothOptions.{SmoothOptions}
+use Rattle.mesh_provenance.specs.declared.options.TheConstants.{MOST_STEPS, FARTHEST}
+use Rattle.mesh_cmd.specs.declared.options.FinishRequest.{FinishRequest}
 use Rattle.mesh_cmd.specs.declared.options.GivenOptions.{GivenOptions}
 
 -- a number from 1 to `most`
@@ -40,6 +41,9 @@ without_flips o = if o.flips then Some (record o { flips = false }) else None
 abbrev pub with_split : GivenOptions → Option GivenOptions
 with_split o = if o.manifold then None else Some (record o { manifold = true })
 
+abbrev pub without_comments : GivenOptions → Option GivenOptions
+without_comments o = if o.comments then Some (record o { comments = false }) else None
+
 -- a number, if none is given yet
 abbrev pub first_number : (given : Option ℕ) → ℕ → Option ℕ
 first_number None number = Some number
@@ -59,8 +63,8 @@ with_within o number = option_map (λ n. record o { within = Some n }) (first_nu
 abbrev pub with_key_number : GivenOptions → List ℕ → Option GivenOptions
 with_key_number o word =
     if starts_with nat_eq word (codes "pieces=") then option_and_then (with_pieces o) (limited_in 4294967295 (drop 7 word))
-    else if starts_with nat_eq word (codes "smooth=") then option_and_then (with_steps o) (limited_in 100 (drop 7 word))
-    else if starts_with nat_eq word (codes "within=") then option_and_then (with_within o) (limited_in 8388608 (drop 7 word))
+    else if starts_with nat_eq word (codes "smooth=") then option_and_then (with_steps o) (limited_in MOST_STEPS (drop 7 word))
+    else if starts_with nat_eq word (codes "within=") then option_and_then (with_within o) (limited_in FARTHEST (drop 7 word))
     else None
 
 -- the options with that of an argument, if it is one that is not given yet
@@ -68,6 +72,7 @@ abbrev pub with_option : GivenOptions → List ℕ → Option GivenOptions
 with_option o word =
     if bytes_eq word (codes "flips=no") then without_flips o
     else if bytes_eq word (codes "manifold=yes") then with_split o
+    else if bytes_eq word (codes "comments=no") then without_comments o
     else with_key_number o word
 
 -- the options with those of all arguments, each at most once
@@ -83,15 +88,19 @@ smoothing_given None (Some within) = None
 smoothing_given (Some steps) None = None
 
 -- the options that are given so
-abbrev pub options_given : GivenOptions → Option FinishOptions
+abbrev pub options_given : GivenOptions → Option FinishRequest
 options_given o =
-    option_map (λ smoothing. record { pieces = o.pieces; manifold = o.manifold; flips = o.flips; smoothing = smoothing })
+    option_map (λ smoothing.
+    record {
+      options = record { pieces = o.pieces; manifold = o.manifold; flips = o.flips; smoothing = smoothing };
+      comments = o.comments;
+    })
     (smoothing_given o.steps o.within)
 
 -- no argument
 abbrev pub none_given : GivenOptions
-none_given = record { pieces = None; manifold = false; flips = true; steps = None; within = None }
+none_given = record { pieces = None; manifold = false; flips = true; steps = None; within = None; comments = true }
 
 -- the options that the arguments after the names are
-abbrev pub finish_options : List (List ℕ) → Option FinishOptions
+abbrev pub finish_options : List (List ℕ) → Option FinishRequest
 finish_options words = option_and_then options_given (with_options none_given words)

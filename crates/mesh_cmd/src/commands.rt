@@ -19,9 +19,9 @@ use std::alloc::Global;
 /// What a run is asked for.
 #[derive(Clone, Copy, Debug)]
 pub enum Command<'a> {
-    /// `finish MESH OUT [pieces=N] [manifold=yes] [flips=no] [smooth=N within=D]`: reads the mesh, keeps its N largest pieces, splits
-    /// vertices so that each edge has two faces, flips edges where the angles between faces fall, moves vertices by at most D units
-    /// so that neighboring faces agree on their directions, and writes the result.
+    /// `finish MESH OUT [pieces=N] [manifold=yes] [flips=no] [smooth=N within=D] [comments=no]`: reads the mesh, keeps its N largest
+    /// pieces, splits vertices so that each edge has two faces, flips edges where the angles between faces fall, moves vertices by at
+    /// most D units so that neighboring faces agree on their directions, and writes the result with its provenance.
     Finish(FinishWords<'a>),
     /// `inspect MESH`: reads the mesh and says its measures.
     Inspect(InspectWords<'a>),

@@ -4,15 +4,18 @@
 //! its task, which is how it may end, how many files it reads and its answers. The commands stand in `specs/Commands`, and each has
 //! a file of its own there and in `src/commands`. What a run does to its host is said once for all commands, in `command_run`.
 //!
-//! It depends on `command_run` (answers and what a run does), `mesh_finish` (finished meshes), `mesh_measures`
-//! (measures) and `mesh_ply` (their text).
+//! It depends on `command_run` (answers and what a run does), `mesh_finish` (finished meshes), `mesh_measures` (measures),
+//! `mesh_provenance` (their text, with where they come from) and `sha2`.
 #![tactic(auto)]
 
 mod commands;
+mod input;
 mod options;
 mod whole_run;
 
 pub use command_run::{NoMemory, Status};
 pub use commands::{Command, FinishWords, InspectWords, Measures, understand};
-pub use mesh_finish::FinishOptions;
+pub use input::{InputMesh, InputReading, read_input};
+pub use mesh_provenance::{FinishOptions, Provenance};
+pub use options::FinishRequest;
 pub use whole_run::run;

@@ -1,15 +1,18 @@
 //! The options of `finish`.
 ghost use Rattle.std.specs.Prelude.{◌≡◌, map, string_bytes};
-ghost use Rattle.mesh_cmd.specs.Options.{finish_options, options_given, smoothing_given, with_options, with_option, with_key_number, without_flips, with_split, first_number, with_pieces, with_steps, with_within, limited_in, limited};
+ghost use Rattle.mesh_cmd.specs.Options.{finish_options, options_given, smoothing_given, with_options, with_option, with_key_number, without_flips, with_split, without_comments, first_number, with_pieces, with_steps, with_within, limited_in, limited};
 
-use mesh_finish::{FinishOptions, SmoothOptions};
+use mesh_provenance::{FARTHEST, FinishOptions, MOST_STEPS, SmoothOptions};
 use num_text::{all_digits, whole};
 
-/// How many steps of smoothing there are at most.
-const MOST_STEPS: u32 = 100;
-
-/// How far points move at most: as far as the box reaches from its middle.
-const FARTHEST: u32 = 8_388_608;
+/// What is done to a mesh, and whether its file states that.
+#[derive(Clone, Copy, Debug, PartialEq, Eq)]
+pub struct FinishRequest {
+    /// What is done.
+    pub options: FinishOptions,
+    /// Comments of the header state it (default: true).
+    pub comments: bool,
+}
 
 /// Options as they are given, one after another.
 #[derive(Clone, Copy)]
@@ -24,10 +27,12 @@ struct GivenOptions {
     steps: Option<u32>,
     /// How far points move, if a number is given.
     within: Option<u32>,
+    /// Whether the header has comments.
+    comments: bool,
 }
 
 /// Returns the options that these arguments are, if they are valid.
-pub(crate) fn options_in(words: &[String]) -> Option<FinishOptions>
+pub(crate) fn options_in(words: &[String]) -> Option<FinishRequest>
     ensures { result ≡ finish_options (map string_bytes words.now) }
 {
     let none = GivenOptions {
@@ -36,20 +41,25 @@ pub(crate) fn options_in(words: &[String]) -> Option<FinishOptions>
         flips: true,
         steps: None,
         within: None,
+        comments: true,
     };
     options_given(with_all(none, words)?)
 }
 
 /// Returns the options that are given so, if smoothing has both numbers or neither.
-fn options_given(given: GivenOptions) -> Option<FinishOptions>
+fn options_given(given: GivenOptions) -> Option<FinishRequest>
     ensures { result ≡ options_given given }
 {
     let smoothing = smoothing_given(given.steps, given.within)?;
-    Some(FinishOptions {
+    let options = FinishOptions {
         pieces: given.pieces,
         manifold: given.manifold,
         flips: given.flips,
         smoothing,
+    };
+    Some(FinishRequest {
+        options,
+        comments: given.comments,
     })
 }
 
@@ -86,6 +96,8 @@ fn with_one(options: GivenOptions, word: &str) -> Option<GivenOptions>
         without_flips(options)
     } else if word == "manifold=yes" {
         with_split(options)
+    } else if word == "comments=no" {
+        without_comments(options)
     } else {
         with_key_number(options, word.as_bytes())
     }
@@ -113,6 +125,19 @@ fn with_split(options: GivenOptions) -> Option<GivenOptions>
     }
     Some(GivenOptions {
         manifold: true,
+        ..options
+    })
+}
+
+/// Returns the options without comments, if they have them.
+fn without_comments(options: GivenOptions) -> Option<GivenOptions>
+    ensures { result ≡ without_comments options }
+{
+    if !options.comments {
+        return None;
+    }
+    Some(GivenOptions {
+        comments: false,
         ..options
     })
 }

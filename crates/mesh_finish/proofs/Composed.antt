@@ -7,8 +7,8 @@ use Rattle.mesh_flips.specs.Turns.{IsTriangle}
 use Rattle.mesh_split.specs.Splits.{AreSingle}
 use Rattle.mesh_split.proofs.Keys.{two_faces}
 use Rattle.mesh_finish.specs.Steps.{ArePiecesIf, IsSplitIf, AreFlippedIf, IsSmoothedIf, AreUmbrellas, AreFinished}
-use Rattle.mesh_finish.specs.declared.options.FinishOptions.{FinishOptions}
-use Rattle.mesh_finish.specs.declared.options.SmoothOptions.{SmoothOptions}
+use Rattle.mesh_provenance.specs.declared.options.FinishOptions.{FinishOptions}
+use Rattle.mesh_provenance.specs.declared.options.SmoothOptions.{SmoothOptions}
 use Rattle.mesh_finish.proofs.Rewritten.{smoothed_balanced, smoothed_single}
 
 -- with smoothing or without, the mesh stays closed

@@ -16,8 +16,8 @@ use Rattle.mesh_measures.specs.Manifolds.{IsManifoldVertex}
 use Rattle.mesh_finish.specs.Finished.{IsFinished, AreSmoothed}
 use Rattle.mesh_finish.specs.declared.options.FinishError.{FinishError}
 use Rattle.mesh_finish.specs.declared.options.FinishError.TheVariants.{NotClosed, Unverified, NoMemory}
-use Rattle.mesh_finish.specs.declared.options.FinishOptions.{FinishOptions}
-use Rattle.mesh_finish.specs.declared.options.SmoothOptions.{SmoothOptions}
+use Rattle.mesh_provenance.specs.declared.options.FinishOptions.{FinishOptions}
+use Rattle.mesh_provenance.specs.declared.options.SmoothOptions.{SmoothOptions}
 
 -- pieces are kept, or all is as it was
 abbrev pub ArePiecesIf : Option ℕ → List Point → List (List ℕ) → List Point → List (List ℕ) → Type 0

@@ -3,10 +3,11 @@
 //!
 //! [`finish_mesh`] states what each step keeps, one after another. The pieces are whole, the split mesh is a copy of them in which each
 //! edge has two faces, flips keep its points and what was apart in it, and smoothing keeps each point within a distance and what was
-//! apart. The finished mesh is closed, and if vertices were split the faces around each vertex are one cycle, which is tested at the end. Which pieces are the largest, which edges are flipped and how smooth the mesh is is not promised.
+//! apart. The finished mesh is closed, and if vertices were split the faces around each vertex are one cycle, which is tested at the
+//! end. Which pieces are the largest, which edges are flipped and how smooth the mesh is is not promised.
 //!
 //! It depends on `half_edges` (twins), `mesh_pieces`, `mesh_split`, `mesh_flips`, `mesh_smooth`, `mesh_measures` (cycles around
-//! vertices) and `mesh_ply` (meshes).
+//! vertices), `mesh_provenance` (options) and `mesh_ply` (meshes).
 #![tactic(auto)]
 
 mod options;
@@ -17,7 +18,8 @@ mod turned;
 mod umbrellas;
 mod whole;
 
-pub use options::{FinishError, FinishOptions, SmoothOptions, Step};
+pub use mesh_provenance::{FinishOptions, SmoothOptions};
+pub use options::{FinishError, Step};
 pub use smoothed::FinishedMesh;
 use std::alloc::AllocError;
 pub use whole::finish_mesh;

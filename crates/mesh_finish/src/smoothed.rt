@@ -8,10 +8,10 @@ ghost use Rattle.mesh_finish.specs.Finished.{AreSmoothed};
 ghost use Rattle.mesh_finish.specs.Steps.{IsSmoothedIf};
 
 use crate::NoMemory;
-use crate::options::{FinishOptions, SmoothOptions};
 use crate::turned::turned_faces;
 use half_edges::find_twins;
 use mesh_ply::Mesh;
+use mesh_provenance::{FinishOptions, SmoothOptions};
 use mesh_smooth::{Smoothing, smooth_mesh};
 use std::alloc::Global;
 

@@ -10,7 +10,7 @@ ghost use Rattle.mesh_finish.specs.Finished.{IsFinished};
 ghost use Rattle.mesh_finish.specs.Steps.{AreFlippedIf, AreFinished, ExplainsFinish};
 
 use crate::NoMemory;
-use crate::options::{FinishError, FinishOptions};
+use crate::options::FinishError;
 use crate::order::in_order;
 use crate::smoothed::{FinishedMesh, smoothed};
 use crate::steps::{kept, paired, split};
@@ -20,6 +20,7 @@ use geo_sign::Point;
 use half_edges::find_twins;
 use mesh_flips::flip_edges;
 use mesh_ply::Mesh;
+use mesh_provenance::FinishOptions;
 use std::alloc::Global;
 
 /// Returns the faces of a mesh with edges flipped.

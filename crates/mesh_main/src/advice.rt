@@ -7,7 +7,7 @@ use real_host::Advice;
 const USES: [(&str, &str); 2] = [
     (
         "finish",
-        "MESH OUT [pieces=N] [manifold=yes] [flips=no] [smooth=N within=D]",
+        "MESH OUT [pieces=N] [manifold=yes] [flips=no] [smooth=N within=D] [comments=no]",
     ),
     ("inspect", "MESH"),
 ];

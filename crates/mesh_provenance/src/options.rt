@@ -11,7 +11,7 @@ pub const FARTHEST: u32 = 8_388_608;
 pub struct FinishOptions {
     /// How many of the largest pieces are kept at most (default: all).
     pub pieces: Option<u32>,
-    /// Vertices are split, so that each edge has two faces (default: false).
+    /// Vertices are split, so that each edge has two faces and the faces around each vertex are one cycle (default: false).
     pub manifold: bool,
     /// Edges are flipped where the angles between faces fall (default: true).
     pub flips: bool,

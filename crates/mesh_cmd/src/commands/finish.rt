@@ -1,24 +1,27 @@
-//! `finish MESH OUT [pieces=N] [manifold=yes] [flips=no] [smooth=N within=D]`: its arguments, its answer and its lines.
+//! `finish MESH OUT [pieces=N] [manifold=yes] [flips=no] [smooth=N within=D] [comments=no]`: its arguments, its answer and its lines.
 ghost use Rattle.std.specs.Option.{option_map};
 ghost use Rattle.std.specs.Prelude.{◌≡◌, ◌++◌, false, length, map, string_bytes, IfOk, OnOk};
 ghost use Rattle.mesh_ply.specs.Meshes.{Surface};
 ghost use Rattle.mesh_ply.specs.Texts.{IsPrinted};
+ghost use Rattle.mesh_provenance.specs.Texts.{file_text};
 ghost use Rattle.mesh_finish.specs.Steps.{ExplainsFinish};
 ghost use Rattle.command_run.specs.Answers.{file_limit};
 ghost use Rattle.command_run.specs.Replies.{answer_of};
 ghost use Rattle.command_run.specs.Steps.{IsReplied, ReadsFor, CountsFaults, surface_of};
 ghost use Rattle.mesh_cmd.specs.Commands.{asked, finish_of};
-ghost use Rattle.mesh_cmd.specs.Finish.{finish_names, finish_task, scale_text, finished_line, finish_done, not_closed_line, unverified_line, IsNotFinished, FinishAnswer};
+ghost use Rattle.mesh_cmd.specs.Finish.{finish_names, finish_task, scale_text, finished_line, stated_by, finish_done, not_closed_line, unverified_line, IsNotFinished, FinishAnswer};
 
 use crate::commands::Command;
-use crate::options::options_in;
+use crate::input::{InputMesh, InputReading, read_input};
+use crate::options::{FinishRequest, options_in};
 use command_run::{
-    FILE_LIMIT, Line, MeshReading, NoMemory, Reply, Status, Stop, Text, are_names, invalid_input,
-    line_of_text, push_labelled, read_mesh_file,
+    FILE_LIMIT, Line, NoMemory, Reply, Status, Stop, Text, are_names, invalid_input, line_of_text,
+    push_labelled,
 };
 use host::Host;
-use mesh_finish::{FinishError, FinishOptions, FinishedMesh, SmoothOptions, Step, finish_mesh};
+use mesh_finish::{FinishError, FinishedMesh, SmoothOptions, Step, finish_mesh};
 use mesh_ply::{Mesh, push_mesh};
+use mesh_provenance::{Provenance, push_annotated};
 use std::alloc::{AllocError, Global};
 
 /// The arguments of `finish`.
@@ -28,8 +31,8 @@ pub struct FinishWords<'a> {
     pub mesh: &'a str,
     /// The name of the file that is written.
     pub output: &'a str,
-    /// What is done to the mesh.
-    pub options: FinishOptions,
+    /// What is done to the mesh, and whether the output states it.
+    pub request: FinishRequest,
 }
 
 /// Returns the command that the arguments after `finish` ask for, if they are valid.
@@ -42,11 +45,11 @@ pub fn finish_command(words: &[String]) -> Option<Command<'_>>
     if !are_names(&words[..2]) {
         return None;
     }
-    let options = options_in(options)?;
+    let request = options_in(options)?;
     Some(Command::Finish(FinishWords {
         mesh: mesh.as_str(),
         output: output.as_str(),
-        options,
+        request,
     }))
 }
 
@@ -57,28 +60,32 @@ pub fn reply_to_finish<'a, H: Host>(
     words: &FinishWords<'a>,
 ) -> Result<Reply<'a>, Stop>
     requires { (H.state host.old).writing ≡ false }
-    ensures replied { IfOk result (λ reply. IsReplied file_limit (finish_task (finish_names words.now) words.now.options) reply (H.state host.old)) }
-    ensures reads { ReadsFor file_limit (finish_task (finish_names words.now) words.now.options) (H.state host.old) (H.state host.new) }
+    ensures replied { IfOk result (λ reply. IsReplied file_limit (finish_task (finish_names words.now) words.now.request) reply (H.state host.old)) }
+    ensures reads { ReadsFor file_limit (finish_task (finish_names words.now) words.now.request) (H.state host.old) (H.state host.new) }
     ensures cause { CountsFaults result (H.state host.old).faults (H.state host.new).faults }
 {
-    match read_mesh_file(alloc, host, words.mesh, FILE_LIMIT)? {
-        MeshReading::Mesh(mesh) => Ok(reply_to_mesh(alloc, mesh, words.options, words.output)?),
-        MeshReading::Refused(line) => Ok(invalid_input(alloc, line)),
+    match read_input(alloc, host, words.mesh, FILE_LIMIT)? {
+        InputReading::Mesh(input) => {
+            let InputMesh { mesh, digest, .. } = input;
+            Ok(reply_to_mesh(alloc, mesh, &digest, words.request, words.output)?)
+        }
+        InputReading::Refused(line) => Ok(invalid_input(alloc, line)),
     }
 }
 
-/// Makes the answer to a mesh.
+/// Makes the answer to a mesh whose file has this digest.
 fn reply_to_mesh<'a>(
     alloc: Global,
     mesh: Mesh,
-    options: FinishOptions,
+    digest: &[u8; 32],
+    request: FinishRequest,
     output: &'a str,
 ) -> Result<Reply<'a>, NoMemory>
     requires { IsPrinted mesh.points.items mesh.faces.items }
-    ensures { IfOk result (λ reply. FinishAnswer output.now options (surface_of mesh) (answer_of 1 reply)) }
+    ensures { IfOk result (λ reply. FinishAnswer output.now request digest.now (surface_of mesh) (answer_of 1 reply)) }
 {
-    match finish_mesh(alloc, mesh, options) {
-        Ok(finished) => Ok(reply_of_mesh(alloc, &finished, options.smoothing, output)?),
+    match finish_mesh(alloc, mesh, request.options) {
+        Ok(finished) => Ok(reply_of_mesh(alloc, &finished, digest, request, output)?),
         Err(error) => Ok(reply_to_error(alloc, error)?),
     }
 }
@@ -104,16 +111,16 @@ fn reply_to_error<'a>(alloc: Global, error: FinishError) -> Result<Reply<'a>, No
 fn reply_of_mesh<'a>(
     alloc: Global,
     finished: &FinishedMesh,
-    smoothing: Option<SmoothOptions>,
+    digest: &[u8; 32],
+    request: FinishRequest,
     output: &'a str,
 ) -> Result<Reply<'a>, NoMemory>
     requires { IsPrinted finished.now.mesh.points.items finished.now.mesh.faces.items }
-    ensures { IfOk result (λ reply. answer_of 1 reply ≡ finish_done output.now smoothing (surface_of finished.now.mesh) finished.now.fine) }
+    ensures { IfOk result (λ reply. answer_of 1 reply ≡ finish_done output.now request digest.now (surface_of finished.now.mesh) finished.now.fine) }
 {
-    let mesh = &finished.mesh;
-    let mut text = Vec::new(alloc);
-    push_mesh(&mut text, mesh)?;
-    let line = line_of_finish(alloc, mesh, smoothing, finished.fine)?;
+    let text = text_of_mesh(alloc, finished, digest, request)?;
+    let smoothing = request.options.smoothing;
+    let line = line_of_finish(alloc, &finished.mesh, smoothing, finished.fine)?;
     let mut texts = Vec::new(alloc);
     texts.push(Text {
         name: output,
@@ -124,6 +131,31 @@ fn reply_of_mesh<'a>(
         texts,
         line: Line::Made(line),
     })
+}
+
+/// Returns the text of this mesh, with where it comes from unless that is left out.
+fn text_of_mesh(
+    alloc: Global,
+    finished: &FinishedMesh,
+    digest: &[u8; 32],
+    request: FinishRequest,
+) -> Result<Vec<u8>, NoMemory>
+    requires { IsPrinted finished.now.mesh.points.items finished.now.mesh.faces.items }
+    ensures { IfOk result (λ text. text.items ≡ file_text (stated_by request digest.now finished.now.fine) finished.now.mesh.points.items finished.now.mesh.faces.items) }
+{
+    let mut text = Vec::new(alloc);
+    if request.comments {
+        let digest = *digest;
+        let provenance = Provenance {
+            options: request.options,
+            fine: finished.fine,
+            digest,
+        };
+        push_annotated(&mut text, &provenance, &finished.mesh)?;
+    } else {
+        push_mesh(&mut text, &finished.mesh)?;
+    }
+    Ok(text)
 }
 
 /// Appends how many units of the new mesh one unit of the mesh has, if it was smoothed.

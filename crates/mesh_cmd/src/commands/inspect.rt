@@ -9,9 +9,9 @@ ghost use Rattle.mesh_cmd.specs.Commands.{asked, inspect_of};
 ghost use Rattle.mesh_cmd.specs.Inspect.{inspect_task, inspected_line, closed_text, sizes_text, topology_text, volume_text, measures_text, IsInspection, AreMeasuresOf};
 
 use crate::commands::Command;
+use crate::input::{InputReading, read_input};
 use command_run::{
-    FILE_LIMIT, Line, MeshReading, NoMemory, Reply, Status, Stop, are_names, invalid_input,
-    push_labelled, read_mesh_file,
+    FILE_LIMIT, Line, NoMemory, Reply, Status, Stop, are_names, invalid_input, push_labelled,
 };
 use host::Host;
 use mesh_edges::{UnbalancedEdge, first_unbalanced};
@@ -66,9 +66,9 @@ pub fn reply_to_inspect<'a, H: Host>(
     ensures reads { ReadsFor file_limit (inspect_task words.now.mesh.now) (H.state host.old) (H.state host.new) }
     ensures cause { CountsFaults result (H.state host.old).faults (H.state host.new).faults }
 {
-    match read_mesh_file(alloc, host, words.mesh, FILE_LIMIT)? {
-        MeshReading::Mesh(mesh) => Ok(reply_to_measured(alloc, &mesh)?),
-        MeshReading::Refused(line) => Ok(invalid_input(alloc, line)),
+    match read_input(alloc, host, words.mesh, FILE_LIMIT)? {
+        InputReading::Mesh(input) => Ok(reply_to_measured(alloc, &input.mesh)?),
+        InputReading::Refused(line) => Ok(invalid_input(alloc, line)),
     }
 }
 

@@ -1,0 +1,84 @@
+//! Reads the first input of a command: a mesh as `build` writes it, or one that `finish` wrote with comments. Depends on
+//! `mesh_provenance`, which parses the bytes of a file, and on `sha2`.
+ghost use Rattle.std.specs.Prelude.{◌≡◌, ◌≤◌, false, length, ℕ, IfOk, IfSome};
+ghost use Rattle.sha2.specs.Sha256.{sha256};
+ghost use Rattle.host.specs.Whole.{OnlyReads};
+ghost use Rattle.command_run.specs.Steps.{CountsFaults};
+ghost use Rattle.mesh_cmd.specs.Input.{IsInputReading, IsUnderstoodInput, IsFileIfRead};
+
+use command_run::{Line, NoMemory, Stop, line_of_mesh_error, line_of_too_long_mesh};
+use host::{Host, ReadRefusal, read_all};
+use mesh_ply::Mesh;
+use mesh_provenance::{AnnotatedMesh, Provenance, read_annotated};
+use sha2::{Digest, Sha256};
+use std::alloc::Global;
+
+/// A mesh that was read.
+#[derive(Drop)]
+pub struct InputMesh {
+    /// The mesh.
+    pub mesh: Mesh,
+    /// Where it comes from, if the file states that.
+    pub provenance: Option<Provenance>,
+    /// The SHA-256 of the file's bytes.
+    pub digest: [u8; 32],
+}
+
+/// The result of reading a mesh.
+#[derive(Drop)]
+pub enum InputReading {
+    /// The mesh of the file.
+    Mesh(InputMesh),
+    /// The file is rejected, and this line states why.
+    Refused(Line),
+}
+
+/// Reads the mesh of the named file, once. Its bytes are freed. The file may be as long as the limit.
+pub fn read_input<H: Host>(
+    alloc: Global,
+    host: &mut H,
+    name: &str,
+    limit: u64,
+) -> Result<InputReading, Stop>
+    requires { (H.state host.old).writing ≡ false }
+    ensures read { IfOk result (λ reading. IfSome (H.state host.old).told (IsInputReading limit name.now reading)) }
+    ensures file { IfOk result IsFileIfRead }
+    ensures only { OnlyReads (H.state host.old) (H.state host.new) }
+    ensures cause { CountsFaults result (H.state host.old).faults (H.state host.new).faults }
+{
+    let bytes = match read_all(alloc, host, name, limit) {
+        Ok(bytes) => bytes,
+        Err(ReadRefusal::TooLong) => return Ok(InputReading::Refused(Line::Fixed(
+            line_of_too_long_mesh(),
+        ))),
+        Err(ReadRefusal::Failed) => return Err(Stop::Failed),
+        Err(ReadRefusal::NoMemory) => return Err(Stop::NoMemory),
+    };
+    Ok(understand_input(alloc, &bytes)?)
+}
+
+/// Parses the bytes of a mesh's file.
+fn understand_input(alloc: Global, bytes: &[u8]) -> Result<InputReading, NoMemory>
+    ensures understood { (limit : ℕ) → length bytes.now ≤ limit → IfOk result (IsUnderstoodInput limit bytes.now) }
+    ensures file { IfOk result IsFileIfRead }
+{
+    match read_annotated(alloc, bytes) {
+        Ok(read) => {
+            let AnnotatedMesh { mesh, provenance } = read;
+            let digest = digest_of(bytes);
+            Ok(InputReading::Mesh(InputMesh {
+                mesh,
+                provenance,
+                digest,
+            }))
+        }
+        Err(why) => Ok(InputReading::Refused(Line::Made(line_of_mesh_error(alloc, why)?))),
+    }
+}
+
+/// Returns the SHA-256 of the bytes.
+fn digest_of(bytes: &[u8]) -> [u8; 32]
+    ensures { result ≡ sha256 bytes.now }
+{
+    Sha256::digest(bytes)
+}
