@@ -172,7 +172,7 @@ const CURES: [(&[&str], &str); 31] = [
     ),
     (
         &["29 mesh_line", "30 mesh_cut"],
-        "of slice and export: the mesh was changed after build wrote it: edited, saved by a viewer, converted to floats or other line ends (then n is 1), or truncated: use the original file",
+        "of slice and export: the mesh was changed after build wrote it: edited, saved by a viewer, converted to floats or other line ends (then n is 1), or truncated: use the original file. A mesh of recon-mesh has comments: write it with comments=no",
     ),
 ];
 
