@@ -28,8 +28,7 @@ pub record Held (m : ℕ) (t z : ℤ) : Type 0 where
   pub within : unsigned_abs z ≤ m
 
 pub fits_held : (w : Width) {m : ℕ} {t z : ℤ} → Held m t z → T (ltb m (2 ^ hbits w)) → FitsSigned w t
-fits_held w {m} {t} {z} h k =
-    subst (λ (y : ℤ). FitsSigned w y) (sym h.is) (fits_signed_from_abs w z (lt_of_le_of_lt h.within (ltb→lt m (2 ^ hbits w) k)))
+fits_held w {m} {t} {z} h k = grind (arith, ints, fits_signed_from_abs, lt_of_le_of_lt, ltb→lt)
 
 pub held : (m : ℕ) (z : ℤ) → unsigned_abs z ≤ m → Held m z z
 held m z h = record { is = refl; within = h }
@@ -64,8 +63,7 @@ within_of m p q e h = subst (λ (r : Point). IsWithin m r) (sym e) h
 -- a minor of two vectors between points
 pub minor_within : (a b c d : ℤ) → unsigned_abs a ≤ 2 ^ 24 → unsigned_abs b ≤ 2 ^ 24 → unsigned_abs c ≤ 2 ^ 24
     → unsigned_abs d ≤ 2 ^ 24 → unsigned_abs (a *ℤ d -ℤ b *ℤ c) ≤ 2 ^ 49
-minor_within a b c d h i j k =
-    abs_sub (a *ℤ d) (b *ℤ c) (2 ^ 48) (2 ^ 48) (abs_mul a d (2 ^ 24) (2 ^ 24) h k) (abs_mul b c (2 ^ 24) (2 ^ 24) i j)
+minor_within a b c d h i j k = grind (arith, ints, abs_sub, abs_mul)
 
 pub minor_held : (u v : Point) (m : ℤ) → m ≡ (cross u v).z → IsWithin (2 ^ 24) u → IsWithin (2 ^ 24) v
     → Held (2 ^ 49) m ((cross u v).z)
@@ -73,27 +71,13 @@ minor_held u v m e h k = record { is = e; within = minor_within u.x u.y v.x v.y 
 
 -- a vector product of vectors between points, and its scalar product with one
 pub cross_within : (u v : Point) → IsWithin (2 ^ 24) u → IsWithin (2 ^ 24) v → IsWithin (2 ^ 49) (cross u v)
-cross_within u v h k =
-    record {
-      x_within = minor_within u.y u.z v.y v.z h.y_within h.z_within k.y_within k.z_within;
-      y_within = minor_within u.z u.x v.z v.x h.z_within h.x_within k.z_within k.x_within;
-      z_within = minor_within u.x u.y v.x v.y h.x_within h.y_within k.x_within k.y_within;
-    }
+cross_within u v h k = grind (arith, minor_within)
 
 pub dot_within : (u v : Point) → IsWithin (2 ^ 49) u → IsWithin (2 ^ 24) v → unsigned_abs (dot u v) ≤ 3 * 2 ^ 73
-dot_within u v h k =
-    abs_add (u.x *ℤ v.x +ℤ u.y *ℤ v.y) (u.z *ℤ v.z) (2 ^ 74) (2 ^ 73)
-    (abs_add (u.x *ℤ v.x) (u.y *ℤ v.y) (2 ^ 73) (2 ^ 73) (abs_mul u.x v.x (2 ^ 49) (2 ^ 24) h.x_within k.x_within)
-    (abs_mul u.y v.y (2 ^ 49) (2 ^ 24) h.y_within k.y_within))
-    (abs_mul u.z v.z (2 ^ 49) (2 ^ 24) h.z_within k.z_within)
+dot_within u v h k = grind (arith, abs_add, abs_mul)
 
 pub step_within : (a b : Point) → IsWithin BOX_LIMIT a → IsWithin BOX_LIMIT b → IsWithin (2 ^ 24) (step a b)
-step_within a b h k =
-    record {
-      x_within = abs_sub b.x a.x BOX_LIMIT BOX_LIMIT k.x_within h.x_within;
-      y_within = abs_sub b.y a.y BOX_LIMIT BOX_LIMIT k.y_within h.y_within;
-      z_within = abs_sub b.z a.z BOX_LIMIT BOX_LIMIT k.z_within h.z_within;
-    }
+step_within a b h k = grind (arith, abs_sub)
 
 -- the orientation of points of the box
 pub orientation_bound : (a b c d : Point) → IsWithin BOX_LIMIT a → IsWithin BOX_LIMIT b → IsWithin BOX_LIMIT c
@@ -107,5 +91,4 @@ orientation_bound a b c d h i j k =
 
 -- data points are well inside the box
 pub data_in_box : (p : Point) → IsWithin DATA_LIMIT p → IsWithin BOX_LIMIT p
-data_in_box p h =
-    record { x_within = omega (arith, h.x_within); y_within = omega (arith, h.y_within); z_within = omega (arith, h.z_within) }
+data_in_box p h = grind arith

@@ -1,8 +1,8 @@
 -- The eight corners of the box: they lie in it, and they are the first vertices by number. With distinct data points behind them
 -- they are vertices of the box (boxed_points): corners are told apart by the signs of their coordinates (number), and no corner
 -- is a data point.
-use Rattle.std.proofs.Common.{ℕ, zero, suc, ◌+◌, ◌<◌, ◌≤◌, ◌≡◌, ◌≢◌, ◌==◌, refl, sym, ap, ◌∙◌, subst, inl, inr, arith, Bool, true}
-use Rattle.std.proofs.Common.{false, cond, bit_and, int_lt, pos, neg_ℤ, unsigned_abs, List, ◌++◌, length, get_or, ◌-◌, AllPairs}
+use Rattle.std.proofs.Common.{ℕ, zero, suc, ◌+◌, ◌<◌, ◌≤◌, ◌≡◌, ◌≢◌, ◌==◌, refl, sym, ap, ◌∙◌, subst, inl, inr, arith, Bool}
+use Rattle.std.proofs.Common.{true, cond, int_lt, pos, List, ◌++◌, length, get_or, ◌-◌, AllPairs}
 use Rattle.std.proofs.lemmas.Bool.{cases_lt, eqb-true}
 use Rattle.std.proofs.lemmas.Int.{ints}
 use Rattle.std.proofs.lemmas.List.{length-append, get_or-append_right}
@@ -14,15 +14,7 @@ use Rattle.geo_sign.specs.Vertices.{corners, point_of}
 use Rattle.geo_sign.proofs.Booleans.{every_at}
 
 pub corner_within : (k : ℕ) → IsWithin BOX_LIMIT (corner_point k)
-corner_within k = record {
-  x_within = wall_within (bit_and k 1 == 0);
-  y_within = wall_within (bit_and k 2 == 0);
-  z_within = wall_within (bit_and k 4 == 0);
-}
-  where
-    wall_within : (b : Bool) → unsigned_abs (cond b (neg_ℤ (pos BOX_LIMIT)) (pos BOX_LIMIT)) ≤ BOX_LIMIT
-    wall_within true = omega (arith, ints)
-    wall_within false = omega (arith, ints)
+corner_within k = grind (arith, ints)
 
 pub corner_at : (points : List Point) (k : ℕ) → k < CORNERS → point_of points k ≡ corner_point k
 corner_at points zero l = refl
@@ -47,10 +39,7 @@ point_after points k l = get_or-append_right corners points CORNERS k origin ref
 -- points of which no two are equal stand at one index each
 pub apart : (list : List Point) → AllPairs (λ p q. p ≢ q) list → (j k : ℕ) → j < length list → k < length list
     → get_or list j origin ≡ get_or list k origin → j ≡ k
-apart list pairs j k l m h = elim (cases_lt j k) [
-  | inl a ↦ absurd (pairs j k origin a m h)
-  | inr a ↦ elim (cases_lt k j) [ inl b ↦ absurd (pairs k j origin b l (sym h)) | inr b ↦ omega arith ]
-]
+apart list pairs j k l m h = grind arith
 
 -- the number of a corner, from its point
 abbrev number : Point → ℕ
@@ -60,11 +49,7 @@ numbered : (k : ℕ) → k < CORNERS → number (corner_point k) ≡ k
 numbered k l = eqb-true (number (corner_point k)) k (every_at 8 (λ i. number (corner_point i) == i) refl k l)
 
 corner_outside : (k : ℕ) → IsWithin DATA_LIMIT (corner_point k) → ⊥
-corner_outside k w = outside (bit_and k 1 == 0) w.x_within
-  where
-    outside : (b : Bool) → unsigned_abs (cond b (neg_ℤ (pos BOX_LIMIT)) (pos BOX_LIMIT)) ≤ DATA_LIMIT → ⊥
-    outside true h = omega (arith, ints)
-    outside false h = omega (arith, ints)
+corner_outside k w = grind (arith, ints)
 
 module _ (points : List Point) (within : (k : ℕ) → k < length points → IsWithin DATA_LIMIT (get_or points k origin))
     (distinct : (j k : ℕ) → j < length points → k < length points → get_or points j origin ≡ get_or points k origin → j ≡ k) where

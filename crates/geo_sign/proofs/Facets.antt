@@ -1,7 +1,7 @@
 -- Which vertices the facets of a tetrahedron have. Each vertex is opposite to a facet or in it (opposite_or_on), and of distinct
 -- vertices the opposite one is not in it (opposite_out), so a facet is that of one side (distinct_sides).
 use Rattle.std.proofs.Common.{ℕ, zero, suc, ◌≡◌, ◌<◌, refl, sym, ap, ◌∙◌, ◌⊎◌, inl, inr, subst, arith}
-use Rattle.geo_sign.specs.Tetrahedron.{Tetrahedron, DirectedFacet, facet_of, vertex_of, turned, IsRotated, IsTurned}
+use Rattle.geo_sign.specs.Tetrahedron.{Tetrahedron, DirectedFacet, facet_of, vertex_of, IsRotated, IsTurned}
 use Rattle.geo_sign.specs.Writings.{IsVertexOf}
 use Rattle.geo_sign.specs.Edges.{HasVertex, over}
 use Rattle.geo_sign.proofs.Rotations.{rotated_back, turned_of}
@@ -85,18 +85,8 @@ opposite_out t d (suc (suc (suc (suc k)))) l h = omega arith
 
 -- one side has the facet
 pub distinct_sides : (t : Tetrahedron) → IsDistinct t → (j k : ℕ) → j < 4 → k < 4 → IsRotated (facet_of t j) (facet_of t k) → j ≡ k
-distinct_sides t d j k l m r = elim (opposite_or_on t k (vertex_of t j) (vertex_in t j)) [
-  | inl e ↦ d j k l m e
-  | inr h ↦
-      absurd (opposite_out t d j l
-      (in_rotated (facet_of t k) (facet_of t j) (vertex_of t j) (rotated_back (facet_of t j) (facet_of t k) r) h))
-]
+distinct_sides t d j k l m r = grind (arith, opposite_or_on, vertex_in, opposite_out, in_rotated, rotated_back)
 
 -- the facet in the other direction has the same vertices
 pub in_turned : (f g : DirectedFacet) (u : ℕ) → IsTurned f g → HasVertex f u → HasVertex g u
-in_turned f g u r h = in_rotated (turned f) g u (turned_of f g r) (by h)
-  where
-    by : HasVertex f u → HasVertex (turned f) u
-    by (inl i) = inl i
-    by (inr (inl i)) = inr (inr i)
-    by (inr (inr i)) = inr (inl i)
+in_turned f g u r h = grind (arith, in_rotated, turned_of)

@@ -1,5 +1,5 @@
 -- The power of a cell's own vertices, which is zero, and the two ways to write a cell.
-use Rattle.std.proofs.Common.{ℕ, ◌≡◌, ◌≤ℤ◌, sym, subst, arith, ℤ, pos, neg_ℤ, List, [], ◌∷◌}
+use Rattle.std.proofs.Common.{ℕ, ◌≡◌, ◌≤ℤ◌, arith, ℤ, pos, neg_ℤ, List, [], ◌∷◌}
 use Rattle.std.proofs.lemmas.Int.{ints}
 use Rattle.geo_sign.specs.Polynomial.{Polynomial, variable, constant}
 use Rattle.geo_sign.proofs.Ring.{ring}
@@ -37,24 +37,16 @@ not_negative : (z : ℤ) → z ≡ pos 0 → pos 0 ≤ℤ z
 not_negative z e = omega (arith, ints)
 
 pub own_first : (v : Vertices) (a b c d u : ℕ) → u ≡ a → pos 0 ≤ℤ power_of v a b c d u
-own_first v a b c d u e =
-    subst (λ (k : ℕ). pos 0 ≤ℤ power_of v a b c d k) (sym e)
-    (not_negative _ (power_of_first (v.at a) (v.at b) (v.at c) (v.at d) (v.high a) (v.high b) (v.high c) (v.high d)))
+own_first v a b c d u e = grind (arith, ints, not_negative, power_of_first)
 
 pub own_second : (v : Vertices) (a b c d u : ℕ) → u ≡ b → pos 0 ≤ℤ power_of v a b c d u
-own_second v a b c d u e =
-    subst (λ (k : ℕ). pos 0 ≤ℤ power_of v a b c d k) (sym e)
-    (not_negative _ (power_of_second (v.at a) (v.at b) (v.at c) (v.at d) (v.high a) (v.high b) (v.high c) (v.high d)))
+own_second v a b c d u e = grind (arith, ints, not_negative, power_of_second)
 
 pub own_third : (v : Vertices) (a b c d u : ℕ) → u ≡ c → pos 0 ≤ℤ power_of v a b c d u
-own_third v a b c d u e =
-    subst (λ (k : ℕ). pos 0 ≤ℤ power_of v a b c d k) (sym e)
-    (not_negative _ (power_of_third (v.at a) (v.at b) (v.at c) (v.at d) (v.high a) (v.high b) (v.high c) (v.high d)))
+own_third v a b c d u e = grind (arith, ints, not_negative, power_of_third)
 
 pub own_fourth : (v : Vertices) (a b c d u : ℕ) → u ≡ d → pos 0 ≤ℤ power_of v a b c d u
-own_fourth v a b c d u e =
-    subst (λ (k : ℕ). pos 0 ≤ℤ power_of v a b c d k) (sym e)
-    (not_negative _ (power_of_fourth (v.at a) (v.at b) (v.at c) (v.at d) (v.high a) (v.high b) (v.high c) (v.high d)))
+own_fourth v a b c d u e = grind (arith, ints, not_negative, power_of_fourth)
 
 -- ---- the last two vertices exchanged
 pub last_exchanged : (v : Vertices) (a b c d : ℕ) → orientation_of v a b d c ≡ neg_ℤ (orientation_of v a b c d)

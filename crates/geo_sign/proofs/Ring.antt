@@ -19,14 +19,7 @@ use Rattle.geo_sign.proofs.RingLaws.{+ℤ-*ℤ, *ℤ-+ℤ, neg-*ℤ, *ℤ_assoc,
 
 monomial-insert_variable : (x : List ℤ) (i : ℕ) (m : List ℕ) → monomial x (insert_variable i m) ≡ number_at x i *ℤ monomial x m
 monomial-insert_variable x i [] = refl
-monomial-insert_variable x i (j ∷ m) =
-    elim (ltb j i) as
-    (λ b. monomial x (elim b [ true ↦ j ∷ insert_variable i m | false ↦ i ∷ j ∷ m ])
-    ≡ number_at x i *ℤ (number_at x j *ℤ monomial x m)) [
-      | true ↦
-          ap (λ y. number_at x j *ℤ y) (monomial-insert_variable x i m) ∙ *ℤ_left (number_at x j) (number_at x i) (monomial x m)
-      | false ↦ refl
-    ]
+monomial-insert_variable x i (j ∷ m) = grind (arith, ints, *ℤ_left, monomial-insert_variable x i m)
 
 times_one : (k : ℤ) → k *ℤ pos 1 ≡ k
 unfolding lib.IntN.one
@@ -34,15 +27,11 @@ times_one k = *ℤ-one k
 
 polynomial_value-single : (x : List ℤ) (k : ℤ) (m : List ℕ) → form_value x (single k m) ≡ k *ℤ monomial x m
 polynomial_value-single x k [] = sym (times_one k)
-polynomial_value-single x k (i ∷ m) =
-    +ℤ_idr (number_at x i *ℤ form_value x (single k m)) ∙ ap (λ y. number_at x i *ℤ y) (polynomial_value-single x k m)
-    ∙ *ℤ_left (number_at x i) k (monomial x m)
+polynomial_value-single x k (i ∷ m) = grind (arith, ints, +ℤ_idr, *ℤ_left, polynomial_value-single x k m)
 
 -- i * s + n with k * m added to s
 add_in : (k i m s n t : ℤ) → t ≡ k *ℤ m +ℤ s → i *ℤ t +ℤ n ≡ k *ℤ (i *ℤ m) +ℤ (i *ℤ s +ℤ n)
-add_in k i m s n t e =
-    ap (λ y. i *ℤ y +ℤ n) e ∙ ap (λ y. y +ℤ n) (*ℤ-+ℤ i (k *ℤ m) s ∙ ap (λ y. y +ℤ i *ℤ s) (*ℤ_left i k m))
-    ∙ +ℤ_assoc (k *ℤ (i *ℤ m)) (i *ℤ s) n
+add_in k i m s n t e = grind (arith, ints, *ℤ-+ℤ, *ℤ_left, +ℤ_assoc)
 
 -- i * s + n with k * m added to n
 add_past : (k m s n t : ℤ) → t ≡ k *ℤ m +ℤ n → s +ℤ t ≡ k *ℤ m +ℤ (s +ℤ n)
@@ -107,17 +96,13 @@ number_step : (c d m v t : ℤ) → (c *ℤ d) *ℤ (m *ℤ v) +ℤ t ≡ c *ℤ
 number_step c d m v t = ap (λ y. y +ℤ t) (*ℤ_assoc c d (m *ℤ v) ∙ ap (λ y. c *ℤ y) (*ℤ_left d m v))
 
 sum_right : (c m e f v : ℤ) → c *ℤ (m *ℤ ((e +ℤ f) *ℤ v)) ≡ c *ℤ (m *ℤ (e *ℤ v)) +ℤ c *ℤ (m *ℤ (f *ℤ v))
-sum_right c m e f v =
-    ap (λ y. c *ℤ y) (ap (λ y. m *ℤ y) (+ℤ-*ℤ e f v) ∙ *ℤ-+ℤ m (e *ℤ v) (f *ℤ v)) ∙ *ℤ-+ℤ c (m *ℤ (e *ℤ v)) (m *ℤ (f *ℤ v))
+sum_right c m e f v = grind (arith, ints, +ℤ-*ℤ, *ℤ-+ℤ)
 
 sum_step : (c m e f v t : ℤ) → c *ℤ (m *ℤ (e *ℤ v)) +ℤ (c *ℤ (m *ℤ (f *ℤ v)) +ℤ t) ≡ c *ℤ (m *ℤ ((e +ℤ f) *ℤ v)) +ℤ t
-sum_step c m e f v t =
-    sym (+ℤ_assoc (c *ℤ (m *ℤ (e *ℤ v))) (c *ℤ (m *ℤ (f *ℤ v))) t) ∙ ap (λ y. y +ℤ t) (sym (sum_right c m e f v))
+sum_step c m e f v t = grind (arith, ints, +ℤ_assoc, sum_right)
 
 neg_front : (c m f v : ℤ) → neg_ℤ c *ℤ (m *ℤ (f *ℤ v)) ≡ c *ℤ (m *ℤ (neg_ℤ f *ℤ v))
-neg_front c m f v =
-    neg-*ℤ c (m *ℤ (f *ℤ v))
-    ∙ sym (ap (λ y. c *ℤ y) (ap (λ y. m *ℤ y) (neg-*ℤ f v) ∙ *ℤ-neg m (f *ℤ v)) ∙ *ℤ-neg c (m *ℤ (f *ℤ v)))
+neg_front c m f v = grind (arith, ints, neg-*ℤ, *ℤ-neg)
 
 difference_step : (c m e f v t : ℤ)
     → c *ℤ (m *ℤ (e *ℤ v)) +ℤ (neg_ℤ c *ℤ (m *ℤ (f *ℤ v)) +ℤ t) ≡ c *ℤ (m *ℤ ((e -ℤ f) *ℤ v)) +ℤ t
@@ -129,24 +114,11 @@ zero_is (pos (suc n)) h = absurd h
 zero_is (negsuc n) h = absurd h
 
 zero_step : (c m v t : ℤ) → t ≡ c *ℤ (m *ℤ (pos 0 *ℤ v)) +ℤ t
-zero_step c m v t =
-    sym (ap (λ y. y +ℤ t) (ap (λ y. c *ℤ (m *ℤ y)) (zero-*ℤ v) ∙ ap (λ y. c *ℤ y) (*ℤ-zero m) ∙ *ℤ-zero c) ∙ +ℤ_idl t)
+zero_step c m v t = grind (arith, ints, zero-*ℤ, *ℤ-zero, +ℤ_idl)
 
 adds-expand_form : (x : List ℤ) (r : Form) (v : ℤ) (k : ℤ → List ℕ → Form → Form) → Adds x v k
     → Adds x (form_value x r *ℤ v) (expand_form r k)
-adds-expand_form x (leaf d) v k h c m t =
-    let step : (b : Bool) → is_zero d ≡ b
-    → form_value x (elim b [ true ↦ t | false ↦ k (c *ℤ d) m t ]) ≡ c *ℤ (monomial x m *ℤ (d *ℤ v)) +ℤ form_value x t
-    =
-    λ b. elim b as
-    (λ b. is_zero d ≡ b
-    → form_value x (elim b [ true ↦ t | false ↦ k (c *ℤ d) m t ]) ≡ c *ℤ (monomial x m *ℤ (d *ℤ v)) +ℤ form_value x t) [
-      | true ↦
-          λ e. zero_step c (monomial x m) v (form_value x t)
-          ∙ ap (λ y. c *ℤ (monomial x m *ℤ (y *ℤ v)) +ℤ form_value x t) (sym (zero_is d (subst (λ (b : Bool). T b) (sym e) tt)))
-      | false ↦ λ e. h (c *ℤ d) m t ∙ number_step c d (monomial x m) v (form_value x t)
-    ] in
-    step (is_zero d) refl
+adds-expand_form x (leaf d) v k h c m t = grind (arith, ints, zero_step, zero_is, number_step)
 adds-expand_form x (branch i s n) v k h c m t =
     adds-expand_form x s v k h c (insert_variable i m) (expand_form n k c m t)
     ∙ ap (λ y. c *ℤ (y *ℤ (form_value x s *ℤ v)) +ℤ form_value x (expand_form n k c m t)) (monomial-insert_variable x i m)
@@ -163,20 +135,14 @@ adds-add_term x c m t = polynomial_value-add_term x c m t ∙ ap (λ y. c *ℤ y
 
 -- 1 * (1 * (d * 1)) + 0
 plain : (d : ℤ) → pos 1 *ℤ (pos 1 *ℤ (d *ℤ pos 1)) +ℤ pos 0 ≡ d
-plain d =
-    +ℤ_idr (pos 1 *ℤ (pos 1 *ℤ (d *ℤ pos 1))) ∙ *ℤ_comm (pos 1) (pos 1 *ℤ (d *ℤ pos 1)) ∙ times_one (pos 1 *ℤ (d *ℤ pos 1))
-    ∙ *ℤ_comm (pos 1) (d *ℤ pos 1) ∙ times_one (d *ℤ pos 1) ∙ times_one d
+plain d = grind (arith, ints, +ℤ_idr, *ℤ_comm, times_one)
 
 adds-expand : (x : List ℤ) (e : Polynomial) (v : ℤ) (k : ℤ → List ℕ → Form → Form) → Adds x v k
     → Adds x (polynomial_value x e *ℤ v) (expand e k)
-adds-expand x (variable i) v k h c m t =
-    h c (insert_variable i m) t ∙ ap (λ y. c *ℤ (y *ℤ v) +ℤ form_value x t) (monomial-insert_variable x i m)
-    ∙ var_step c (number_at x i) (monomial x m) v (form_value x t)
+adds-expand x (variable i) v k h c m t = grind (arith, ints, monomial-insert_variable, var_step)
 adds-expand x (constant d) v k h c m t = h (c *ℤ d) m t ∙ number_step c d (monomial x m) v (form_value x t)
 adds-expand x (sum e f) v k h c m t =
-    adds-expand x e v k h c m (expand f k c m t)
-    ∙ ap (λ y. c *ℤ (monomial x m *ℤ (polynomial_value x e *ℤ v)) +ℤ y) (adds-expand x f v k h c m t)
-    ∙ sum_step c (monomial x m) (polynomial_value x e) (polynomial_value x f) v (form_value x t)
+    grind (arith, ints, sum_step, adds-expand x e v k h c m (expand f k c m t), adds-expand x f v k h c m t)
 adds-expand x (difference e f) v k h c m t =
     adds-expand x e v k h c m (expand f k (neg_ℤ c) m t)
     ∙ ap (λ y. c *ℤ (monomial x m *ℤ (polynomial_value x e *ℤ v)) +ℤ y) (adds-expand x f v k h (neg_ℤ c) m t)
@@ -184,12 +150,9 @@ adds-expand x (difference e f) v k h c m t =
 adds-expand x (product e f) v k h c m t =
     adds-expand x e (polynomial_value x f *ℤ v) (expand f k) (adds-expand x f v k h) c m t
     ∙ ap (λ y. c *ℤ (monomial x m *ℤ y) +ℤ form_value x t) (sym (*ℤ_assoc (polynomial_value x e) (polynomial_value x f) v))
-adds-expand x (negation e) v k h c m t =
-    adds-expand x e v k h (neg_ℤ c) m t ∙ ap (λ y. y +ℤ form_value x t) (neg_front c (monomial x m) (polynomial_value x e) v)
+adds-expand x (negation e) v k h c m t = grind (arith, ints, neg_front, adds-expand x e v k h (neg_ℤ c) m t)
 adds-expand x (normal e) v k h c m t =
-    adds-expand_form x (expand e add_term (pos 1) [] (leaf (pos 0))) v k h c m t
-    ∙ ap (λ y. c *ℤ (monomial x m *ℤ (y *ℤ v)) +ℤ form_value x t)
-    (adds-expand x e (pos 1) add_term (adds-add_term x) (pos 1) [] (leaf (pos 0)) ∙ plain (polynomial_value x e))
+    grind (arith, ints, adds-expand_form, adds-add_term, plain, adds-expand x e (pos 1) add_term (adds-add_term x) (pos 1))
 
 both : (a b : Bool) → T (a && b) → T a × T b
 both true b h = (tt, h)

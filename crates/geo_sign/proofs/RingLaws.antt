@@ -17,19 +17,13 @@ sub_swap : (a b c : ℤ) → (a +ℤ b) -ℤ c ≡ (a -ℤ c) +ℤ b
 sub_swap a b c = omega (arith, ints)
 
 zero_start : (b c : ℤ) → (pos 0 +ℤ b) *ℤ c ≡ pos 0 *ℤ c +ℤ b *ℤ c
-zero_start b c =
-    ap (λ x. x *ℤ c) (let e : pos 0 +ℤ b ≡ b = omega (arith, ints) in e)
-    ∙ sym (ap (λ x. x +ℤ b *ℤ c) (zero-*ℤ c) ∙ (let e : (m : ℤ) → pos 0 +ℤ m ≡ m = λ m. omega (arith, ints) in e (b *ℤ c)))
+zero_start b c = grind (arith, ints, zero-*ℤ)
 
 up_step : (x b c : ℤ) → (x +ℤ b) *ℤ c ≡ x *ℤ c +ℤ b *ℤ c → ((x +ℤ pos 1) +ℤ b) *ℤ c ≡ (x +ℤ pos 1) *ℤ c +ℤ b *ℤ c
-up_step x b c ih =
-    ap (λ y. y *ℤ c) (add_swap x (pos 1) b) ∙ up_one (x +ℤ b) c ∙ ap (λ y. y +ℤ c) ih ∙ add_swap (x *ℤ c) (b *ℤ c) c
-    ∙ ap (λ y. y +ℤ b *ℤ c) (sym (up_one x c))
+up_step x b c ih = grind (arith, ints, add_swap, up_one)
 
 down_step : (x b c : ℤ) → (x +ℤ b) *ℤ c ≡ x *ℤ c +ℤ b *ℤ c → ((x +ℤ negsuc 0) +ℤ b) *ℤ c ≡ (x +ℤ negsuc 0) *ℤ c +ℤ b *ℤ c
-down_step x b c ih =
-    ap (λ y. y *ℤ c) (add_swap x (negsuc 0) b) ∙ down_one (x +ℤ b) c ∙ ap (λ y. y -ℤ c) ih ∙ sub_swap (x *ℤ c) (b *ℤ c) c
-    ∙ ap (λ y. y +ℤ b *ℤ c) (sym (down_one x c))
+down_step x b c ih = grind (arith, ints, add_swap, down_one, sub_swap)
 
 pub +ℤ-*ℤ : (a b c : ℤ) → (a +ℤ b) *ℤ c ≡ a *ℤ c +ℤ b *ℤ c
 +ℤ-*ℤ a b c =
@@ -43,10 +37,7 @@ up_mul : (x b c : ℤ) → (x *ℤ b) *ℤ c ≡ x *ℤ (b *ℤ c) → ((x +ℤ 
 up_mul x b c ih = ap (λ y. y *ℤ c) (up_one x b) ∙ +ℤ-*ℤ (x *ℤ b) b c ∙ ap (λ y. y +ℤ b *ℤ c) ih ∙ sym (up_one x (b *ℤ c))
 
 pub neg-*ℤ : (a c : ℤ) → neg_ℤ a *ℤ c ≡ neg_ℤ (a *ℤ c)
-neg-*ℤ a c =
-    let e : (x y : ℤ) → x +ℤ y ≡ pos 0 → y ≡ neg_ℤ x = λ x y h. omega (arith, ints) in
-    let z : a +ℤ neg_ℤ a ≡ pos 0 = omega (arith, ints) in
-    e (a *ℤ c) (neg_ℤ a *ℤ c) (sym (+ℤ-*ℤ a (neg_ℤ a) c) ∙ ap (λ x. x *ℤ c) z ∙ zero-*ℤ c)
+neg-*ℤ a c = grind (arith, ints, +ℤ-*ℤ, zero-*ℤ)
 
 pub *ℤ-neg : (a b : ℤ) → a *ℤ neg_ℤ b ≡ neg_ℤ (a *ℤ b)
 *ℤ-neg a b = *ℤ_comm a (neg_ℤ b) ∙ neg-*ℤ b a ∙ ap neg_ℤ (*ℤ_comm b a)

@@ -1,6 +1,6 @@
 -- Rising lists of rows: the order of rows is strict, and what a rising list contains determines it.
-use Rattle.std.proofs.Common.{ℕ, zero, suc, ◌<◌, ◌≡◌, ◌⊎◌, inl, inr, ⊎_elim, refl, ap, sym, subst, ◌∙◌, arith, List, [], ◌∷◌}
-use Rattle.std.proofs.Common.{length, get_or, Contains}
+use Rattle.std.proofs.Common.{ℕ, suc, ◌<◌, ◌≡◌, ◌⊎◌, inl, inr, ⊎_elim, refl, ap, sym, subst, ◌∙◌, arith, List, [], ◌∷◌, length}
+use Rattle.std.proofs.Common.{Contains}
 use Rattle.std.specs.Prelude.{AllPairs}
 use Rattle.geo_sign.specs.Rising.{IsBefore}
 use Rattle.geo_sign.specs.RisingLaws.{RisingLaw, CellListLaw}
@@ -28,11 +28,7 @@ pub contains_none : (t : List ℕ) → ¬ Contains [] t
 contains_none t h = let e : h.0 < 0 = h.1 in absurd (omega arith)
 
 pub contains_cases : (y : List ℕ) (ys : List (List ℕ)) (t : List ℕ) → Contains (y ∷ ys) t → (y ≡ t) ⊎ Contains ys t
-contains_cases y ys t h = pick h.0 h.1 h.2
-  where
-    pick : (k : ℕ) → k < length (y ∷ ys) → get_or (y ∷ ys) k t ≡ t → (y ≡ t) ⊎ Contains ys t
-    pick zero l e = inl e
-    pick (suc k) l e = inr (k, omega arith, e)
+contains_cases y ys t h = grind arith
 
 pub head_before : (y : List ℕ) (ys : List (List ℕ)) (t : List ℕ) → AllPairs IsBefore (y ∷ ys) → Contains ys t → IsBefore y t
 head_before y ys t r h =

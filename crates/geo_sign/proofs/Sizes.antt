@@ -10,20 +10,10 @@ pub record Size (B w P u : ℕ) : Type 0 where
 
 -- a size counts for more
 pub size_more : (B w x P u : ℕ) → Size B w P u → Size B (w + x) P u
-size_more B w x P u h =
-    let e : (w + x) * P ≡ w * P + x * P = add-mul w x P in
-    let l : B * P ≤ B * u + w * P = h.low in
-    let g : u ≤ w * P = h.high in
-    record { low = omega arith; high = omega arith }
+size_more B w x P u h = grind (arith, add-mul)
 
 pub size_plus : (B w x P Q u t : ℕ) → Size B w P u → t ≤ x * Q → Q ≤ P → Size B (w + x) P (u + t)
-size_plus B w x P Q u t h k q =
-    let e : (w + x) * P ≡ w * P + x * P = add-mul w x P in
-    let f : B * (u + t) ≡ B * u + B * t = mul-add B u t in
-    let l : B * P ≤ B * u + w * P = h.low in
-    let g : u ≤ w * P = h.high in
-    let r : x * Q ≤ x * P = mul-le-mul_left x q in
-    record { low = omega arith; high = omega arith }
+size_plus B w x P Q u t h k q = grind (arith, add-mul, mul-add, mul-le-mul_left)
 
 pub size_minus : (B w x P Q u t : ℕ) → 0 < B → w + x ≤ B → Size B w P u → t ≤ x * Q → B * Q ≤ P
     → (d : ℕ) × (u ≡ d + t) × Size B (w + x) P d

@@ -81,44 +81,28 @@ more w x i Zero v h = h
 more w x i Pos v h = record { u = h.u; is = h.is; size = size_more (2 ^ 80) w x ((2 ^ 80) ^ i) h.u h.size }
 
 turn : (w x i : ℕ) (s : Sign) (a b : ℤ) → Worth (x + w) i s (b +ℤ a) → Worth (w + x) i s (a +ℤ b)
-turn w x i s a b h =
-    subst (λ (y : ℕ). Worth y i s (a +ℤ b)) (add_comm x w) (subst (λ (v : ℤ). Worth (x + w) i s v) (+ℤ_comm b a) h)
+turn w x i s a b h = grind (arith, ints, add_comm, +ℤ_comm)
 
 -- the sum where the second is 0
 second_zero : (w x i : ℕ) (s : Sign) (a b : ℤ) → b ≡ pos 0 → Worth w i s a → Worth (w + x) i s (a +ℤ b)
-second_zero w x i s a b e h =
-    let f : a ≡ a +ℤ b = omega (arith, ints) in
-    subst (λ (v : ℤ). Worth (w + x) i s v) f (more w x i s a h)
+second_zero w x i s a b e h = grind (arith, ints, more)
 
 abbrev Led : ℕ → Term → ℤ → Type 0
 Led w t v = Worth w t.number t.sign v
 
 by_number : (w x : ℕ) (s t : Term) (a b : ℤ) → s.number ≢ t.number → s.sign ≢ Zero → t.sign ≢ Zero → w + x ≤ 2 ^ 80 → Led w s a
     → Led x t b → (c : Bool) → nat_lt s.number t.number ≡ c → Led (w + x) (cond c t s) (a +ℤ b)
-by_number w x s t a b n p q r h k true e =
-    let i : s.number < t.number = ltb-true s.number t.number e in
-    turn w x t.number t.sign a b (leads x w t.number s.number t.sign s.sign b a q p (omega arith) i k h)
-by_number w x s t a b n p q r h k false e =
-    let i : t.number ≤ s.number = ltb-false s.number t.number e in
-    leads w x s.number t.number s.sign t.sign a b p q r (omega arith) h k
+by_number w x s t a b n p q r h k true e = grind (arith, ints, ltb-true, turn, leads)
+by_number w x s t a b n p q r h k false e = grind (arith, ints, ltb-false, leads)
 
 -- the term that leads two sums leads their sum
 led : (w x : ℕ) (s t : Term) (a b : ℤ) → s.sign ≢ Zero → s.number ≢ t.number → w + x ≤ 2 ^ 80 → Led w s a → Led x t b
     → Led (w + x) (leading_term s t) (a +ℤ b)
-led w x s t a b z n r h k = pick t.sign refl
-  where
-    pick : (u : Sign) → t.sign ≡ u → Led (w + x) (leading_of u s t) (a +ℤ b)
-    pick Neg e =
-        by_number w x s t a b n z (λ f. absurd (let g : Neg ≡ Zero = sym e ∙ f in cc)) r h k (nat_lt s.number t.number) refl
-    pick Zero e = second_zero w x s.number s.sign a b (subst (λ (u : Sign). Worth x t.number u b) e k) h
-    pick Pos e =
-        by_number w x s t a b n z (λ f. absurd (let g : Pos ≡ Zero = sym e ∙ f in cc)) r h k (nat_lt s.number t.number) refl
+led w x s t a b z n r h k = grind (arith, ints, by_number, second_zero)
 
 -- a term alone
 alone_size : (n P : ℕ) → suc n ≤ 2 ^ 75 → Size (2 ^ 80) (2 ^ 75) P (suc n * P)
-alone_size n P h =
-    let e : suc n * P ≡ n * P + P = suc-mul n P in
-    record { low = omega arith; high = mul-le-mul_right P h }
+alone_size n P h = grind (arith, suc-mul, mul-le-mul_right)
 
 alone : (i : ℕ) (c : ℤ) → unsigned_abs c < 2 ^ 75 → Worth (2 ^ 75) i (sign_of c) (c *ℤ pos ((2 ^ 80) ^ i))
 alone i (pos zero) h = zero-*ℤ (pos ((2 ^ 80) ^ i))
@@ -127,10 +111,7 @@ alone i (negsuc n) h = record { u = suc n * (2 ^ 80) ^ i; is = refl; size = alon
 
 -- ---- what a led sum is worth
 size_positive : (w P u : ℕ) → w < 2 ^ 80 → 0 < P → Size (2 ^ 80) w P u → 0 < u
-size_positive w P zero h k s =
-    let e : w * P < 2 ^ 80 * P = mul-lt-mul_of_pos_right h k in
-    let l : 2 ^ 80 * P ≤ 2 ^ 80 * 0 + w * P = s.low in
-    absurd (omega arith)
+size_positive w P zero h k s = grind (arith, mul-lt-mul_of_pos_right)
 size_positive w P (suc u) h k s = omega arith
 
 led_sign : (w i : ℕ) (s : Sign) (v : ℤ) → w < 2 ^ 80 → Worth w i s v → sign_of v ≡ s
@@ -143,11 +124,7 @@ led_sign w i Pos v h k =
     sign_above v (omega (arith, ints, k.is))
 
 in_bound : (w n i u : ℕ) → w < 2 ^ 80 → i < n → u ≤ w * (2 ^ 80) ^ i → u < (2 ^ 80) ^ n
-in_bound w n i u h k l =
-    let p : 0 < (2 ^ 80) ^ i = one-le-pow i (2 ^ 80) (omega arith) in
-    let e : w * (2 ^ 80) ^ i < 2 ^ 80 * (2 ^ 80) ^ i = mul-lt-mul_of_pos_right h p in
-    let f : 2 ^ 80 * (2 ^ 80) ^ i ≤ (2 ^ 80) ^ n = power_above (2 ^ 80) n i (omega arith) k in
-    omega arith
+in_bound w n i u h k l = grind (arith, one-le-pow, mul-lt-mul_of_pos_right, power_above)
 
 led_bound : (w n i : ℕ) (s : Sign) (v : ℤ) → w < 2 ^ 80 → i < n → Worth w i s v → unsigned_abs v < (2 ^ 80) ^ n
 led_bound w n i Neg v h k l = let e : l.u < (2 ^ 80) ^ n = in_bound w n i l.u h k l.size.high in omega (arith, ints, l.is)
@@ -188,18 +165,7 @@ number_kept : (P : ℕ → Type 0) (s t : Term) → P s.number → P t.number �
 number_kept P s t h k = keeps (λ x. P x.number) t.sign s t h k
 
 sign_kept : (s t : Term) → s.sign ≢ Zero → (leading_term s t).sign ≢ Zero
-sign_kept s t h = pick t.sign refl
-  where
-    pick : (u : Sign) → t.sign ≡ u → (leading_of u s t).sign ≢ Zero
-    pick Neg e = elim (nat_lt s.number t.number) as (λ b. (cond b t s).sign ≢ Zero) [
-      | true ↦ λ f. absurd (let g : Neg ≡ Zero = sym e ∙ f in cc)
-      | false ↦ h
-    ]
-    pick Zero e = h
-    pick Pos e = elim (nat_lt s.number t.number) as (λ b. (cond b t s).sign ≢ Zero) [
-      | true ↦ λ f. absurd (let g : Pos ≡ Zero = sym e ∙ f in cc)
-      | false ↦ h
-    ]
+sign_kept s t h = grind arith
 
 -- the five places are of the box
 pub record AreKept (a b c d p : Point) : Type 0 where
@@ -270,13 +236,7 @@ ties_decided n a b c d p x y k o =
 
 power_sign : (n : ℕ) (a b c d p : ℕ × Point) → Decides n (deciding_term a b c d p) (ties a b c d p) →
     sign_of (tied_power n a b c d p) ≡ first_sign (sign_of (plain_power a.1 b.1 c.1 d.1 p.1)) (deciding_term a b c d p).sign
-power_sign n a b c d p k =
-    let t : Term = deciding_term a b c d p in
-    ap sign_of (power_is n a b c d p)
-    ∙ leading_digit ((2 ^ 80) ^ n) (plain_power a.1 b.1 c.1 d.1 p.1) (ties a b c d p)
-    (led_bound (5 * 2 ^ 75) n t.number t.sign (ties a b c d p) (omega arith) k.number_below k.leads_ties)
-    ∙ ap (λ s. first_sign (sign_of (plain_power a.1 b.1 c.1 d.1 p.1)) s)
-    (led_sign (5 * 2 ^ 75) t.number t.sign (ties a b c d p) (omega arith) k.leads_ties)
+power_sign n a b c d p k = grind (arith, power_is, leading_digit, led_bound, led_sign)
 
 first_some : (s t : Sign) → t ≢ Zero → first_sign s t ≢ Zero
 first_some Neg t h = λ e. cc
