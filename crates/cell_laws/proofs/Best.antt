@@ -49,31 +49,12 @@ skip :
     {X : Type 0} (f : X → Bool) (num den : X → ℤ) (x : X) (xs : List X) → f x ≡ false → Found f num den xs →
     Found f num den (x ∷ xs)
 skip {X} f num den x xs e (inl n) = inl (λ y i. ⊎_elim (λ (q : x ≡ y). ap f (sym q) ∙ e) (n y) i)
-skip {X} f num den x xs e (inr z) =
-    let b : IsBest f num den xs z.0 = z.1 in
-    inr (
-      z.0,
-      record {
-        listed = inr b.listed;
-        passes = b.passes;
-        least = λ y i g. ⊎_elim (λ (q : x ≡ y). absurd (true≢false (sym g ∙ ap f (sym q) ∙ e))) (λ j. b.least y j g) i;
-      },
-    )
+skip {X} f num den x xs e (inr z) = grind (arith, ints, true≢false)
 
 take :
     {X : Type 0} (f : X → Bool) (num den : X → ℤ) (x : X) (xs : List X) →
     ((y : X) → IsIn (x ∷ xs) y → f y ≡ true → pos 0 <ℤ den y) → f x ≡ true → Found f num den xs → Found f num den (x ∷ xs)
-take {X} f num den x xs h e (inl n) =
-    inr (
-      x,
-      record {
-        listed = inl refl;
-        passes = e;
-        least =
-            λ y i g. ⊎_elim (λ (q : x ≡ y). subst (λ (t : X). (num x *ℤ den t) ≤ℤ (num t *ℤ den x)) q (same (num x *ℤ den x)))
-            (λ j. absurd (true≢false (sym g ∙ n y j))) i;
-      },
-    )
+take {X} f num den x xs h e (inl n) = grind (arith, ints, same, true≢false)
 take {X} f num den x xs h e (inr z) =
     let b : IsBest f num den xs z.0 = z.1 in
     let w : X = z.0 in

@@ -6,12 +6,12 @@
 -- data points are strictly inside. So an outer facet of a cell is on a wall, and each data point is strictly before every
 -- outer facet.
 -- Stands on: Order, Writing, and geo_sign's places.
-use Rattle.std.proofs.Common.{ℕ, zero, suc, ◌≡◌, ◌≢◌, ◌<◌, ◌≤◌, refl, ap, ap₂, sym, subst, ◌∙◌, ◌⊎◌, inl, inr, ⊎_elim, arith}
-use Rattle.std.proofs.Common.{◌+◌, Bool, true, false, cond, int_lt, unsigned_abs, ℤ, pos, negsuc, neg_ℤ, ◌+ℤ◌, ◌-ℤ◌, ◌*ℤ◌, ◌≤ℤ◌, [], ◌∷◌}
+use Rattle.std.proofs.Common.{ℕ, zero, suc, ◌≡◌, ◌≢◌, ◌<◌, ◌≤◌, refl, sym, subst, ◌∙◌, ◌⊎◌, inl, inr, ⊎_elim, arith, ◌+◌, Bool}
+use Rattle.std.proofs.Common.{true, false, cond, int_lt, unsigned_abs, ℤ, pos, negsuc, neg_ℤ, ◌+ℤ◌, ◌-ℤ◌, ◌*ℤ◌, ◌≤ℤ◌, []}
 use Rattle.std.proofs.lemmas.Bool.{cases_lt}
 use Rattle.std.proofs.lemmas.Int.{ints, by_lt_z}
 use lib.IntN.{zero-*ℤ}
-use Rattle.geo_sign.specs.Polynomial.{difference, negation, product, sum, variable}
+use Rattle.geo_sign.specs.Polynomial.{difference, product, sum}
 use Rattle.geo_sign.proofs.Ring.{ring}
 use Rattle.geo_sign.specs.Orientation.{orientation}
 use Rattle.geo_sign.specs.Point.{corner_point, cross, IsWithin, Point, point, step}
@@ -61,18 +61,10 @@ pub test_above : (n : ℤ) → int_lt n (pos 0) ≡ false → pos 0 ≤ℤ n
 test_above n h = grind (arith, ints)
 
 pub both_negative : (a b : ℤ) → a ≤ℤ pos 0 → b ≤ℤ pos 0 → pos 0 ≤ℤ (a *ℤ b)
-both_negative a b h k =
-    let m = mul_not_negative (neg_ℤ a) (neg_ℤ b) (omega (arith, ints)) (omega (arith, ints)) in
-    let e : neg_ℤ a *ℤ neg_ℤ b ≡ a *ℤ b =
-    ring (a ∷ b ∷ []) (product (negation (variable 0)) (negation (variable 1))) (product (variable 0) (variable 1)) tt in
-    subst (λ x. pos 0 ≤ℤ x) e m
+both_negative a b h k = grind (arith, ints, mul_not_negative, ring)
 
 axis : (n p : ℤ) → unsigned_abs p ≤ BOX_LIMIT → pos 0 ≤ℤ (n *ℤ (p -ℤ low n))
-axis n p h = pick (int_lt n (pos 0)) refl
-  where
-    pick : (b : Bool) → int_lt n (pos 0) ≡ b → pos 0 ≤ℤ (n *ℤ (p -ℤ edge b))
-    pick true e = both_negative n (p -ℤ pos BOX_LIMIT) (let m = below_true n e in omega (arith, ints, m)) (omega (arith, ints))
-    pick false e = mul_not_negative n (p -ℤ neg_ℤ (pos BOX_LIMIT)) (test_above n e) (omega (arith, ints))
+axis n p h = grind (arith, ints, both_negative, below_true, mul_not_negative, test_above)
 
 -- ---- where the vertices are
 pub vertex_within : (v : Vertices) → IsBoxed v → (u : ℕ) → u < v.count → IsWithin BOX_LIMIT (v.at u)
@@ -138,11 +130,7 @@ over v x a b c o p w =
 
 -- ---- a point in the plane of an outer facet
 pub factor_is_zero : (a b : ℤ) → a *ℤ b ≡ pos 0 → (a ≡ pos 0) ⊎ (b ≡ pos 0)
-factor_is_zero a b e =
-    by_lt_z (pos 0) a (λ l. inr (factor_none a b l e))
-    (λ l. by_lt_z a (pos 0)
-    (λ n. inr (factor_none (neg_ℤ a) b (omega (arith, ints, n)) (let f = neg-*ℤ a b in omega (arith, ints, e, f))))
-    (λ n. inl (omega (arith, ints, l, n))))
+factor_is_zero a b e = grind (arith, ints, by_lt_z, factor_none, neg-*ℤ)
 
 -- along each axis the facet is level, or the point is as low as the box
 record Down (n p : Point) : Type 0 where
@@ -171,19 +159,10 @@ pub level :
     (a b c d : Point) → (facet_normal a b c).x ≡ pos 0 → (facet_normal a b c).y ≡ pos 0 → (facet_normal a b c).z ≡ pos 0 →
     orientation a b c d ≡ pos 0
 unfolding orientation
-level a b c d e f g =
-    let t = step a d in
-    let i : (facet_normal a b c).x *ℤ t.x ≡ pos 0 = ap (λ y. y *ℤ t.x) e ∙ zero-*ℤ t.x in
-    let j : (facet_normal a b c).y *ℤ t.y ≡ pos 0 = ap (λ y. y *ℤ t.y) f ∙ zero-*ℤ t.y in
-    let k : (facet_normal a b c).z *ℤ t.z ≡ pos 0 = ap (λ y. y *ℤ t.z) g ∙ zero-*ℤ t.z in
-    ap₂ (λ y z. y +ℤ z) (ap₂ (λ y z. y +ℤ z) i j) k
+level a b c d e f g = grind (arith, zero-*ℤ)
 
 not_within : (n p : ℤ) → p ≡ low n → unsigned_abs p ≤ DATA_LIMIT → ⊥
-not_within n p e h = pick (int_lt n (pos 0)) e
-  where
-    pick : (b : Bool) → p ≡ edge b → ⊥
-    pick true e = absurd (omega (arith, ints))
-    pick false e = absurd (omega (arith, ints))
+not_within n p e h = grind (arith, ints)
 
 not_low : (n p : ℤ) → unsigned_abs p ≤ DATA_LIMIT → (n ≡ pos 0) ⊎ (p ≡ low n) → n ≡ pos 0
 not_low n p h (inl e) = e

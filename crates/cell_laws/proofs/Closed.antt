@@ -2,7 +2,7 @@
 -- the list the cell that is highest over this place has it, since else there would be a higher one across a facet, in the list
 -- too. The place lies strictly in one cell alone, so the cell is in the list.
 -- Stands on: Cover, and Flood (a place lies strictly in one cell).
-use Rattle.std.proofs.Common.{[], ℕ, ◌≡◌, sym, subst, ◌⊎◌, inl, inr, arith, pos, ◌+ℤ◌, ◌≤ℤ◌, ◌<ℤ◌, List, ℤ}
+use Rattle.std.proofs.Common.{[], ℕ, ◌≡◌, subst, ◌⊎◌, inl, inr, arith, pos, ◌+ℤ◌, ◌≤ℤ◌, ◌<ℤ◌, List, ℤ}
 use Rattle.std.proofs.lemmas.Int.{ints}
 use Rattle.geo_sign.specs.Polynomial.{constant, sum}
 use Rattle.geo_sign.proofs.Ring.{ring}
@@ -66,10 +66,7 @@ abbrev middle_of : Vertices → Tetrahedron → RationalPoint
 middle_of v r = middle (v.at r.a) (v.at r.b) (v.at r.c) (v.at r.d)
 
 in_middle : (v : Vertices) (r : Tetrahedron) → pos 0 <ℤ orientation_at v r → IsStrictlyIn v r (middle_of v r)
-in_middle v r h =
-    let e = middle_sides (v.at r.a) (v.at r.b) (v.at r.c) (v.at r.d) in
-    strictly v r (middle_of v r) (subst (λ t. pos 0 <ℤ t) (sym e.0) h) (subst (λ t. pos 0 <ℤ t) (sym e.1) h)
-    (subst (λ t. pos 0 <ℤ t) (sym e.2) h) (subst (λ t. pos 0 <ℤ t) (sym e.3) h)
+in_middle v r h = grind (arith, ints, middle_sides, strictly)
 
 pub closed_full :
     {X : Type 0} (v : Vertices) → IsGeneric v → (live : List X) (cell : X → Tetrahedron) → IsJoined v live cell → (x : X) →
@@ -92,11 +89,7 @@ closed_full {X} v g live cell j x i = record { cells = j.cells; all = all }
 
 -- no cell is across an outer facet
 pub outer_none : (v : Vertices) (a b c e : ℕ) → IsOuter v a b c → IsCell v a c b e → ⊥
-outer_none v a b c e o k =
-    let t = turned_orientation (v.at a) (v.at b) (v.at c) (v.at e) in
-    let h = o e k.has_d in
-    let m = k.positive in
-    absurd (omega (arith, ints, t, h, m))
+outer_none v a b c e o k = grind (arith, ints, turned_orientation)
 
 -- each facet has a cell of the list across it, or is an outer one
 pub linked_joined :

@@ -111,9 +111,7 @@ not_zero x n f g = by_lt_z x (pos 0) f (λ l. g (by_lt_z (pos 0) x (λ m. m) (λ
 inside_mix :
     (v : Vertices) (p : ℕ) (s : RationalPoint) (cell : Tetrahedron) (b a : ℤ) →
     ((k : ℕ) → k < 4 → pos 0 <ℤ (b *ℤ starts v p cell k +ℤ a *ℤ ends v s cell k)) → IsStrictlyIn v cell (mix b (v.at p) a s)
-inside_mix v p s cell b a h =
-    all_inside v cell (mix b (v.at p) a s)
-    (λ k c. let e = inward_mix v cell k (v.at p) s b a in let f = h k c in omega (arith, ints, e, f))
+inside_mix v p s cell b a h = grind (arith, ints, all_inside, inward_mix)
 
 -- ---- two cells that the sight is in, just past one place
 tiny : (t : ℕ) (i j p s : ℤ) → (pos t *ℤ i) *ℤ p +ℤ (pos t *ℤ j +ℤ pos 1) *ℤ s ≡ pos t *ℤ (i *ℤ p +ℤ j *ℤ s) +ℤ s
@@ -127,18 +125,7 @@ past_inside :
     (v : Vertices) (p : ℕ) (s : RationalPoint) (cell : Tetrahedron) (i j : ℤ) (t : ℕ) →
     ((k : ℕ) → unsigned_abs (ends v s cell k) < t) → IsPast (starts v p cell) (ends v s cell) i j →
     IsStrictlyIn v cell (mix (pos t *ℤ i) (v.at p) (pos t *ℤ j +ℤ pos 1) s)
-past_inside v p s cell i j t b h =
-    inside_mix v p s cell (pos t *ℤ i) (pos t *ℤ j +ℤ pos 1)
-    (λ k c.
-    let P = starts v p cell k in let S = ends v s cell k in
-    let e = tiny t i j P S in
-    ⊎_elim (λ (x : pos 0 <ℤ (i *ℤ P +ℤ j *ℤ S)). let f = first_positive t (i *ℤ P +ℤ j *ℤ S) S (b k) x in
-    let r : pos 0 <ℤ ((pos t *ℤ i) *ℤ P +ℤ (pos t *ℤ j +ℤ pos 1) *ℤ S) = omega (arith, ints, e, f) in
-    r)
-    (λ (x : (i *ℤ P +ℤ j *ℤ S ≡ pos 0) × (pos 0 <ℤ S)). let f = first_zero t (i *ℤ P +ℤ j *ℤ S) S x.0 in
-    let g = x.1 in
-    let r : pos 0 <ℤ ((pos t *ℤ i) *ℤ P +ℤ (pos t *ℤ j +ℤ pos 1) *ℤ S) = omega (arith, ints, e, f, g) in
-    r) (h.at k))
+past_inside v p s cell i j t b h = grind (arith, ints, inside_mix, tiny, first_positive, first_zero)
 
 same_place : (b a b' a' p s : ℤ) → a *ℤ b' ≡ a' *ℤ b → b *ℤ (b' *ℤ p +ℤ a' *ℤ s) ≡ b' *ℤ (b *ℤ p +ℤ a *ℤ s)
 same_place b a b' a' p s h =

@@ -3,10 +3,9 @@
 -- would be no outer one, so there would be a cell across, and it would be higher over the place. A vertex lies in a cell by
 -- this, and is one of its four, since it would be in conflict with the cell otherwise.
 -- Stands on: Best, Wrap, Fan and Ways.
-use Rattle.std.proofs.Common.{[], ℕ, zero, suc, ◌<◌, ◌≤◌, ◌≡◌, refl, sym, subst, ◌∙◌, ◌⊎◌, inl, inr, ⊎_elim, arith, Bool, true}
-use Rattle.std.proofs.Common.{false, true≢false, pos, neg_ℤ, ◌*ℤ◌, ◌≤ℤ◌, ◌<ℤ◌, List, ◌∷◌, ◌++◌}
+use Rattle.std.proofs.Common.{[], ℕ, zero, suc, ◌<◌, ◌≤◌, ◌≡◌, refl, sym, subst, ◌⊎◌, inl, inr, ⊎_elim, arith, true, false}
+use Rattle.std.proofs.Common.{true≢false, pos, neg_ℤ, ◌*ℤ◌, ◌≤ℤ◌, ◌<ℤ◌, List, ◌∷◌, ◌++◌}
 use Rattle.std.proofs.lemmas.Int.{ints, by_lt_z}
-use Rattle.std.proofs.lemmas.Bool.{cases_lt}
 use lib.IntN.{*ℤ_comm}
 use Rattle.geo_sign.specs.Rational.{rational, RationalPoint}
 use Rattle.geo_sign.specs.Cells.{IsCell}
@@ -134,13 +133,7 @@ abbrev Decision : Type 0 → Type 0
 Decision P = P ⊎ (¬ P)
 
 has_or_not : (v : Vertices) (u : ℕ) → Decision (Has v u)
-has_or_not v u =
-    ⊎_elim (λ (l : u < v.count). flag (v.is_in u) refl l)
-    (λ (l : v.count ≤ u). inr (λ h. let k : u < v.count = h.0 in absurd (omega arith))) (cases_lt u v.count)
-  where
-    flag : (b : Bool) → v.is_in u ≡ b → u < v.count → Decision (Has v u)
-    flag true e l = inl (l, e)
-    flag false e l = inr (λ h. true≢false (sym h.1 ∙ e))
+has_or_not v u = grind (arith, true≢false)
 
 abbrev Clear : Vertices → Tetrahedron → ℕ → Type 0
 Clear v r n = (u : ℕ) → u < n → Has v u → pos 0 ≤ℤ power_at v r u
@@ -149,10 +142,7 @@ abbrev Unclear : Vertices → Tetrahedron → Type 0
 Unclear v r = (u : ℕ) × Has v u × (power_at v r u <ℤ pos 0)
 
 clear_more : (v : Vertices) (r : Tetrahedron) (n : ℕ) → (Has v n → pos 0 ≤ℤ power_at v r n) → Clear v r n → Clear v r (suc n)
-clear_more v r n g f u l h =
-    ⊎_elim (λ (m : u < n). f u m h)
-    (λ (m : n ≤ u). let e : n ≡ u = omega arith in subst (λ t. pos 0 ≤ℤ power_at v r t) e (g (subst (λ t. Has v t) (sym e) h)))
-    (cases_lt u n)
+clear_more v r n g f u l h = grind (arith, ints)
 
 clear_or_not : (v : Vertices) (r : Tetrahedron) (n : ℕ) → Clear v r n ⊎ Unclear v r
 clear_or_not v r zero = inl (λ u l h. absurd (omega arith))

@@ -10,7 +10,7 @@
 -- Stands on: Sides, and Firsts (the minors).
 use Rattle.std.proofs.Common.{ℕ, zero, suc, ◌<◌, ◌≡◌, ◌≢◌, refl, sym, subst, inl, inr, ◌⊎◌, arith, ℤ, pos, ◌*ℤ◌, ◌<ℤ◌}
 use Rattle.std.proofs.Common.{List, [], ◌∷◌, true, not, nat_lt, ◌&&◌, ◌==◌}
-use Rattle.std.proofs.lemmas.Bool.{and_parts, both_ways, eq-eqb, ltb-true, not-true}
+use Rattle.std.proofs.lemmas.Bool.{both_ways, eq-eqb, ltb-true, not-true}
 use Rattle.std.proofs.lemmas.Int.{ints}
 use Rattle.geo_sign.specs.Polynomial.{constant, difference, Polynomial, product, variable}
 use Rattle.geo_sign.proofs.Ring.{ring}
@@ -197,9 +197,7 @@ other_index (suc (suc (suc (suc l)))) k a b n = absurd (omega (arith, a))
 
 others_ok :
     (f : ℕ → ℕ) → every 4 (λ l. nat_lt (f l) 4 && not (f l == l)) ≡ true → (l : ℕ) → l < 4 → (f l < 4) × (f l ≢ l)
-others_ok f h l m =
-    let both = and_parts (nat_lt (f l) 4) (not (f l == l)) (every_at 4 (λ l. nat_lt (f l) 4 && not (f l == l)) h l m) in
-    (ltb-true (f l) 4 both.0, λ e. both_ways (f l == l) (not-true (f l == l) both.1) (eq-eqb (f l) l e))
+others_ok f h l m = grind (arith, every_at, ltb-true, both_ways, not-true, eq-eqb)
 
 pub first_other : (l : ℕ) → l < 4 → (first_of l < 4) × (first_of l ≢ l)
 first_other = others_ok first_of refl
@@ -218,15 +216,7 @@ other_leads :
     P (side (v.at p) (v.at (facet_of cell l).b) (v.at (facet_of cell l).c) s) →
     P (side (v.at p) (v.at (facet_of cell l).c) (v.at (facet_of cell l).a) s) → (k : ℕ) → k < 4 → k ≢ l →
     P (lead_of (starts v p cell) (ends v s cell) l k)
-other_leads P v p s cell l b times ab bc ca k c n = by (other_index l k b c n)
-  where
-    at : (i : ℕ) → k ≡ i → P (lead_of (starts v p cell) (ends v s cell) l i) → P (lead_of (starts v p cell) (ends v s cell) l k)
-    at i e h = subst (λ (j : ℕ). P (lead_of (starts v p cell) (ends v s cell) l j)) (sym e) h
-
-    by : (k ≡ third_of l) ⊎ ((k ≡ first_of l) ⊎ (k ≡ second_of l)) → P (lead_of (starts v p cell) (ends v s cell) l k)
-    by (inl e) = at (third_of l) e (subst P (edge_ab v p s cell l) (times _ ab))
-    by (inr (inl e)) = at (first_of l) e (subst P (edge_bc v p s cell l) (times _ bc))
-    by (inr (inr e)) = at (second_of l) e (subst P (edge_ca v p s cell l) (times _ ca))
+other_leads P v p s cell l b times ab bc ca k c n = grind (arith, ints, other_index, edge_ab, edge_bc, edge_ca)
 
 -- ---- entry and exit of a cell
 -- the sight comes into the cell through facet l

@@ -7,9 +7,9 @@
 --   is_inside           whether there is an inside cell
 --
 -- Stands on: the definitions, and Sums (nothing twice).
-use Rattle.std.proofs.Common.{ℕ, zero, suc, ◌+◌, ◌<◌, ◌≡◌, ◌≢◌, refl, sym, ap, subst, ◌∙◌, inl, inr, ⊎_elim, arith, Bool, true}
+use Rattle.std.proofs.Common.{ℕ, zero, suc, ◌+◌, ◌<◌, ◌≡◌, ◌≢◌, refl, sym, ap, subst, inl, inr, ⊎_elim, arith, Bool, true}
 use Rattle.std.proofs.Common.{false, ◌&&◌, ◌==◌, cond, eqb, Option, Some, None, List, [], ◌∷◌}
-use Rattle.std.proofs.lemmas.Bool.{eqb-true, eq-eqb, and_parts, and_from}
+use Rattle.std.proofs.lemmas.Bool.{eqb-true, eq-eqb, and_from}
 use Rattle.std.proofs.Math.Bool.{and_comm}
 use Rattle.geo_sign.specs.Tetrahedron.{Tetrahedron, DirectedFacet, facet, facet_of, vertex_of, IsTurned, is_same_facet}
 use Rattle.cell_laws.specs.ClosedLaws.{one_edge, edges_of}
@@ -23,21 +23,7 @@ pub flip : (u w x y : ℕ) → one_edge u w x y ≡ one_edge w u y x
 flip u w x y = ap one_if (and_comm (eqb x u) (eqb y w))
 
 pub edges_turned : (u w : ℕ) (f g : DirectedFacet) → IsTurned f g → edges_of u w f ≡ edges_of w u g
-edges_turned u w f g h = turn h
-  where
-    x : one_edge u w f.a f.b ≡ one_edge w u f.b f.a
-    x = flip u w f.a f.b
-
-    y : one_edge u w f.b f.c ≡ one_edge w u f.c f.b
-    y = flip u w f.b f.c
-
-    z : one_edge u w f.c f.a ≡ one_edge w u f.a f.c
-    z = flip u w f.c f.a
-
-    turn : IsTurned f g → edges_of u w f ≡ edges_of w u g
-    turn (inl e) = subst (λ k. edges_of u w f ≡ edges_of w u k) (sym e) (omega (arith, x, y, z))
-    turn (inr (inl e)) = subst (λ k. edges_of u w f ≡ edges_of w u k) (sym e) (omega (arith, x, y, z))
-    turn (inr (inr e)) = subst (λ k. edges_of u w f ≡ edges_of w u k) (sym e) (omega (arith, x, y, z))
+edges_turned u w f g h = grind (arith, flip)
 
 -- each of the six edges of a cell is there in its two directions
 pub boundary :
@@ -133,28 +119,15 @@ turned_means f g e = first (is_same_facet (facet f.a f.c f.b) g) refl e
     first false i h = second (is_same_facet (facet f.c f.b f.a) g) refl h
 
 pub means_turned : (f g : DirectedFacet) → IsTurned f g → is_turned f g ≡ true
-means_turned f g (inl e) =
-    ap (λ b. cond b true (cond (is_same_facet (facet f.c f.b f.a) g) true (is_same_facet (facet f.b f.a f.c) g)))
-    (means_same (facet f.a f.c f.b) g e)
-means_turned f g (inr (inl e)) = by (is_same_facet (facet f.a f.c f.b) g)
-  where
-    by : (b : Bool) → cond b true (cond (is_same_facet (facet f.c f.b f.a) g) true (is_same_facet (facet f.b f.a f.c) g)) ≡ true
-    by true = refl
-    by false = ap (λ b. cond b true (is_same_facet (facet f.b f.a f.c) g)) (means_same (facet f.c f.b f.a) g e)
-means_turned f g (inr (inr e)) = by (is_same_facet (facet f.a f.c f.b) g) (is_same_facet (facet f.c f.b f.a) g)
-  where
-    by : (b c : Bool) → cond b true (cond c true (is_same_facet (facet f.b f.a f.c) g)) ≡ true
-    by true c = refl
-    by false true = refl
-    by false false = means_same (facet f.b f.a f.c) g e
+means_turned f g (inl e) = grind (arith, means_same)
+means_turned f g (inr (inl e)) = grind (arith, means_same)
+means_turned f g (inr (inr e)) = grind (arith, means_same)
 
 abbrev pub is_same_side : Side → Side → Bool
 is_same_side s t = (s.at == t.at) && (s.side == t.side)
 
 pub same_side_means : (s t : Side) → is_same_side s t ≡ true → s ≡ t
-same_side_means s t e =
-    let x = and_parts (eqb s.at t.at) (eqb s.side t.side) e in
-    ap (λ n. side_at n s.side) (eqb-true s.at t.at x.0) ∙ ap (λ n. side_at t.at n) (eqb-true s.side t.side x.1)
+same_side_means s t e = grind (arith, eqb-true)
 
 pub same_side_is : (s : Side) → is_same_side s s ≡ true
 same_side_is s = and_from (eqb s.at s.at) (eqb s.side s.side) (eq-eqb s.at s.at refl) (eq-eqb s.side s.side refl)

@@ -4,8 +4,8 @@
 -- so a b c is a facet of the fan, and back. The edges of the fan meet since the cells with apex p do: the cell across the facet
 -- of the edge and p has the apex p too.
 -- Stands on: Wrap (the next cell over a facet) and Conflicts.
-use Rattle.std.proofs.Common.{ℕ, ◌≡◌, ◌≢◌, ◌<◌, refl, ap, sym, subst, ◌∙◌, ◌⊎◌, inl, inr, ⊎_elim, arith, Bool, true, false}
-use Rattle.std.proofs.Common.{◌||◌, ◌==◌, eqb, true≢false, pos, ◌≤ℤ◌, ◌<ℤ◌}
+use Rattle.std.proofs.Common.{ℕ, ◌≡◌, ◌≢◌, ◌<◌, refl, ap, sym, subst, ◌∙◌, ◌⊎◌, inl, inr, ⊎_elim, arith, true, false, ◌||◌}
+use Rattle.std.proofs.Common.{◌==◌, true≢false, pos, ◌≤ℤ◌, ◌<ℤ◌}
 use Rattle.std.proofs.lemmas.Bool.{eqb-true, or_right, eq-eqb}
 use Rattle.std.proofs.lemmas.Int.{ints, by_lt_z}
 use Rattle.geo_sign.specs.Cells.{IsCell}
@@ -28,21 +28,14 @@ pub joins : (v : Vertices) (p : ℕ) → p < v.count → Has (with_vertex v p) p
 joins v p h = (h, ap (λ b. b || v.is_in p) (eq-eqb p p refl))
 
 pub was : (v : Vertices) (p u : ℕ) → Has (with_vertex v p) u → (u ≡ p) ⊎ Has v u
-was v p u h = pick (eqb u p) refl h.1
-  where
-    pick : (b : Bool) → eqb u p ≡ b → (b || v.is_in u) ≡ true → (u ≡ p) ⊎ Has v u
-    pick true e g = inl (eqb-true u p e)
-    pick false e g = inr (h.0, g)
+was v p u h = grind (arith, eqb-true)
 
 -- a vertex that is none of a facet's, over which p lies, was in before
 before : (v : Vertices) (p u : ℕ) → Has (with_vertex v p) u → u ≢ p → Has v u
 before v p u h n = ⊎_elim (λ e. absurd (n e)) (λ k. k) (was v p u h)
 
 pub own_power : (v : Vertices) (a b c p : ℕ) → power_of v a b c p p ≡ pos 0
-own_power v a b c p =
-    let t =
-    exchanged_power (v.at a) (v.at b) (v.at c) (v.at p) (v.at p) (v.high a) (v.high b) (v.high c) (v.high p) (v.high p) in
-    omega (arith, ints, t)
+own_power v a b c p = grind (arith, ints, exchanged_power)
 
 pub not_in : (v : Vertices) (p u : ℕ) → v.is_in p ≡ false → Has v u → u ≢ p
 not_in v p u f h e = true≢false (sym h.1 ∙ ap v.is_in e ∙ f)
@@ -50,13 +43,7 @@ not_in v p u f h e = true≢false (sym h.1 ∙ ap v.is_in e ∙ f)
 -- the vertex across a facet is not in the cell
 pub across_above :
     (v : Vertices) → IsGeneric v → (a b c d e : ℕ) → IsCell v a b c d → IsCell v a c b e → pos 0 <ℤ power_of v a b c d e
-across_above v g a b c d e k l =
-    let t = turned_orientation (v.at a) (v.at b) (v.at c) (v.at e) in
-    let n : orientation_of v a b c e <ℤ pos 0 = (let m = l.positive in omega (arith, ints, t, m)) in
-    outside_above v g a b c d e k l.has_d (λ z. absurd (omega (arith, ints, n, z)))
-    (λ z. let q = k.positive in
-    let r : orientation_of v a b c d <ℤ pos 0 = subst (λ x. orientation_of v a b c x <ℤ pos 0) z n in
-    absurd (omega (arith, ints, q, r)))
+across_above v g a b c d e k l = grind (arith, ints, turned_orientation, outside_above)
 
 -- p is before a fan facet
 pub fan_before :
@@ -187,27 +174,9 @@ fan_once v p g i h a b c d k l =
 -- the cells without p are those with which it is not in conflict
 pub stays_cell :
     (v : Vertices) (p : ℕ) → (a b c d : ℕ) → IsCell v a b c d → pos 0 ≤ℤ power_of v a b c d p → IsCell (with_vertex v p) a b c d
-stays_cell v p a b c d k n =
-    record {
-      has_a = stays v p a k.has_a;
-      has_b = stays v p b k.has_b;
-      has_c = stays v p c k.has_c;
-      has_d = stays v p d k.has_d;
-      positive = k.positive;
-      clear = λ u h. ⊎_elim (λ e. subst (λ x. pos 0 ≤ℤ power_of v a b c d x) (sym e) n) (k.clear u) (was v p u h);
-    }
+stays_cell v p a b c d k n = grind (arith, ints, stays, was)
 
 pub was_cell :
     (v : Vertices) (p : ℕ) → p < v.count → (a b c d : ℕ) → IsCell (with_vertex v p) a b c d → a ≢ p → b ≢ p → c ≢ p → d ≢ p →
     IsCell v a b c d × (pos 0 ≤ℤ power_of v a b c d p)
-was_cell v p h a b c d k na nb nc nd = (
-  record {
-    has_a = before v p a k.has_a na;
-    has_b = before v p b k.has_b nb;
-    has_c = before v p c k.has_c nc;
-    has_d = before v p d k.has_d nd;
-    positive = k.positive;
-    clear = λ u l. k.clear u (stays v p u l);
-  },
-  k.clear p (joins v p h),
-)
+was_cell v p h a b c d k na nb nc nd = grind (arith, ints, before, stays, joins)

@@ -1,8 +1,8 @@
 -- The first of four lines that a moving place passes. Number k is p k at the start and s k at the end; among those that end
 -- below 0 one gets to 0 first. There is no geometry here.
 -- Stands on: Order.
-use Rattle.std.proofs.Common.{ℕ, zero, suc, ◌<◌, ◌≡◌, ◌≢◌, refl, sym, subst, inl, inr, ⊎_elim, ◌⊎◌, arith, Bool, true, false}
-use Rattle.std.proofs.Common.{eqb, ℤ, pos, neg_ℤ, ◌+ℤ◌, ◌-ℤ◌, ◌*ℤ◌, ◌≤ℤ◌, ◌<ℤ◌, [], ◌∷◌}
+use Rattle.std.proofs.Common.{ℕ, zero, suc, ◌<◌, ◌≡◌, ◌≢◌, sym, subst, inl, inr, ⊎_elim, ◌⊎◌, arith, ℤ, pos, neg_ℤ, ◌+ℤ◌, ◌-ℤ◌}
+use Rattle.std.proofs.Common.{◌*ℤ◌, ◌≤ℤ◌, ◌<ℤ◌, [], ◌∷◌}
 use Rattle.std.proofs.lemmas.Int.{ints, by_lt_z}
 use Rattle.std.proofs.lemmas.Bool.{eqb-true, eqb-false}
 use Rattle.geo_sign.specs.Polynomial.{difference, product, sum, variable}
@@ -44,11 +44,7 @@ before_both p s l n k hl hn hk h i =
     factor_not_above (p l) (lead_of p s n k) hl (omega (arith, ints, e, a, b))
 
 below_last : {P : Type 0} (k n : ℕ) → k < suc n → (k < n → P) → (k ≡ n → P) → P
-below_last {P} k n h f g = by (eqb k n) refl
-  where
-    by : (b : Bool) → eqb k n ≡ b → P
-    by true e = g (eqb-true k n e)
-    by false e = f (let d : k ≢ n = eqb-false k n e in omega arith)
+below_last {P} k n h f g = grind (arith, eqb-true, eqb-false)
 
 pub first_or_none :
     (p s : ℕ → ℤ) → ((k : ℕ) → s k <ℤ pos 0 → pos 0 <ℤ p k) → (n : ℕ) → IsFirst p s n ⊎ ((k : ℕ) → k < n → pos 0 ≤ℤ s k)
@@ -98,9 +94,7 @@ pub record IsPast (p s : ℕ → ℤ) (i j : ℤ) : Type 0 where
   pub at : (k : ℕ) → IsAhead (i *ℤ p k +ℤ j *ℤ s k) (s k)
 
 pub past_ended : (p s : ℕ → ℤ) (i j : ℤ) → IsPast p s i j → (k : ℕ) → s k <ℤ pos 0 → pos 0 <ℤ (i *ℤ p k +ℤ j *ℤ s k)
-past_ended p s i j h k l =
-    ⊎_elim (λ (a : pos 0 <ℤ (i *ℤ p k +ℤ j *ℤ s k)). a)
-    (λ (a : (i *ℤ p k +ℤ j *ℤ s k ≡ pos 0) × (pos 0 <ℤ s k)). let b = a.1 in absurd (omega (arith, ints, b, l))) (h.at k)
+past_ended p s i j h k l = grind (arith, ints)
 
 pub past_not_below : (p s : ℕ → ℤ) (i j : ℤ) → IsPast p s i j → (k : ℕ) → pos 0 ≤ℤ (i *ℤ p k +ℤ j *ℤ s k)
 past_not_below p s i j h k =
@@ -124,11 +118,7 @@ lead_mixed i j a b x y =
     (product (variable 5) (sum (product (variable 0) (variable 2)) (product (variable 1) (variable 4))))) tt
 
 mul_comm_below : (a b : ℤ) → a <ℤ pos 0 → pos 0 ≤ℤ b → (a *ℤ b) ≤ℤ pos 0
-mul_comm_below a b h k =
-    let e : a *ℤ b ≡ b *ℤ a = ring (a ∷ b ∷ []) (product (variable 0) (variable 1)) (product (variable 1) (variable 0)) tt in
-    let h' : a ≤ℤ pos 0 = omega (arith, ints) in
-    let m = mul_not_above b a k h' in
-    omega (arith, ints, e, m)
+mul_comm_below a b h k = grind (arith, ints, ring, mul_not_above)
 
 -- one that ends above 0 is not passed before one that ends below
 pub not_passed :

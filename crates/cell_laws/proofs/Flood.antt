@@ -43,9 +43,7 @@ pub envelope_of : (v : Vertices) (t w : Tetrahedron) (q : RationalPoint) →
     orientation_at v w *ℤ lift_of v t q +ℤ
     (power_at v t w.a *ℤ beside v w.b w.d w.c q +ℤ power_at v t w.b *ℤ beside v w.a w.c w.d q
     +ℤ power_at v t w.c *ℤ beside v w.a w.d w.b q +ℤ power_at v t w.d *ℤ beside v w.a w.b w.c q)
-envelope_of v t w q =
-    envelope (v.at t.a) (v.at t.b) (v.at t.c) (v.at t.d) (v.at w.a) (v.at w.b) (v.at w.c) (v.at w.d) q
-    (v.high t.a) (v.high t.b) (v.high t.c) (v.high t.d) (v.high w.a) (v.high w.b) (v.high w.c) (v.high w.d)
+envelope_of v t w q = grind (arith, ints, envelope)
 
 pub weak : (v : Vertices) (r : Tetrahedron) (q : RationalPoint) → IsStrictlyIn v r q → IsLyingIn v r q
 weak v r q h =
@@ -104,9 +102,7 @@ pub record IsTop {X : Type 0} (v : Vertices) (p : ℕ) (q : RationalPoint) (live
   pub holds : IsStrictlyIn v (cell x) q
 
 pub move : (o e o' e' O E O' E' : ℤ) → O ≡ o → E ≡ e → O' ≡ o' → E' ≡ e' → IsLater O E O' E' → IsLater o e o' e'
-move o e o' e' O E O' E' p q p' q' h =
-    subst (λ x. IsLater x e o' e') p
-    (subst (λ x. IsLater O x o' e') q (subst (λ x. IsLater O E x e') p' (subst (λ x. IsLater O E O' x) q' h)))
+move o e o' e' O E O' E' p q p' q' h = grind (arith, ints)
 
 top :
     {X : Type 0} (v : Vertices) → IsGeneric v → (p : ℕ) (q : RationalPoint) → IsGoal v p q

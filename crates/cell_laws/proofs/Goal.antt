@@ -3,8 +3,8 @@
 -- and it is zero for no facet of a cell. So a cell has the displaced place only if it has the point too, and no facet's plane
 -- goes through it.
 -- Stands on: Box and Heights.
-use Rattle.std.proofs.Common.{ℕ, ◌≡◌, ◌<◌, ◌≤◌, ◌^◌, refl, ap, ap₂, sym, subst, ◌∙◌, ◌⊎◌, inl, inr, arith, Bool, true, false}
-use Rattle.std.proofs.Common.{bit_and, cond, ◌==◌, unsigned_abs, ℤ, pos, neg_ℤ, ◌+ℤ◌, ◌-ℤ◌, ◌*ℤ◌, ◌≤ℤ◌, ◌<ℤ◌, [], ◌∷◌}
+use Rattle.std.proofs.Common.{ℕ, ◌≡◌, ◌<◌, ◌≤◌, ◌^◌, refl, ap, ap₂, sym, subst, ◌∙◌, ◌⊎◌, inl, inr, arith, unsigned_abs, ℤ, pos}
+use Rattle.std.proofs.Common.{neg_ℤ, ◌+ℤ◌, ◌-ℤ◌, ◌*ℤ◌, ◌≤ℤ◌, ◌<ℤ◌, [], ◌∷◌}
 use Rattle.std.proofs.lemmas.Int.{ints, by_lt_z}
 use lib.IntN.{*ℤ_comm}
 use Rattle.geo_sign.specs.Polynomial.{constant, difference, Polynomial, product, variable}
@@ -76,13 +76,7 @@ goal v x p h l =
 
 -- ---- a facet on a wall
 pub corner_edge : (k bit : ℕ) → (wall k bit ≡ pos BOX_LIMIT) ⊎ (wall k bit ≡ neg_ℤ (pos BOX_LIMIT))
-corner_edge k bit = pick (bit_and k bit == 0)
-  where
-    pick :
-        (b : Bool) → (cond b (neg_ℤ (pos BOX_LIMIT)) (pos BOX_LIMIT) ≡ pos BOX_LIMIT) ⊎
-        (cond b (neg_ℤ (pos BOX_LIMIT)) (pos BOX_LIMIT) ≡ neg_ℤ (pos BOX_LIMIT))
-    pick true = inr refl
-    pick false = inl refl
+corner_edge k bit = grind (arith, ints)
 
 wall_side :
     (n e d u : ℤ) → (e ≡ pos BOX_LIMIT) ⊎ (e ≡ neg_ℤ (pos BOX_LIMIT)) → unsigned_abs d ≤ BOX_LIMIT → unsigned_abs u ≤ BOX_LIMIT

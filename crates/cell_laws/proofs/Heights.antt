@@ -3,10 +3,10 @@
 -- sum of four products, each a side of the point times the squared distance of a vertex from it; the sides are not negative,
 -- not all of them are zero, and the point is none of the vertices, so the plain power is below zero and decides before any tie.
 -- Stands on: geo_sign's law of ties, Box and Insert (a vertex is one of four or none).
-use Rattle.std.proofs.Common.{ℕ, ◌≡◌, ◌≢◌, ◌<◌, ◌^◌, refl, ap, sym, subst, ◌∙◌, ◌⊎◌, inl, inr, ⊎_elim, arith, Bool, true}
-use Rattle.std.proofs.Common.{false, ℤ, pos, negsuc, neg_ℤ, ◌+ℤ◌, ◌-ℤ◌, ◌*ℤ◌, ◌≤ℤ◌, ◌<ℤ◌, [], ◌∷◌}
+use Rattle.std.proofs.Common.{ℕ, ◌≡◌, ◌≢◌, ◌<◌, ◌^◌, refl, ap, sym, subst, ◌∙◌, ◌⊎◌, inl, inr, ⊎_elim, arith, Bool, true, false}
+use Rattle.std.proofs.Common.{ℤ, pos, negsuc, neg_ℤ, ◌+ℤ◌, ◌-ℤ◌, ◌*ℤ◌, ◌≤ℤ◌, ◌<ℤ◌, []}
 use Rattle.std.proofs.lemmas.Int.{ints, by_lt_z}
-use Rattle.geo_sign.specs.Polynomial.{difference, negation, product, sum, variable}
+use Rattle.geo_sign.specs.Polynomial.{difference, negation, product, sum}
 use Rattle.geo_sign.proofs.Ring.{ring}
 use Rattle.geo_sign.specs.Orientation.{orientation}
 use Rattle.geo_sign.specs.Point.{cross, IsWithin, Point, point, square, step}
@@ -129,11 +129,7 @@ sides_sum a b c d p =
 
 square_in : (z : ℤ) → pos 0 ≤ℤ (z *ℤ z)
 square_in (pos n) = mul_not_negative (pos n) (pos n) (omega (arith, ints)) (omega (arith, ints))
-square_in (negsuc n) =
-    let h = mul_not_negative (neg_ℤ (negsuc n)) (neg_ℤ (negsuc n)) (omega (arith, ints)) (omega (arith, ints)) in
-    let e : neg_ℤ (negsuc n) *ℤ neg_ℤ (negsuc n) ≡ negsuc n *ℤ negsuc n =
-    ring (negsuc n ∷ []) (product (negation (variable 0)) (negation (variable 0))) (product (variable 0) (variable 0)) tt in
-    subst (λ x. pos 0 ≤ℤ x) e h
+square_in (negsuc n) = grind (arith, ints, mul_not_negative, ring)
 
 root : (z : ℤ) → z *ℤ z ≡ pos 0 → z ≡ pos 0
 root z e = ⊎_elim (λ h. h) (λ h. h) (factor_is_zero z z e)

@@ -1,7 +1,7 @@
 -- A place of the box is behind no outer facet.
 -- Stands on: Box.
-use Rattle.std.proofs.Common.{ℕ, ◌≡◌, ◌≤◌, ◌*◌, refl, subst, ◌∙◌, arith, Bool, true, false, int_lt, unsigned_abs, ℤ, pos, neg_ℤ}
-use Rattle.std.proofs.Common.{◌+ℤ◌, ◌-ℤ◌, ◌*ℤ◌, ◌≤ℤ◌, ◌<ℤ◌, [], ◌∷◌}
+use Rattle.std.proofs.Common.{ℕ, ◌≡◌, ◌≤◌, ◌*◌, subst, ◌∙◌, arith, int_lt, unsigned_abs, ℤ, pos, ◌+ℤ◌, ◌-ℤ◌, ◌*ℤ◌, ◌≤ℤ◌, ◌<ℤ◌}
+use Rattle.std.proofs.Common.{[], ◌∷◌}
 use Rattle.std.proofs.lemmas.Int.{ints}
 use Rattle.geo_sign.specs.Polynomial.{difference, product, sum, variable}
 use Rattle.geo_sign.proofs.Ring.{ring}
@@ -14,17 +14,12 @@ use Rattle.geo_sign.proofs.SignTests.{below_true}
 use Rattle.geo_sign.specs.Vertices.{Vertices}
 use Rattle.geo_sign.specs.Boxes.{IsBoxed}
 use Rattle.geo_sign.specs.Places.{IsInBox}
-use Rattle.cell_laws.proofs.Box.{both_negative, edge, facet_normal, far, far_below, far_place, low, lowest, test_above}
+use Rattle.cell_laws.proofs.Box.{both_negative, facet_normal, far, far_below, far_place, low, lowest, test_above}
 use Rattle.cell_laws.proofs.Order.{mul_not_negative}
 use Rattle.cell_laws.proofs.Regions.{IsOuter}
 
 axis_over : (n p w : ℤ) → pos 0 <ℤ w → unsigned_abs p ≤ BOX_LIMIT * unsigned_abs w → pos 0 ≤ℤ (n *ℤ (p -ℤ low n *ℤ w))
-axis_over n p w o h = pick (int_lt n (pos 0)) refl
-  where
-    pick : (b : Bool) → int_lt n (pos 0) ≡ b → pos 0 ≤ℤ (n *ℤ (p -ℤ edge b *ℤ w))
-    pick true e =
-        both_negative n (p -ℤ pos BOX_LIMIT *ℤ w) (let m = below_true n e in omega (arith, ints, m)) (omega (arith, ints))
-    pick false e = mul_not_negative n (p -ℤ neg_ℤ (pos BOX_LIMIT) *ℤ w) (test_above n e) (omega (arith, ints))
+axis_over n p w o h = grind (arith, ints, both_negative, below_true, mul_not_negative, test_above)
 
 side_shift :
     (a b c w : Point) (q : RationalPoint) → side a b c q ≡

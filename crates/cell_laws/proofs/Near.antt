@@ -74,9 +74,7 @@ first_positive t (pos (suc n)) y h k = omega (arith, ints, mul-suc t n)
 first_positive t (negsuc n) y h k = absurd (omega (arith, ints))
 
 pub first_zero : (t : ℕ) (x y : ℤ) → x ≡ pos 0 → pos t *ℤ x +ℤ y ≡ y
-first_zero t x y e =
-    ap (λ z. pos t *ℤ z +ℤ y) e ∙ ap (λ z. z +ℤ y) (*ℤ-zero (pos t))
-    ∙ ring (y ∷ []) (sum (constant (pos 0)) (variable 0)) (variable 0) tt
+first_zero t x y e = grind (arith, ints, *ℤ-zero, ring)
 
 -- ---- a place that lies on no plane of a facet, at sides below t
 pub record IsFree (v : Vertices) (s : RationalPoint) (t : ℕ) : Type 0 where

@@ -1,6 +1,6 @@
 -- A cell's four facets are different, and two cells with a directed facet in common are one.
 -- Depends on: LinkedCells.
-use Rattle.std.proofs.Common.{ℕ, zero, suc, ◌<◌, ◌≡◌, refl, ap, ◌∙◌, sym, subst, arith, pos, ◌<ℤ◌}
+use Rattle.std.proofs.Common.{ℕ, zero, suc, ◌<◌, ◌≡◌, refl, sym, subst, arith, pos, ◌<ℤ◌}
 use Rattle.geo_sign.specs.Tetrahedron.{Tetrahedron, tetrahedron, facet_of, vertex_of, IsRotated}
 use Rattle.geo_sign.specs.Vertices.{Vertices}
 use Rattle.geo_sign.specs.Boxes.{IsBoxed}
@@ -63,6 +63,4 @@ facet_law v b t r ht hr = record { cell = one_facet v b t r ht hr; side = λ j k
 
 -- a side is its cell and its number
 pub same_side : (s t : Side) → s.at ≡ t.at → s.side ≡ t.side → s ≡ t
-same_side s t e f =
-    let make : ℕ → ℕ → Side = λ i j. record { at = i; side = j } in
-    ap (λ i. make i s.side) e ∙ ap (λ j. make t.at j) f
+same_side s t e f = grind arith

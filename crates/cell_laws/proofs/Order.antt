@@ -45,28 +45,16 @@ cancel_lt a b c h k =
     by_lt_z a b (λ l. l) (λ l. let e : (b *ℤ c) ≤ℤ (a *ℤ c) = mul_le b a c l k in absurd (omega (arith, ints)))
 
 pub mul_below : (a b : ℤ) → pos 0 <ℤ a → b <ℤ pos 0 → (a *ℤ b) <ℤ pos 0
-mul_below a b h k =
-    let n : pos 0 <ℤ neg_ℤ b = omega (arith, ints) in
-    let m : pos 0 <ℤ (a *ℤ neg_ℤ b) = mul_positive a (neg_ℤ b) h n in
-    omega (arith, ints, m, *ℤ-neg a b)
+mul_below a b h k = grind (arith, ints, mul_positive, *ℤ-neg)
 
 pub mul_not_above : (a b : ℤ) → pos 0 ≤ℤ a → b ≤ℤ pos 0 → (a *ℤ b) ≤ℤ pos 0
-mul_not_above a b h k =
-    let n : pos 0 ≤ℤ neg_ℤ b = omega (arith, ints) in
-    let m : pos 0 ≤ℤ (a *ℤ neg_ℤ b) = mul_not_negative a (neg_ℤ b) h n in
-    omega (arith, ints, m, *ℤ-neg a b)
+mul_not_above a b h k = grind (arith, ints, mul_not_negative, *ℤ-neg)
 
 pub factor_above : (a b : ℤ) → pos 0 <ℤ a → pos 0 <ℤ (a *ℤ b) → pos 0 <ℤ b
-factor_above a b h k =
-    by_lt_z (pos 0) b (λ l. l)
-    (λ l. let m : (a *ℤ b) ≤ℤ pos 0 = mul_not_above a b (let q : pos 0 ≤ℤ a = omega (arith, ints) in q) l in
-    absurd (omega (arith, ints)))
+factor_above a b h k = grind (arith, ints, by_lt_z, mul_not_above)
 
 pub factor_below : (a b : ℤ) → pos 0 <ℤ a → (a *ℤ b) <ℤ pos 0 → b <ℤ pos 0
-factor_below a b h k =
-    by_lt_z b (pos 0) (λ l. l)
-    (λ l. let m : pos 0 ≤ℤ (a *ℤ b) = mul_not_negative a b (let q : pos 0 ≤ℤ a = omega (arith, ints) in q) l in
-    absurd (omega (arith, ints)))
+factor_below a b h k = grind (arith, ints, by_lt_z, mul_not_negative)
 
 pub factor_not_above : (a b : ℤ) → pos 0 <ℤ a → (a *ℤ b) ≤ℤ pos 0 → b ≤ℤ pos 0
 factor_not_above a b h k = by_lt_z (pos 0) b (λ l. let m = mul_positive a b h l in absurd (omega (arith, ints, m, k))) (λ l. l)

@@ -4,8 +4,8 @@
 -- where all of them are, which is where the three points are on one line. It is below the weight of the near places, so at
 -- these the point's own side decides first.
 -- Stands on: geo_sign's digits and bounds, Near and Spread.
-use Rattle.std.proofs.Common.{ℕ, zero, suc, ◌^◌, ◌<◌, ◌≡◌, refl, ap, ap₂, sym, ◌∙◌, arith, ℤ, pos, negsuc, neg_ℤ}
-use Rattle.std.proofs.Common.{◌+ℤ◌, ◌-ℤ◌, ◌*ℤ◌, unsigned_abs, [], ◌∷◌}
+use Rattle.std.proofs.Common.{ℕ, zero, suc, ◌^◌, ◌<◌, ◌≡◌, refl, ap, ap₂, ◌∙◌, arith, ℤ, pos, negsuc, neg_ℤ, ◌+ℤ◌, ◌-ℤ◌, ◌*ℤ◌}
+use Rattle.std.proofs.Common.{unsigned_abs, [], ◌∷◌}
 use Rattle.std.proofs.lemmas.Int.{ints}
 use Rattle.geo_sign.specs.Polynomial.{constant, negation, product, sum, variable}
 use Rattle.geo_sign.proofs.Ring.{ring}
@@ -13,14 +13,12 @@ use Rattle.geo_sign.specs.Signs.{sign_of, first_sign, opposite_sign}
 use Rattle.geo_sign.specs.Point.{Point, IsWithin, cross, dot, step}
 use Rattle.geo_sign.specs.declared.point.TheConstants.{BOX_LIMIT, DATA_LIMIT}
 use Rattle.geo_sign.specs.Orientation.{orientation}
-use Rattle.geo_sign.specs.Rational.{RationalPoint, displaced, rational, side}
+use Rattle.geo_sign.specs.Rational.{RationalPoint, displaced, side}
 use Rattle.geo_sign.proofs.Bounds.{step_within, dot_within, data_in_box}
 use Rattle.geo_sign.proofs.Digits.{leading_digit, side_bound, side_on_line}
 use Rattle.geo_sign.proofs.Written.{coordinates, side', symbols}
 use Rattle.geo_sign.proofs.Exchanges.{point_side}
-use Rattle.geo_sign.specs.Tetrahedron.{DirectedFacet, facet_of}
 use Rattle.geo_sign.specs.Vertices.{Vertices}
-use Rattle.geo_sign.specs.Sights.{side_of}
 use Rattle.geo_sign.specs.Boxes.{IsBoxed}
 use Rattle.geo_sign.specs.Places.{IsInBox}
 use Rattle.geo_sign.specs.NearPlaces.{reversed, weight, towards_place, behind_place}
@@ -68,54 +66,20 @@ flat_side a b c q h k l =
     (product (constant (pos 0)) (variable 2))) (constant (pos 0)) tt
 
 pub scanner_spread : (v : Vertices) → IsBoxed v → (s : Point) → IsSpread v (displaced s)
-scanner_spread v x s =
-    record {
-      at = λ a b c d ha hb hc n e.
-          (let l =
-          spread_law (v.at a) (v.at b) (v.at c) s (vertex_within v x a ha) (vertex_within v x b hb)
-          (vertex_within v x c hc) e in
-          n (flat_side (v.at a) (v.at b) (v.at c) (rational d) (ap (λ (q : Point). q.x) l) (ap (λ (q : Point). q.y) l)
-          (ap (λ (q : Point). q.z) l)));
-    }
+scanner_spread v x s = grind (arith, spread_law, vertex_within, flat_side)
 
 neg_none : (z : ℤ) → neg_ℤ z ≡ pos 0 → z ≡ pos 0
 neg_none z h = omega (arith, ints)
 
 pub scanner_free : (v : Vertices) → IsBoxed v → (s : Point) → IsWithin BOX_LIMIT s → IsFree v (displaced s) weight
-scanner_free v x s h =
-    record {
-      apart = λ t c. ends_apart v (displaced s) t (scanner_spread v x s) c;
-      bounded = λ t c k.
-          (let f : DirectedFacet = facet_of t k in
-          let b = facet_below v t c k in
-          scanner_bounded (v.at f.a) (v.at f.b) (v.at f.c) s (vertex_within v x f.a b.a_below) (vertex_within v x f.b b.b_below)
-          (vertex_within v x f.c b.c_below) h);
-    }
+scanner_free v x s h = grind (arith, ends_apart, scanner_spread, facet_below, scanner_bounded, vertex_within)
 
 pub reversed_free : (v : Vertices) (q : RationalPoint) (t : ℕ) → IsFree v q t → IsFree v (reversed q) t
-reversed_free v q t h =
-    record {
-      apart =
-          λ r c k e.
-          (let f : DirectedFacet = facet_of r k in
-          h.apart r c k (neg_none (side_of v f q) (sym (side_reversed (v.at f.a) (v.at f.b) (v.at f.c) q) ∙ e)));
-      bounded =
-          λ r c k. (let f : DirectedFacet = facet_of r k in
-          let e = side_reversed (v.at f.a) (v.at f.b) (v.at f.c) q in
-          let b = h.bounded r c k in
-          omega (arith, ints, e, b));
-    }
+reversed_free v q t h = grind (arith, ints, neg_none, side_reversed)
 
 -- ---- these places are in the box
 pub scanner_in_box : (s : Point) → IsWithin DATA_LIMIT s → IsInBox (displaced s)
-scanner_in_box s h =
-    let hx = h.x_within in let hy = h.y_within in let hz = h.z_within in
-    record {
-      over_positive = omega (arith, ints);
-      x_within = omega (arith, ints, hx);
-      y_within = omega (arith, ints, hy);
-      z_within = omega (arith, ints, hz);
-    }
+scanner_in_box s h = grind (arith, ints)
 
 near_in_box : (p s : Point) → IsWithin DATA_LIMIT p → IsWithin DATA_LIMIT s → IsInBox (towards_place p s)
 near_in_box p s g h =

@@ -39,7 +39,6 @@ use Rattle.cell_laws.proofs.LinkedCells.{facet_same, back_same, from_facet}
 use Rattle.cell_laws.proofs.Near.{IsFree, near_towards, one_towards}
 use Rattle.cell_laws.proofs.Regions.{IsGeneric, IsConvex}
 use Rattle.cell_laws.proofs.Scanners.{scanner_free, reversed_free, scanner_spread, scanner_in_box, near_law}
-use Rattle.cell_laws.proofs.Sides.{inward}
 use Rattle.cell_laws.proofs.SightSteps.{all_inside, towards_past, entry_past, neg_above, at_least, one_exit, one_entry}
 use Rattle.cell_laws.proofs.SightTests.{crossed_of, crossed_is, strictly_of, strictly_is, towards_of, towards_is, behind_is}
 use Rattle.cell_laws.proofs.Walk.{walk_falls}
@@ -94,13 +93,7 @@ step_law v b live cell next l cells q h =
 strict :
     (v : Vertices) (s : RationalPoint) → IsFree v s weight → (t : Tetrahedron) → IsCellOf v t → IsLyingIn v t s →
     is_cell_of v s t ≡ true
-strict v s f t c l =
-    strictly_is v s t (record {
-      at = λ k.
-          (let h = l.at k in
-          let n = f.apart t c k in
-          by_lt_z (pos 0) (inward v t k s) (λ m. m) (λ m. absurd (n (omega (arith, ints, h, m)))));
-    })
+strict v s f t c l = grind (arith, ints, strictly_is, by_lt_z)
 
 pub scanner_law : ScannerLaw
 scanner_law v b s h =

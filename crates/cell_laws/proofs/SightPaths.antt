@@ -250,17 +250,8 @@ path_counted :
     → AreGiven v live cell next p s → (x : ℕ) (cs : List Side) → IsIn live x → is_towards v p (displaced s) (cell x) ≡ true
     → IsSightPath v live cell next p (displaced s) x cs → (c : Side) → IsIn live c.at → c.side < 4
     → count (is_that c) cs ≡ one_if (is_crossed v p (displaced s) (entered_facet cell c))
-path_counted v live cell next p s g x cs i tow h c j b = by (is_crossed v p (displaced s) (entered_facet cell c)) refl
-  where
-    by :
-        (d : Bool) → is_crossed v p (displaced s) (entered_facet cell c) ≡ d →
-        count (is_that c) cs ≡ one_if (is_crossed v p (displaced s) (entered_facet cell c))
-    by true e =
-        count_once v cell p (displaced s) cs c (path_nearing v live cell next g.cells p (displaced s) x cs h)
-        (path_all v live cell next p s g x cs i tow h c j b e) ∙ sym (ap one_if e)
-    by false e =
-        count_none cs c (λ k. true≢false (sym (path_crossed v live cell next p (displaced s) x cs h c k).2 ∙ e))
-        ∙ sym (ap one_if e)
+path_counted v live cell next p s g x cs i tow h c j b =
+    grind (arith, count_once, path_nearing, path_all, count_none, true≢false, path_crossed)
 
 pub path_law : PathLaw
 path_law v b live cell next l cells p hp s w =

@@ -10,8 +10,8 @@
 --   IsSooner v p s c d    c is nearer to p than d
 --
 -- Stands on: Crossings and Firsts.
-use Rattle.std.proofs.Common.{ℕ, zero, suc, ◌<◌, ◌≡◌, ◌≢◌, refl, ap, sym, subst, ◌∙◌, inl, inr, ⊎_elim, arith, Bool, true}
-use Rattle.std.proofs.Common.{false, eqb, ℤ, pos, neg_ℤ, ◌+ℤ◌, ◌-ℤ◌, ◌*ℤ◌, ◌≤ℤ◌, ◌<ℤ◌, List, [], ◌∷◌}
+use Rattle.std.proofs.Common.{ℕ, zero, suc, ◌<◌, ◌≡◌, ◌≢◌, ap, sym, subst, ◌∙◌, inl, inr, ⊎_elim, arith, ℤ, pos, neg_ℤ, ◌+ℤ◌}
+use Rattle.std.proofs.Common.{◌-ℤ◌, ◌*ℤ◌, ◌≤ℤ◌, ◌<ℤ◌, List, [], ◌∷◌}
 use Rattle.std.proofs.lemmas.Int.{ints}
 use Rattle.std.proofs.lemmas.Bool.{eqb-true, eqb-false}
 use Rattle.geo_sign.specs.Polynomial.{constant, difference, negation, product, sum, variable}
@@ -65,20 +65,10 @@ all_past v p s cell i j h = record { at = by }
 pub all_inside :
     (v : Vertices) (cell : Tetrahedron) (q : RationalPoint) → ((k : ℕ) → k < 4 → pos 0 <ℤ inward v cell k q) →
     IsStrictlyIn v cell q
-all_inside v cell q h = record { at = by }
-  where
-    by : (k : ℕ) → pos 0 <ℤ inward v cell k q
-    by zero = h 0 (omega arith)
-    by (suc zero) = h 1 (omega arith)
-    by (suc (suc zero)) = h 2 (omega arith)
-    by (suc (suc (suc k))) = h 3 (omega arith)
+all_inside v cell q h = grind (arith, ints)
 
 pub same_or_not : {P : Type 0} (k n : ℕ) → (k ≡ n → P) → (k ≢ n → P) → P
-same_or_not {P} k n f g = by (eqb k n) refl
-  where
-    by : (b : Bool) → eqb k n ≡ b → P
-    by true e = f (eqb-true k n e)
-    by false e = g (eqb-false k n e)
+same_or_not {P} k n f g = grind (arith, eqb-true, eqb-false)
 
 -- ---- where a walk begins, and where it goes on
 one_and_none : (a b : ℤ) → pos 1 *ℤ a +ℤ pos 0 *ℤ b ≡ a

@@ -3,14 +3,12 @@
 -- Stands on: Sides, Near and Crossings (what they say).
 use Rattle.std.proofs.Common.{ℕ, zero, suc, ◌≡◌, refl, ap, ap₂, sym, ◌∙◌, ◌⊎◌, inl, inr, ⊎_elim, arith, Bool, true, false}
 use Rattle.std.proofs.Common.{true≢false, ◌&&◌, ◌||◌, eqb, int_lt, ℤ, pos, neg_ℤ, ◌<ℤ◌}
-use mathlib.Core.Path.{fun_ext}
 use Rattle.std.proofs.lemmas.Bool.{eqb-true, or_left, or_right, and_from, or_cases, and_parts, eq-eqb}
 use Rattle.std.proofs.lemmas.Int.{ints}
 use Rattle.geo_sign.specs.Rational.{RationalPoint, rational, side}
 use Rattle.geo_sign.specs.Tetrahedron.{Tetrahedron, DirectedFacet, facet_of, vertex_of}
 use Rattle.geo_sign.specs.Vertices.{Vertices}
-use Rattle.geo_sign.specs.Sights.{side_of, is_positive, is_negative, is_crossed, has_vertex, all_facets_at, is_behind}
-use Rattle.geo_sign.specs.Sights.{is_towards, is_cell_of}
+use Rattle.geo_sign.specs.Sights.{side_of, is_positive, is_negative, is_crossed, has_vertex, is_behind, is_towards, is_cell_of}
 use Rattle.geo_sign.specs.Writings.{IsVertexOf}
 use Rattle.geo_sign.specs.Places.{IsStrictlyIn}
 use Rattle.geo_sign.specs.NearPlaces.{reversed}
@@ -66,18 +64,7 @@ crossed_of v p s f h =
 
 pub crossed_is : (v : Vertices) (p : ℕ) (s : RationalPoint) (f : DirectedFacet) → IsCrossed v p s f → is_crossed v p s f ≡ true
 unfolding is_crossed
-crossed_is v p s f h =
-    five (is_positive (side_of v f s)) (is_negative (side_of v f (rational (v.at p))))
-    (is_positive (side (v.at p) (v.at f.a) (v.at f.b) s)) (is_positive (side (v.at p) (v.at f.b) (v.at f.c) s))
-    (is_positive (side (v.at p) (v.at f.c) (v.at f.a) s))
-    (above_is (side_of v f s) h.ahead) (below_is (side_of v f (rational (v.at p))) h.behind)
-    (above_is (side (v.at p) (v.at f.a) (v.at f.b) s) h.ab) (above_is (side (v.at p) (v.at f.b) (v.at f.c) s) h.bc)
-    (above_is (side (v.at p) (v.at f.c) (v.at f.a) s) h.ca)
-  where
-    five : (a b c d e : Bool) → a ≡ true → b ≡ true → c ≡ true → d ≡ true → e ≡ true → (a && b && c && d && e) ≡ true
-    five a b c d e h i j k l =
-        ap₂ (λ x y. x && y && c && d && e) h i ∙ ap₂ (λ x y. true && true && x && y && e) j k
-        ∙ ap (λ x. true && true && true && true && x) l
+crossed_is v p s f h = grind (arith, above_is, below_is)
 
 -- ---- the four facets
 four : (a b c d : Bool) → (a && b && c && d) ≡ true → (a ≡ true) × (b ≡ true) × (c ≡ true) × (d ≡ true)
@@ -92,20 +79,7 @@ four_is a b c d h i j k = ap₂ (λ x y. x && y && c && d) h i ∙ ap₂ (λ x y
 
 pub strictly_of : (v : Vertices) (s : RationalPoint) (t : Tetrahedron) → is_cell_of v s t ≡ true → IsStrictlyIn v t s
 unfolding is_cell_of
-strictly_of v s t h = record { at = by }
-  where
-    z :
-        (is_positive (inward v t 0 s) ≡ true) × (is_positive (inward v t 1 s) ≡ true) × (is_positive (inward v t 2 s) ≡ true) ×
-        (is_positive (inward v t 3 s) ≡ true)
-    z =
-        four (is_positive (inward v t 0 s)) (is_positive (inward v t 1 s)) (is_positive (inward v t 2 s))
-        (is_positive (inward v t 3 s)) h
-
-    by : (k : ℕ) → pos 0 <ℤ inward v t k s
-    by zero = above_true (inward v t 0 s) z.0
-    by (suc zero) = above_true (inward v t 1 s) z.1
-    by (suc (suc zero)) = above_true (inward v t 2 s) z.2
-    by (suc (suc (suc k))) = above_true (inward v t 3 s) z.3
+strictly_of v s t h = grind (arith, four, above_true)
 
 pub strictly_is : (v : Vertices) (s : RationalPoint) (t : Tetrahedron) → IsStrictlyIn v t s → is_cell_of v s t ≡ true
 unfolding is_cell_of
@@ -183,10 +157,4 @@ opposite_test z = grind (arith, ints)
 
 pub behind_is : (v : Vertices) (p : ℕ) (s : RationalPoint) (t : Tetrahedron) → is_behind v p s t ≡ is_towards v p (reversed s) t
 unfolding is_behind is_towards
-behind_is v p s t =
-    let f : DirectedFacet → Bool = λ f. is_negative (side_of v f s) in
-    let g : DirectedFacet → Bool = λ f. is_positive (side_of v f (reversed s)) in
-    let e : f ≡ g =
-    fun_ext (λ (x : DirectedFacet). opposite_test (side_of v x s)
-    ∙ ap (λ z. int_lt (pos 0) z) (sym (side_reversed (v.at x.a) (v.at x.b) (v.at x.c) s))) in
-    ap (λ (test : DirectedFacet → Bool). has_vertex t p && all_facets_at p t test) e
+behind_is v p s t = grind (arith, opposite_test, side_reversed)

@@ -31,15 +31,7 @@ having v f = record { at = v.at; high = v.high; count = v.count; is_in = f }
 same_in :
     (v : Vertices) (f g : ℕ → Bool) → ((u : ℕ) → u < v.count → f u ≡ g u) → (t : Tetrahedron) → IsCellOf (having v f) t →
     IsCellOf (having v g) t
-same_in v f g e t k =
-    record {
-      has_a = (k.has_a.0, sym (e t.a k.has_a.0) ∙ k.has_a.1);
-      has_b = (k.has_b.0, sym (e t.b k.has_b.0) ∙ k.has_b.1);
-      has_c = (k.has_c.0, sym (e t.c k.has_c.0) ∙ k.has_c.1);
-      has_d = (k.has_d.0, sym (e t.d k.has_d.0) ∙ k.has_d.1);
-      positive = k.positive;
-      clear = λ u h. k.clear u (h.0, e u h.0 ∙ h.1);
-    }
+same_in v f g e t k = grind arith
 
 module _ (v : Vertices) (b : IsBoxed v) where
   front_boxed : (k : ℕ) → CORNERS ≤ k → IsBoxed (front k v)

@@ -3,8 +3,8 @@
 -- new one itself is too:
 -- fewer are higher at each step.
 -- Stands on: Fan and Order.
-use Rattle.std.proofs.Common.{ℕ, ◌≡◌, ◌<◌, ◌≤◌, refl, ap, sym, subst, ◌∙◌, inl, inr, arith, Bool, true, false, int_lt, ℤ, pos}
-use Rattle.std.proofs.Common.{◌*ℤ◌, ◌<ℤ◌, List, [], ◌∷◌}
+use Rattle.std.proofs.Common.{ℕ, ◌≡◌, ◌<◌, ◌≤◌, refl, sym, subst, inl, inr, arith, Bool, true, false, int_lt, ℤ, pos, ◌*ℤ◌}
+use Rattle.std.proofs.Common.{◌<ℤ◌, List, [], ◌∷◌}
 use Rattle.std.proofs.lemmas.Int.{ints}
 use Rattle.geo_sign.specs.Rational.{RationalPoint}
 use Rattle.geo_sign.specs.Cells.{IsCell}
@@ -34,11 +34,7 @@ pub count_lt :
     {X : Type 0} (f g : X → Bool) (xs : List X) (y : X) → IsIn xs y → f y ≡ false → g y ≡ true →
     ((x : X) → IsIn xs x → f x ≡ true → g x ≡ true) → count f xs < count g xs
 count_lt f g [] y i e k h = absurd i
-count_lt f g (x ∷ xs) y (inl q) e k h =
-    let a : one_if (f x) ≡ 0 = ap one_if (ap f q ∙ e) in
-    let b : one_if (g x) ≡ 1 = ap one_if (ap g q ∙ k) in
-    let c = count_le f g xs (λ z j. h z (inr j)) in
-    omega (arith, a, b, c)
+count_lt f g (x ∷ xs) y (inl q) e k h = grind (arith, count_le)
 count_lt f g (x ∷ xs) y (inr i) e k h =
     let a = one_le (f x) (g x) (h x (inl refl)) in
     let b = count_lt f g xs y i e k (λ z j. h z (inr j)) in

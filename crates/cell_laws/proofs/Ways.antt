@@ -1,16 +1,15 @@
 -- The ways to write a cell: they do not change its lifted plane, and two cells of the same vertices are one, written anew. What
 -- else they keep geo_sign says.
 -- Stands on: Identities.
-use Rattle.std.proofs.Common.{ℕ, zero, suc, ◌≤ℤ◌, ◌≡◌, ap, sym, ◌∙◌, inl, inr, arith, ℤ, pos, ◌<ℤ◌, [], ◌∷◌}
+use Rattle.std.proofs.Common.{ℕ, ◌≤ℤ◌, ◌≡◌, sym, ◌∙◌, inl, inr, arith, ℤ, pos, ◌<ℤ◌, [], ◌∷◌}
 use Rattle.std.proofs.lemmas.Int.{ints}
 use Rattle.geo_sign.specs.Polynomial.{variable}
 use Rattle.geo_sign.proofs.Ring.{ring}
 use Rattle.geo_sign.specs.Point.{Point}
 use Rattle.geo_sign.specs.Rational.{RationalPoint, side}
 use Rattle.geo_sign.proofs.Written.{coordinates, RationalSymbols, symbols, A, B, C, D}
-use Rattle.geo_sign.specs.Sights.{side_of}
-use Rattle.geo_sign.specs.Tetrahedron.{facet_of, Tetrahedron, tetrahedron}
-use Rattle.geo_sign.specs.Vertices.{orientation_of, Vertices}
+use Rattle.geo_sign.specs.Tetrahedron.{Tetrahedron}
+use Rattle.geo_sign.specs.Vertices.{Vertices}
 use Rattle.geo_sign.specs.Places.{IsLyingIn, IsStrictlyIn}
 use Rattle.cell_laws.specs.Lifts.{lift, lift_of}
 use Rattle.geo_sign.specs.Writings.{IsVertexOf, IsRewritten}
@@ -49,30 +48,16 @@ same_lift v p =
 pub lying :
     (v : Vertices) (r : Tetrahedron) (q : RationalPoint) → pos 0 ≤ℤ beside v r.b r.d r.c q → pos 0 ≤ℤ beside v r.a r.c r.d q →
     pos 0 ≤ℤ beside v r.a r.d r.b q → pos 0 ≤ℤ beside v r.a r.b r.c q → IsLyingIn v r q
-lying v r q h i j k = record { at = at }
-  where
-    at : (n : ℕ) → pos 0 ≤ℤ side_of v (facet_of r n) q
-    at zero = h
-    at (suc zero) = i
-    at (suc (suc zero)) = j
-    at (suc (suc (suc n))) = k
+lying v r q h i j k = grind (arith, ints)
 
 pub strictly :
     (v : Vertices) (r : Tetrahedron) (q : RationalPoint) → pos 0 <ℤ beside v r.b r.d r.c q → pos 0 <ℤ beside v r.a r.c r.d q →
     pos 0 <ℤ beside v r.a r.d r.b q → pos 0 <ℤ beside v r.a r.b r.c q → IsStrictlyIn v r q
-strictly v r q h i j k = record { at = at }
-  where
-    at : (n : ℕ) → pos 0 <ℤ side_of v (facet_of r n) q
-    at zero = h
-    at (suc zero) = i
-    at (suc (suc zero)) = j
-    at (suc (suc (suc n))) = k
+strictly v r q h i j k = grind (arith, ints)
 
 -- ---- two cells of the same vertices
 pub tetrahedron_same : (q r : Tetrahedron) → q.a ≡ r.a → q.b ≡ r.b → q.c ≡ r.c → q.d ≡ r.d → q ≡ r
-tetrahedron_same q r e f g h =
-    ap (λ x. tetrahedron x q.b q.c q.d) e ∙ ap (λ x. tetrahedron r.a x q.c q.d) f ∙ ap (λ x. tetrahedron r.a r.b x q.d) g
-    ∙ ap (λ x. tetrahedron r.a r.b r.c x) h
+tetrahedron_same q r e f g h = grind arith
 
 -- two vertices alike, and the other two among the rest
 rest :
@@ -86,11 +71,7 @@ rest v q r hq hr n ea eb (inr (inr (inl e))) (inr (inr (inl f))) = absurd (n.d_c
 rest v q r hq hr n ea eb (inr (inr (inl e))) (inr (inr (inr f))) = tetrahedron_same q r ea eb (sym e) (sym f)
 rest v q r hq hr n ea eb (inr (inr (inr e))) (inl f) = absurd (n.d_a (f ∙ ea))
 rest v q r hq hr n ea eb (inr (inr (inr e))) (inr (inl f)) = absurd (n.d_b (f ∙ eb))
-rest v q r hq hr n ea eb (inr (inr (inr e))) (inr (inr (inl f))) =
-    let l = exchanged_orientation (v.at r.a) (v.at r.b) (v.at r.c) (v.at r.d) in
-    let m : orientation_at v q ≡ orientation_of v r.a r.b r.d r.c =
-    ap (orientation_at v) (tetrahedron_same q (tetrahedron r.a r.b r.d r.c) ea eb (sym f) (sym e)) in
-    absurd (omega (arith, ints, l, m, hq, hr))
+rest v q r hq hr n ea eb (inr (inr (inr e))) (inr (inr (inl f))) = grind (arith, ints, exchanged_orientation, tetrahedron_same)
 rest v q r hq hr n ea eb (inr (inr (inr e))) (inr (inr (inr f))) = absurd (n.d_c (f ∙ sym e))
 
 -- a positive writing whose vertices are all among another's is that cell

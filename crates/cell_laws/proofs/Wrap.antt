@@ -121,11 +121,7 @@ across v a b c d k =
 
 -- a vertex before a facet is none of the facet's
 pub before_not : (v : Vertices) (a b c u : ℕ) → orientation_of v a b c u ≢ pos 0 → (u ≢ a) × (u ≢ b) × (u ≢ c)
-before_not v a b c u h = (
-  λ e. h (ap (orientation_of v a b c) e ∙ flat_a (v.at a) (v.at b) (v.at c)),
-  λ e. h (ap (orientation_of v a b c) e ∙ flat_b (v.at a) (v.at b) (v.at c)),
-  λ e. h (ap (orientation_of v a b c) e ∙ flat_c (v.at a) (v.at b) (v.at c)),
-)
+before_not v a b c u h = grind (arith, flat_a, flat_b, flat_c)
 
 pub above_not_zero : (z : ℤ) → pos 0 <ℤ z → z ≢ pos 0
 above_not_zero z h e = absurd (omega (arith, ints))
