@@ -17,8 +17,8 @@ use Rattle.geo_sign.specs.Point.{Point}
 use Rattle.scan.specs.declared.scan.Seen.{Seen}
 use Rattle.scan.specs.ScanRows.{VertexRow}
 use Rattle.scan.specs.Shown.{Shown, IsNoEarlier}
-use Rattle.scan.specs.PlainForm.{header, vertex_line, scanner_line, is_once, is_wide, text_in_form, of_row, row_showing}
-use Rattle.scan.specs.PlainForm.{vertices_from, rows_showing, scan_text}
+use Rattle.scan.specs.PlainForm.{header, vertex_line, scanner_line, is_once, is_wide, of_row, row_showing, vertices_from}
+use Rattle.scan.specs.PlainForm.{scan_text}
 
 -- ---- the sights of one row
 
@@ -120,17 +120,8 @@ row_between seen start end row in_order cut run =
 vertices_append : (number : ℕ) (points more : List Point) (seen : List Seen)
     → vertices_from number (points ++ more) seen
     ≡ vertices_from number points seen ++ vertices_from (number + length points) more seen
-vertices_append number [] more seen = ap (λ (n : ℕ). vertices_from n more seen) (plus_zero number)
-  where
-    plus_zero : (n : ℕ) → n ≡ n + 0
-    plus_zero n = omega arith
-vertices_append number (p ∷ points) more seen =
-    ap (λ (rows : List VertexRow). row_showing p (of_row number seen) ∷ rows)
-    (vertices_append (number + 1) points more seen
-    ∙ ap (λ (n : ℕ). vertices_from (number + 1) points seen ++ vertices_from n more seen) (next number (length points)))
-  where
-    next : (n k : ℕ) → n + 1 + k ≡ n + suc k
-    next n k = omega arith
+vertices_append number [] more seen = grind arith
+vertices_append number (p ∷ points) more seen = grind (arith, vertices_append (number + 1) points more seen)
 
 -- the rows so far, with one more
 one_more_row : (points : List Point) (seen : List Seen) (i : ℕ) (p : Point) → i < length points → p ≡ get_or points i p
@@ -209,12 +200,4 @@ pub parts_printed : (shown : Shown) (wide : Bool) (n m : ℕ) (old with_header w
     → new ≡ with_vertices ++ flat_map scanner_line shown.scanners
     → new ≡ old ++ scan_text shown
 parts_printed shown wide n m old with_header with_vertices new due n_is m_is first second third =
-    let rows = vertices_from 0 shown.points shown.seen in
-    let vertices = flat_map (vertex_line wide) rows in
-    let others = flat_map scanner_line shown.scanners in
-    third ∙ ap (λ (text : List ℕ). text ++ others) second ∙ append_assoc with_header vertices others
-    ∙ ap (λ (text : List ℕ). text ++ (vertices ++ others)) first
-    ∙ append_assoc old (header wide n m) (vertices ++ others)
-    ∙ ap (λ (k : ℕ). old ++ (header wide k m ++ (vertices ++ others))) (n_is ∙ sym (vertices_count 0 shown.points shown.seen))
-    ∙ ap (λ (k : ℕ). old ++ (header wide (length rows) k ++ (vertices ++ others))) m_is
-    ∙ ap (λ (b : Bool). old ++ text_in_form b (rows_showing shown)) due
+    grind (arith, append_assoc, vertices_count)

@@ -71,10 +71,7 @@ record StandAt (bytes : List ℕ) (place : ℕ) (p : Point) (rest : List ℕ) : 
 
 x_stands : (bytes : List ℕ) (place : ℕ) (p : Point) (rest : List ℕ) → StandAt bytes place p rest
     → take (length (signed_decimal p.x)) (drop place bytes) ≡ signed_decimal p.x
-x_stands bytes place p rest stand =
-    word_at bytes stand.front (signed_decimal p.x)
-    (space ∷ (signed_decimal p.y ++ (space ∷ (signed_decimal p.z ++ rest)))) place
-    (stand.is ∙ ap (λ (xs : List ℕ). stand.front ++ xs) (coordinates-append p rest)) stand.at
+x_stands bytes place p rest stand = grind (arith, word_at, coordinates-append)
 
 y_stands : (bytes : List ℕ) (place : ℕ) (p : Point) (rest : List ℕ) → StandAt bytes place p rest
     → take (length (signed_decimal p.y)) (drop (y_place place p) bytes) ≡ signed_decimal p.y
@@ -355,12 +352,7 @@ lines_length : (wide : Bool) (place : ℕ) (rows : List VertexRow)
     → vertices_end wide place rows ≡ place + length (flat_map (vertex_line wide) rows)
 lines_length wide place [] = omega arith
 lines_length wide place (row ∷ rows) =
-    omega (
-      arith,
-      lines_length wide (vertex_end wide place row) rows,
-      line_length place row.point (numbers_behind_point wide row),
-      length-append (vertex_line wide row) (flat_map (vertex_line wide) rows),
-    )
+    grind (arith, line_length, length-append, lines_length wide (vertex_end wide place row) rows)
 
 -- the rows of a printed body say the scan
 pub printed_found : (wide : Bool) (vertices : List VertexRow) (scanners : List Point)

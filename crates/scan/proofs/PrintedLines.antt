@@ -75,15 +75,7 @@ coordinates-append p rest = simp append_assoc
 
 point_cut : (place : ℕ) (p : Point) (b : ℕ) (rest : List ℕ) → IsWithin DATA_LIMIT p → is_white_space b ≡ true
     → tokens_from place (coordinates p ++ b ∷ rest) ≡ point_tokens place p (tokens_from (end_place place p) rest)
-point_cut place p b rest within white =
-    ap (tokens_from place) (coordinates-append p (b ∷ rest))
-    ∙ word_token place (signed_decimal p.x) space (signed_decimal p.y ++ (space ∷ (signed_decimal p.z ++ b ∷ rest)))
-    (number_word p.x within.x_within) refl
-    ∙ ap (λ (ts : List Token). token place (signed_decimal p.x) ∷ ts)
-    (word_token (y_place place p) (signed_decimal p.y) space (signed_decimal p.z ++ b ∷ rest)
-    (number_word p.y within.y_within) refl)
-    ∙ ap (λ (ts : List Token). token place (signed_decimal p.x) ∷ token (y_place place p) (signed_decimal p.y) ∷ ts)
-    (word_token (z_place place p) (signed_decimal p.z) b rest (number_word p.z within.z_within) white)
+point_cut place p b rest within white = grind (arith, coordinates-append, word_token, number_word)
 
 -- ---- numbers behind coordinates
 
@@ -103,14 +95,10 @@ end_white (n ∷ ns) = refl
 
 spaced_behind : (ns rest : List ℕ) → spaced ns ++ (line_feed ∷ rest) ≡ end_byte ns ∷ behind ns rest
 spaced_behind [] rest = refl
-spaced_behind (n ∷ ns) rest =
-    append_assoc (space ∷ decimal n) (spaced ns) (line_feed ∷ rest)
-    ∙ ap (λ (text : List ℕ). space ∷ (decimal n ++ text)) (spaced_behind ns rest)
+spaced_behind (n ∷ ns) rest = grind (arith, append_assoc, spaced_behind ns rest)
 
 pub line-append : (p : Point) (ns rest : List ℕ) → line p ns ++ rest ≡ coordinates p ++ (end_byte ns ∷ behind ns rest)
-line-append p ns rest =
-    append_assoc (coordinates p) (spaced ns ++ (line_feed ∷ [])) rest
-    ∙ ap (λ (text : List ℕ). coordinates p ++ text) (append_assoc (spaced ns) (line_feed ∷ []) rest ∙ spaced_behind ns rest)
+line-append p ns rest = grind (arith, append_assoc, spaced_behind)
 
 abbrev pub next_place : ℕ → ℕ → ℕ
 next_place place n = place + length (decimal n) + 1
@@ -143,9 +131,7 @@ numbers_cut place (n ∷ ns) rest fit =
 pub line_cut : (place : ℕ) (p : Point) (ns rest : List ℕ) → IsWithin DATA_LIMIT p → Fit ns
     → tokens_from place (line p ns ++ rest)
     ≡ point_tokens place p (number_tokens (end_place place p) ns ++ tokens_from (line_end place p ns) rest)
-line_cut place p ns rest within fit =
-    ap (tokens_from place) (line-append p ns rest) ∙ point_cut place p (end_byte ns) (behind ns rest) within (end_white ns)
-    ∙ ap (point_tokens place p) (numbers_cut (end_place place p) ns rest fit)
+line_cut place p ns rest within fit = grind (arith, line-append, point_cut, end_white, numbers_cut)
 
 numbers_length : (place : ℕ) (ns : List ℕ) → numbers_end place ns ≡ place + length (spaced ns)
 numbers_length place [] = omega arith
@@ -153,19 +139,7 @@ numbers_length place (n ∷ ns) =
     omega (arith, numbers_length (next_place place n) ns, length-append (space ∷ decimal n) (spaced ns))
 
 pub length-coordinates : (place : ℕ) (p : Point) → end_place place p ≡ place + length (coordinates p) + 1
-length-coordinates place p =
-    omega (
-      arith,
-      length-append (signed_decimal p.x) (space ∷ (signed_decimal p.y ++ (space ∷ signed_decimal p.z))),
-      length-append (signed_decimal p.y) (space ∷ signed_decimal p.z),
-    )
+length-coordinates place p = grind (arith, length-append)
 
 pub line_length : (place : ℕ) (p : Point) (ns : List ℕ) → line_end place p ns ≡ place + length (line p ns)
-line_length place p ns =
-    omega (
-      arith,
-      numbers_length (end_place place p) ns,
-      length-coordinates place p,
-      length-append (coordinates p) (spaced ns ++ (line_feed ∷ [])),
-      length-append (spaced ns) (line_feed ∷ []),
-    )
+line_length place p ns = grind (arith, numbers_length, length-coordinates, length-append)

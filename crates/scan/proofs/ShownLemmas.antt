@@ -8,7 +8,7 @@
 use Rattle.std.proofs.Common.{◌≡◌, ℕ, suc, ◌+◌, ◌<◌, ◌≤◌, List, [], ◌∷◌, ◌++◌, length, map, get_or, All, AllPairs, refl, sym}
 use Rattle.std.proofs.Common.{ap, ◌∙◌, arith, append_assoc, length-append}
 use Rattle.std.proofs.lemmas.List.{append-nil, map-append, length-map}
-use Rattle.std.proofs.lemmas.List.Elements.{All-nil, All-head, All-tail, All-map, All-append}
+use Rattle.std.proofs.lemmas.List.Elements.{All-head, All-tail, All-map, All-append}
 use Rattle.std.proofs.lemmas.List.Kept.{AllPairs-cons}
 use Rattle.std.proofs.lemmas.List.Sums.{sum_by-cons}
 use Rattle.geo_sign.specs.Point.{Point, IsWithin}
@@ -84,12 +84,7 @@ weighs_alike number weight x y of later same = absurd (omega (arith, of.number_i
 
 rows_seen : (number points scanners : ℕ) (rows : List VertexRow) → number + length rows ≤ points
     → All (IsVertexRow scanners) rows → AreSeen number points scanners (seen_from number rows)
-rows_seen number points scanners [] fit are = record {
-  from = All-nil (λ (s : Seen). number ≤ s.row);
-  there = All-nil (IsSeen points scanners);
-  in_order = λ i j d before inside. absurd (omega arith);
-  of_one_weight = λ i j d before inside. absurd (omega arith);
-}
+rows_seen number points scanners [] fit are = grind arith
 rows_seen number points scanners (row ∷ rows) fit are =
     let first = row_seen number row in
     let others = seen_from (number + 1) rows in
@@ -152,34 +147,15 @@ rows_are_shown rows is =
 
 -- what a scan keeps
 pub scan_is_shown : (scan : Scan) → IsShown (shown_of scan)
-scan_is_shown scan = record {
-  points = scan.points_are_data;
-  scanners = scan.scanners_are_data;
-  seen = scan.seen_are_there;
-  in_order = scan.seen_in_order;
-  of_one_weight = scan.seen_of_one_weight;
-  point_count = scan.points_fit;
-  scanner_count = scan.scanners_fit;
-  sight_count = scan.sights_fit;
-}
+scan_is_shown scan = grind arith
 
 -- ---- rows one behind another
 
 -- what rows and then others show
 pub seen_from-append : (number : ℕ) (rows others : List VertexRow)
     → seen_from number (rows ++ others) ≡ seen_from number rows ++ seen_from (number + length rows) others
-seen_from-append number [] others = ap (λ (n : ℕ). seen_from n others) (plus_zero number)
-  where
-    plus_zero : (n : ℕ) → n ≡ n + 0
-    plus_zero n = omega arith
-seen_from-append number (row ∷ rows) others =
-    ap (λ (seen : List Seen). row_seen number row ++ seen)
-    (seen_from-append (number + 1) rows others
-    ∙ ap (λ (n : ℕ). seen_from (number + 1) rows ++ seen_from n others) (next number (length rows)))
-    ∙ sym (append_assoc (row_seen number row) (seen_from (number + 1) rows) (seen_from (number + length (row ∷ rows)) others))
-  where
-    next : (n k : ℕ) → n + 1 + k ≡ n + suc k
-    next n k = omega arith
+seen_from-append number [] others = grind arith
+seen_from-append number (row ∷ rows) others = grind (arith, append_assoc, seen_from-append (number + 1) rows others)
 
 pub both_shown : (before : Shown) (rows others : ScanRows)
     → shown_and (shown_and before rows) others ≡ shown_and before (rows_and rows others)
@@ -206,7 +182,4 @@ both_shown before rows others =
 
 -- nothing more
 pub none_shown : (before : Shown) → shown_and before no_rows ≡ before
-none_shown before =
-    ap (λ (ps : List Point). shown ps (before.scanners ++ []) (before.seen ++ [])) (append-nil before.points)
-    ∙ ap (λ (ps : List Point). shown before.points ps (before.seen ++ [])) (append-nil before.scanners)
-    ∙ ap (λ (ss : List Seen). shown before.points before.scanners ss) (append-nil before.seen)
+none_shown before = grind (arith, append-nil)

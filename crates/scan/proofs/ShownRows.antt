@@ -82,36 +82,19 @@ others_later number (s ∷ seen) from =
 -- a later row has the same sights without those of an earlier row
 same_of_row : (number row : ℕ) (seen : List Seen) → number ≢ row → of_row row (others_of number seen) ≡ of_row row seen
 same_of_row number row [] differ = refl
-same_of_row number row (s ∷ seen) differ = by_row (is_of number s) refl (same_of_row number row seen differ)
-  where
-    by_row : (b : Bool) → is_of number s ≡ b → of_row row (others_of number seen) ≡ of_row row seen
-        → of_row row (cond (cond b false true) (s ∷ others_of number seen) (others_of number seen))
-        ≡ cond (is_of row s) (s ∷ of_row row seen) (of_row row seen)
-    by_row true same later =
-        later ∙ sym
-        (ap (λ (c : Bool). cond c (s ∷ of_row row seen) (of_row row seen))
-        (ne_eqb s.row row (λ is. differ (sym (eqb-true s.row number same) ∙ is))))
-    by_row false other later = ap (λ (ss : List Seen). cond (is_of row s) (s ∷ ss) ss) later
+same_of_row number row (s ∷ seen) differ = grind (arith, ne_eqb, eqb-true, same_of_row number row seen differ)
 
 same_vertices : (number from : ℕ) (points : List Point) (seen : List Seen) → number < from
     → vertices_from from points (others_of number seen) ≡ vertices_from from points seen
 same_vertices number from [] seen lt = refl
 same_vertices number from (p ∷ points) seen lt =
-    ap (λ (ss : List Seen). row_showing p ss ∷ vertices_from (from + 1) points (others_of number seen))
-    (same_of_row number from seen (λ same. omega (arith, same)))
-    ∙ ap (λ (rows : List VertexRow). row_showing p (of_row from seen) ∷ rows)
-    (same_vertices number (from + 1) points seen (omega arith))
+    grind (arith, same_of_row, same_vertices number (from + 1) points seen (omega arith))
 
 -- ---- what the rows show
 
 of_this_row : (number : ℕ) (seen : List Seen) → All (λ (s : Seen). s.row ≡ number) (of_row number seen)
 of_this_row number [] = All-nil (λ (s : Seen). s.row ≡ number)
-of_this_row number (s ∷ seen) = by_row (is_of number s) refl (of_this_row number seen)
-  where
-    by_row : (b : Bool) → is_of number s ≡ b → All (λ (s : Seen). s.row ≡ number) (of_row number seen)
-        → All (λ (s : Seen). s.row ≡ number) (cond b (s ∷ of_row number seen) (of_row number seen))
-    by_row true same later = All-cons (λ (s : Seen). s.row ≡ number) s (of_row number seen) (eqb-true s.row number same) later
-    by_row false differ later = later
+of_this_row number (s ∷ seen) = grind (arith, eqb-true, of_this_row number seen)
 
 abbrev a_sight : ℕ → ℕ → ℕ → Seen
 a_sight row scanner weight = record { row = row; scanner = scanner; weight = weight }

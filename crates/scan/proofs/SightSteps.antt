@@ -50,26 +50,14 @@ pub named_taken : (read : List ℕ → Result ℕ ScanRefusal) (seen more : List
     → more ≡ seen ++ (record { row = row; scanner = k; weight = weight }) ∷ []
     → seen_behind seen row weight (each_of read items) ≡ total → seen_behind more row weight (each_of read others) ≡ total
 named_taken read seen more row weight k first items others total is first_is more_is so_far =
-    ap (λ (ss : List Seen). seen_behind ss row weight (each_of read others)) more_is
-    ∙ one_more seen row weight k (each_of read others)
-    ∙ sym (ap
-    (λ (r : Result ℕ ScanRefusal). seen_behind seen row weight (r >>= λ k. with_first k (each_of read others))) first_is)
-    ∙ sym (ap (seen_behind seen row weight) (first_read read items others first is))
-    ∙ so_far
+    grind (arith, one_more, first_read)
 
 -- the first of the names that are left is refused
 pub named_refused : (why : ScanRefusal) (read : List ℕ → Result ℕ ScanRefusal) (before seen : List Seen) (row weight : ℕ)
     (first : List ℕ) (items others : List (List ℕ)) (named : Named) → items ≡ first ∷ others → Fails why (read first)
     → seen_behind seen row weight (each_of read items) ≡ seen_behind before row weight named → Fails why named
 named_refused refusals.NoMemory read before seen row weight first items others named is fails so_far = tt
-named_refused why read before seen row weight first items others named is fails so_far =
-    same_refusal named why
-    (sym so_far ∙ ap (seen_behind seen row weight) (first_read read items others first is)
-    ∙ ap (λ (r : Result ℕ ScanRefusal). seen_behind seen row weight (r >>= λ k. with_first k (each_of read others))) fails)
-  where
-    same_refusal : (named : Named) (why : ScanRefusal) → seen_behind before row weight named ≡ Err why → named ≡ Err why
-    same_refusal (Ok ks) why e = absurd cc
-    same_refusal (Err other) why e = cc
+named_refused why read before seen row weight first items others named is fails so_far = grind (arith, first_read)
 
 -- no name is left
 pub all_named : (read : List ℕ → Result ℕ ScanRefusal) (seen : List Seen) (row weight : ℕ) (items : List (List ℕ))
