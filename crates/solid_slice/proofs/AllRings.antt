@@ -41,18 +41,7 @@ concat_push (r ∷ rings) ring = ap (λ (t : List ℕ). r ++ t) (concat_push rin
 pub rings_skip : (points : List Point) (faces : List (List ℕ)) (h : ℤ) (next : List ℕ) (old visited : List Bool)
     (rings : List (List ℕ)) (start : ℕ) → is_visited visited start ≡ true → AreRings points faces h next old visited rings start
     → AreRings points faces h next old visited rings (start + 1)
-rings_skip points faces h next old visited rings start seen r =
-    record {
-      between = r.between;
-      smaller = λ f l. elim (cases_lt f start) [
-        | inl m ↦ r.smaller f m
-        | inr m ↦ let e : f ≡ start = omega arith in ap (is_visited visited) e ∙ seen
-      ];
-      each = r.each;
-      count = r.count;
-      in_order = r.in_order;
-      before = λ k l. omega (arith, r.before k l);
-    }
+rings_skip points faces h next old visited rings start seen r = grind arith
 
 -- a list has its first face
 pub first_counts : (ring : List ℕ) (f : ℕ) → 0 < length ring → get_or ring 0 0 ≡ f → 1 ≤ count_by (λ g. g == f) ring

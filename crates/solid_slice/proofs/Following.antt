@@ -92,11 +92,7 @@ visited_other visited f g ne = get_or-set_other visited f g true true ne
 
 pub visited_still : (visited : List Bool) (f g : ℕ) → is_visited visited f ≡ false → is_visited visited g ≡ true
     → is_visited (set visited f true) g ≡ true
-visited_still visited f g fresh seen =
-    elim (cases_eq g f) [
-      | inl e ↦ ap (is_visited (set visited f true)) e ∙ visited_same visited f fresh
-      | inr ne ↦ visited_other visited f g ne ∙ seen
-    ]
+visited_still visited f g fresh seen = grind (arith, visited_same, visited_other)
 
 -- fewer are left
 pub fewer_left : (visited : List Bool) (f : ℕ) → is_visited visited f ≡ false
@@ -295,16 +291,4 @@ module _ (points : List Point) (faces : List (List ℕ)) (h : ℤ) (next : List 
 pub begins : (points : List Point) (faces : List (List ℕ)) (h : ℤ) (next : List ℕ) (old : List Bool) (start : ℕ)
     → IsBetweenLoops points faces h next old → is_visited old start ≡ false
     → IsFollowed points faces h next old start old [] start
-begins points faces h next old start b fresh =
-    record {
-      size = b.size;
-      uncut = b.uncut;
-      whole = λ f seen _. b.whole f seen;
-      fresh = fresh;
-      count = λ f. omega arith;
-      least = λ k d l. absurd (omega arith);
-      chain = λ k l. absurd (omega arith);
-      begun = λ _. refl;
-      first = λ l. absurd (omega arith);
-      come = λ l. absurd (omega arith);
-    }
+begins points faces h next old start b fresh = grind arith

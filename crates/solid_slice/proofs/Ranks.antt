@@ -14,9 +14,7 @@ use Rattle.mesh_edges.proofs.Counts.{one_if}
 pub in_filter : {X : Type 0} (p : X → Bool) (xs : List X) (i : ℕ) (d : X) → i < length xs → p (get_or xs i d) ≡ true
     → (count_by p (take i xs) < length (filter p xs)) × (get_or (filter p xs) (count_by p (take i xs)) d ≡ get_or xs i d)
 in_filter p [] i d l t = absurd (omega arith)
-in_filter {X} p (x ∷ xs) zero d l t =
-    let e : filter p (x ∷ xs) ≡ x ∷ filter p xs = ap (λ (b : Bool). cond b (x ∷ filter p xs) (filter p xs)) t in
-    (omega (arith, ap (λ (zs : List X). length zs) e), ap (λ (zs : List X). get_or zs 0 d) e)
+in_filter {X} p (x ∷ xs) zero d l t = grind arith
 in_filter {X} p (x ∷ xs) (suc i) d l t = by (in_filter p xs i d (omega arith) t) (p x) refl
   where
     by : (count_by p (take i xs) < length (filter p xs)) × (get_or (filter p xs) (count_by p (take i xs)) d ≡ get_or xs i d)

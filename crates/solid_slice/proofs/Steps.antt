@@ -1,6 +1,6 @@
 -- The numbers of a step, as the code computes them.
-use Rattle.std.proofs.Common.{ℕ, ◌≡◌, ◌+◌, ◌*◌, ◌<◌, ◌≤◌, refl, ap, ◌∙◌, subst, arith, true, false, List, length, get_or}
-use Rattle.std.proofs.Common.{ℤ, pos, ◌+ℤ◌, ◌-ℤ◌, ◌*ℤ◌, unsigned_abs}
+use Rattle.std.proofs.Common.{ℕ, ◌≡◌, ◌+◌, ◌*◌, ◌<◌, ◌≤◌, ap, ◌∙◌, subst, arith, true, false, List, length, get_or, ℤ, pos}
+use Rattle.std.proofs.Common.{◌+ℤ◌, ◌-ℤ◌, ◌*ℤ◌, unsigned_abs}
 use Rattle.std.specs.Int.Signed.{lt_z}
 use Rattle.std.proofs.lemmas.Int.{ints}
 use Rattle.std.proofs.lemmas.List.{get_or_default}
@@ -12,9 +12,7 @@ use Rattle.solid_slice.specs.Cuts.{is_above}
 
 -- a coordinate, read as 32 bits and stored as 64
 pub held_coordinate : (r s z : ℤ) → r ≡ kept w32 s → s ≡ z → unsigned_abs z ≤ 8388608 → Held 8388608 (kept w64 r) z
-held_coordinate r s z e f l =
-    let small = held_kept w32 (record { is = f; within = l }) tt in
-    held_kept w64 (record { is = e ∙ small.is; within = l }) tt
+held_coordinate r s z e f l = grind (arith, ints, held_kept)
 
 -- the height is between those of the edge's ends
 pub height_within : (h a b : ℤ) → lt_z h a ≡ false → lt_z h b ≡ true → unsigned_abs a ≤ 8388608 → unsigned_abs b ≤ 8388608
@@ -60,6 +58,4 @@ module _ (points : List Point) (i : ℕ) (l : i < length points) (p : Point) (is
 
 pub held_height : (points : List Point) (i j : ℕ) → IsWithin 8388608 (point_at points i) → IsWithin 8388608 (point_at points j)
     → (h r : ℤ) → is_above points h i ≡ false → is_above points h j ≡ true → r ≡ kept w32 h → Held 8388608 (kept w64 r) h
-held_height points i j first second h r low high stored =
-    held_coordinate r h h stored refl
-    (height_within h (point_at points i).z (point_at points j).z low high first.z_within second.z_within)
+held_height points i j first second h r low high stored = grind (arith, ints, held_coordinate, height_within)

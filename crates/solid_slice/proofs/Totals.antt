@@ -1,6 +1,6 @@
 -- How many steps the loops have together: no more than there are faces, since each face stands in them once at most.
-use Rattle.std.proofs.Common.{ℕ, zero, suc, ◌≡◌, ◌+◌, ◌<◌, ◌≤◌, ◌==◌, refl, ap, arith, Bool, true, false, not, cond, List, []}
-use Rattle.std.proofs.Common.{◌∷◌, length, get_or, map, filter, ℤ}
+use Rattle.std.proofs.Common.{ℕ, zero, suc, ◌≡◌, ◌+◌, ◌<◌, ◌≤◌, ◌==◌, refl, arith, Bool, true, false, not, List, [], ◌∷◌}
+use Rattle.std.proofs.Common.{length, get_or, map, filter, ℤ}
 use Rattle.std.specs.List.{All, count_by, sum_by, concat}
 use Rattle.std.proofs.lemmas.Bool.{eqb-false, not-true}
 use Rattle.std.proofs.lemmas.List.{length-append, length-map}
@@ -28,15 +28,7 @@ count_both p (x ∷ xs) = omega (arith, count-cons p x xs, count-cons (λ y. not
 -- a filter leaves no more
 count_kept : (p q : ℕ → Bool) (xs : List ℕ) → count_by p (filter q xs) ≤ count_by p xs
 count_kept p q [] = omega arith
-count_kept p q (x ∷ xs) = by (count_kept p q xs) (q x) refl
-  where
-    by : count_by p (filter q xs) ≤ count_by p xs → (b : Bool) → q x ≡ b → count_by p (filter q (x ∷ xs)) ≤ count_by p (x ∷ xs)
-    by ih true e =
-        let kept : filter q (x ∷ xs) ≡ x ∷ filter q xs = ap (λ (b : Bool). cond b (x ∷ filter q xs) (filter q xs)) e in
-        omega (arith, ih, ap (count_by p) kept, count-cons p x xs, count-cons p x (filter q xs))
-    by ih false e =
-        let kept : filter q (x ∷ xs) ≡ filter q xs = ap (λ (b : Bool). cond b (x ∷ filter q xs) (filter q xs)) e in
-        omega (arith, ih, ap (count_by p) kept, count-cons p x xs)
+count_kept p q (x ∷ xs) = grind (arith, count-cons, count_kept p q xs)
 
 -- numbers below n, none of them twice, are at most n
 few_numbers : (n : ℕ) (xs : List ℕ) → ((f : ℕ) → count_by (λ g. g == f) xs ≤ 1) → All (λ f. f < n) xs → length xs ≤ n

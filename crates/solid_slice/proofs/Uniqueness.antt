@@ -238,17 +238,7 @@ slice_is_one = λ points faces h rings others a b.
 
 -- of two pairs one comes first, or they are one
 cases_first : (u v s t : ℕ) → ComesFirst u v s t ⊎ (ComesFirst s t u v ⊎ ((u ≡ s) × (v ≡ t)))
-cases_first u v s t =
-    elim (cases_lt u s) [
-      | inl l ↦ inl (inl l)
-      | inr l ↦
-          elim (cases_lt s u) [ inl m ↦ inr (inl (inl m)) | inr m ↦ by_second (omega arith) (cases_lt v t) (cases_lt t v) ]
-    ]
-  where
-    by_second : u ≡ s → (v < t) ⊎ (t ≤ v) → (t < v) ⊎ (v ≤ t) → ComesFirst u v s t ⊎ (ComesFirst s t u v ⊎ ((u ≡ s) × (v ≡ t)))
-    by_second e (inl l) _ = inl (inr (e, l))
-    by_second e (inr _) (inl l) = inr (inl (inr (sym e, l)))
-    by_second e (inr l) (inr m) = inr (inr (e, omega arith))
+cases_first u v s t = grind arith
 
 module _ (faces : List (List ℕ)) (u v m n s t k l : ℕ) (a : IsFirstUnbalanced faces u v m n) (b : IsFirstUnbalanced faces s t k l) where
   -- two smallest pairs whose counts differ are one
