@@ -9,6 +9,7 @@ import random
 import subprocess
 import unittest
 from collections import Counter
+from itertools import combinations
 from typing import Any, Sequence
 
 import numpy as np
@@ -58,20 +59,27 @@ def two_cubes(by: Sequence[int]) -> tuple[list[tuple[int, ...]], list[tuple[int,
     return points, CUBE_FACES + [(number[a], number[b], number[c]) for a, b, c in CUBE_FACES]
 
 
-# points, faces, whether closed, non-manifold edges and vertices, pieces, faces without area, and six times the volume
-INSPECTED: list[tuple[Any, Any, str, int, int, int, int, int]] = [
-    ([], [], 'yes', 0, 0, 0, 0, 0),
-    (POINTS, [], 'yes', 0, 0, 0, 0, 0),
-    (POINTS, FACES, 'yes', 0, 0, 1, 0, 16000000),
-    (POINTS, [(a, c, b) for a, b, c in FACES], 'yes', 0, 0, 1, 0, -16000000),
-    (moved(POINTS, (8000000, -8000000, 7)), FACES, 'yes', 0, 0, 1, 0, 16000000),
-    (POINTS, FACES[1:], 'no edge 0 1 there 0 back 1', 3, 3, 1, 0, 12000000),
-    (POINTS, FACES[:3] + [(1, 2, 3)], 'no edge 1 2 there 2 back 0', 0, 0, 1, 0, 8000000),
-    (POINTS, FACES + FACES[3:], 'no edge 1 2 there 1 back 2', 3, 3, 1, 0, 20000000),
-    (CUBE, CUBE_FACES, 'yes', 0, 0, 1, 0, 6),
-    (*two_cubes((1, 1, 1)), 'yes', 0, 1, 2, 0, 12),
-    (*two_cubes((1, 1, 0)), 'yes', 1, 2, 1, 0, 12),
-    ([(0, 0, 0), (1, 1, 1), (3, 3, 3), (0, 0, 0)], [(0, 1, 2), (0, 2, 1), (0, 3, 1), (0, 1, 3)], 'yes', 1, 2, 1, 4, 0),
+NO_PAIR = 'crossing_pairs 0 undecided_pairs 0'
+
+# points, faces, whether closed, non-manifold edges and vertices, pieces, faces without area, pairs that cross, and six times the volume;
+# faces without area are undecided
+INSPECTED: list[tuple[Any, Any, str, int, int, int, int, str, int]] = [
+    ([], [], 'yes', 0, 0, 0, 0, NO_PAIR, 0),
+    (POINTS, [], 'yes', 0, 0, 0, 0, NO_PAIR, 0),
+    (POINTS, FACES, 'yes', 0, 0, 1, 0, NO_PAIR, 16000000),
+    (POINTS, [(a, c, b) for a, b, c in FACES], 'yes', 0, 0, 1, 0, NO_PAIR, -16000000),
+    (moved(POINTS, (8000000, -8000000, 7)), FACES, 'yes', 0, 0, 1, 0, NO_PAIR, 16000000),
+    (POINTS, FACES[1:], 'no edge 0 1 there 0 back 1', 3, 3, 1, 0, NO_PAIR, 12000000),
+    (POINTS, FACES[:3] + [(1, 2, 3)], 'no edge 1 2 there 2 back 0', 0, 0, 1, 0, NO_PAIR, 8000000),
+    (POINTS, FACES + FACES[3:], 'no edge 1 2 there 1 back 2', 3, 3, 1, 0, NO_PAIR, 20000000),
+    (CUBE, CUBE_FACES, 'yes', 0, 0, 1, 0, NO_PAIR, 6),
+    (*two_cubes((1, 1, 1)), 'yes', 0, 1, 2, 0, NO_PAIR, 12),
+    (*two_cubes((1, 1, 0)), 'yes', 1, 2, 1, 0, NO_PAIR, 12),
+    ([(0, 0, 0), (1, 1, 1), (3, 3, 3), (0, 0, 0)], [(0, 1, 2), (0, 2, 1), (0, 3, 1), (0, 1, 3)], 'yes', 1, 2, 1, 4,
+     'crossing_pairs 0 undecided_pairs 4', 0),
+    (POINTS + moved(POINTS, (10, 20, 30)), FACES + [(a + 4, b + 4, c + 4) for a, b, c in FACES], 'yes', 0, 0, 2, 0,
+     'crossing_pairs 6 undecided_pairs 0 first_pair 0 4', 32000000),
+    (POINTS + POINTS[2:3], [(0, 1, 2), (0, 4, 1)], 'no edge 0 2 there 0 back 1', 4, 4, 1, 0, 'crossing_pairs 1 undecided_pairs 0 first_pair 0 1', 0),
 ]
 
 
@@ -176,10 +184,10 @@ class MeshProgram(InFolder):
             equal(mesh_program('inspect', 'mesh.ply')[:2], (3, 'refused 30 mesh_cut\n'))
 
     def test_inspections(self) -> None:
-        for points, faces, closed, edges, vertices, pieces, flat, volume in INSPECTED:
+        for points, faces, closed, edges, vertices, pieces, flat, pairs, volume in INSPECTED:
             write('mesh.ply', mesh_text(points, [turned(face) for face in faces]))
             topology = f'nonmanifold_edges {edges} nonmanifold_vertices {vertices} pieces {pieces}'
-            line = f'inspected points {len(points)} faces {len(faces)} closed {closed} {topology} flat_faces {flat} volume {volume}/6\n'
+            line = f'inspected points {len(points)} faces {len(faces)} closed {closed} {topology} flat_faces {flat} {pairs} volume {volume}/6\n'
             equal(mesh_program('inspect', 'mesh.ply'), (0, line, ''))
         equal(os.listdir('.'), ['mesh.ply'])
 
@@ -190,7 +198,9 @@ class MeshProgram(InFolder):
             points = [tuple(chance.randint(-size, size) for _ in range(3)) for _ in range(chance.randint(3, 6))]
             faces = [turned(chance.sample(range(len(points)), 3)) for _ in range(chance.randint(0, 12))]
             write('mesh.ply', mesh_text(points, faces))
-            equal(mesh_program('inspect', 'mesh.ply'), (0, inspected(points, faces), ''))
+            status, line, error = mesh_program('inspect', 'mesh.ply')
+            undecided = line.split(' undecided_pairs ')[1].split()[0]
+            equal((status, line, error), (0, inspected(points, faces, undecided), ''))
 
     def test_flips_lower_the_angles(self) -> None:
         for size, roughness in ((3000, 0.1), (1900000, 0.1), (300, 0.3)):
@@ -341,8 +351,8 @@ def joined(*solids: Solid) -> Solid:
     return points, faces
 
 
-def inspected(points: Sequence[Any], faces: Sequence[Any]) -> str:
-    """The line of `inspect`, by the definitions of its numbers."""
+def inspected(points: Sequence[Any], faces: Sequence[Any], undecided: str) -> str:
+    """The line of `inspect`, by the definitions of its numbers other than that of undecided pairs."""
     count = edges_of(faces)
     odd = sorted((min(edge), max(edge)) for edge in count if count[edge] != count[edge[::-1]])
     closed = 'closed yes'
@@ -351,8 +361,8 @@ def inspected(points: Sequence[Any], faces: Sequence[Any]) -> str:
         closed = f'closed no edge {a} {b} there {count[a, b]} back {count[b, a]}'
     corners = [[points[v] for v in face] for face in faces]
     flat_faces = sum(not any(product(difference(a, b), difference(a, c))) for a, b, c in corners)
-    volume = six_volume(points, faces)
-    return f'inspected points {len(points)} faces {len(faces)} {closed} {topology(faces)} flat_faces {flat_faces} volume {volume}/6\n'
+    measures = f'{topology(faces)} flat_faces {flat_faces} {crossings(points, faces, undecided)} volume {six_volume(points, faces)}/6'
+    return f'inspected points {len(points)} faces {len(faces)} {closed} {measures}\n'
 
 
 def six_volume(points: Sequence[Any], faces: Sequence[Any]) -> int:
@@ -369,6 +379,36 @@ def topology(faces: Sequence[Any]) -> str:
         around = [{edge for edge in face if v in edge} for face in sides if any(v in edge for edge in face)]
         vertices += any(v in edge for edge in odd) or pieces_of(around) > 1
     return f'nonmanifold_edges {len(odd)} nonmanifold_vertices {vertices} pieces {pieces_of(sides)}'
+
+
+def crossings(points: Sequence[Any], faces: Sequence[Any], undecided: str) -> str:
+    """The numbers of pairs of faces that cross, and the first, by the definition."""
+    pairs = [pair for pair in combinations(range(len(faces)), 2) if share_more(points, faces[pair[0]], faces[pair[1]])]
+    first = f' first_pair {pairs[0][0]} {pairs[0][1]}' if pairs else ''
+    return f'crossing_pairs {len(pairs)} undecided_pairs {undecided}{first}'
+
+
+def share_more(points: Sequence[Any], one: Sequence[int], other: Sequence[int]) -> bool:
+    """Whether a point of both triangles has weights of both in which a corner counts that the other one has not. All pairs of weights
+    that give one point are sums of those in which the fewest corners count."""
+    columns = [(*points[v], 1) for v in one] + [(*(-x for x in points[v]), -1) for v in other]
+    alone = [v not in other for v in one] + [v not in one for v in other]
+    counts = {k for size in range(2, 6) for chosen in combinations(range(6), size) if chosen[0] < 3 <= chosen[-1]
+              for k in chosen if alone[k] and fits([columns[k] for k in chosen])}
+    return min(counts, default=3) < 3 <= max(counts, default=0)
+
+
+def fits(columns: Sequence[tuple[int, ...]]) -> bool:
+    """Whether positive multiples of these vectors, and no multiples of fewer, have the sum zero."""
+    rows = [[column[k] for column in columns] for k in range(4)]
+    for k in range(len(columns) - 1):
+        pivot = next((i for i in range(k, 4) if rows[i][k]), None)
+        if pivot is None:
+            return False
+        rows[k], rows[pivot] = rows[pivot], rows[k]
+        rows = [row if i == k else [x * rows[k][k] - y * row[k] for x, y in zip(row, rows[k])] for i, row in enumerate(rows)]
+    count = len(columns) - 1
+    return all(rows[k][k] * rows[k][-1] < 0 for k in range(count)) and not any(row[-1] for row in rows[count:])
 
 
 def pieces_of(sets: Sequence[set[Any]]) -> int:

@@ -16,20 +16,24 @@ use Rattle.counting.specs.Sets.{AreSoMany}
 use Rattle.mesh_measures.specs.Flat.{IsFlat}
 use Rattle.mesh_measures.specs.Topology.{IsTopologyOf}
 use Rattle.mesh_measures.specs.Volumes.{six_volume}
+use Rattle.mesh_crossings.specs.Counts.{CountsCrossings}
 use Rattle.mesh_measures.specs.declared.topology.Topology.{Topology}
 use Rattle.command_run.specs.Answers.{Answer, Task}
 use Rattle.command_run.specs.Lines.{labelled}
 use Rattle.command_run.specs.declared.status.Status.TheVariants.{Done}
+use Rattle.mesh_cmd.specs.Crossings.{crossings_text}
 use Rattle.mesh_cmd.specs.Input.{file_task}
 use Rattle.mesh_cmd.specs.declared.commands.inspect.Measures.{Measures}
 
 -- The first edge that occurs another number of times than its reverse, if the mesh is not closed; the numbers of non-manifold edges and
--- vertices and of pieces; how many faces have their three corners on one line; and six times the signed volume.
+-- vertices and of pieces; how many faces have their three corners on one line; how many pairs of faces cross; and six times the signed
+-- volume.
 pub record AreMeasuresOf (mesh : Surface) (m : Measures) : Type 0 where
   pub closed : IfNone m.unbalanced (IsBalanced mesh.faces)
   pub unbalanced : IfSome m.unbalanced (λ e. IsFirstUnbalanced mesh.faces e.from e.to e.there e.back)
   pub topology : IsTopologyOf mesh.points mesh.faces m.topology
   pub flat : AreSoMany (λ f. (f < length mesh.faces) × IsFlat mesh.points (face_at mesh.faces f)) m.flat_faces
+  pub crossings : CountsCrossings mesh.points mesh.faces m.crossings
   pub volume : m.six_volume ≡ six_volume mesh.points mesh.faces
 
 -- whether the mesh is closed, or the first unbalanced edge and how often it occurs there and back
@@ -57,9 +61,11 @@ volume_text six = codes " volume " ++ (signed_decimal six ++ codes "/6\n")
 unfoldable pub measures_text : Measures → List ℕ
 measures_text m =
     closed_text m.unbalanced
-    ++ (topology_text m.topology ++ (labelled (codes " flat_faces ") m.flat_faces ++ volume_text m.six_volume))
+    ++ (topology_text m.topology
+    ++ (labelled (codes " flat_faces ") m.flat_faces ++ (crossings_text m.crossings ++ volume_text m.six_volume)))
 
--- `inspected points N faces M closed yes nonmanifold_edges E nonmanifold_vertices W pieces P flat_faces D volume V/6`
+-- `inspected points N faces M closed yes nonmanifold_edges E nonmanifold_vertices W pieces P flat_faces D crossing_pairs C
+-- undecided_pairs U volume V/6`
 unfoldable pub inspected_line : (points faces : ℕ) → Measures → List ℕ
 inspected_line points faces m = sizes_text points faces ++ measures_text m
 

@@ -1,4 +1,5 @@
 pub mod Commands
+pub mod Crossings
 pub mod Finish
 pub mod Input
 pub mod Inspect

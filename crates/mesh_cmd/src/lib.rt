@@ -4,11 +4,12 @@
 //! its task, which is how it may end, how many files it reads and its answers. The commands stand in `specs/Commands`, and each has
 //! a file of its own there and in `src/commands`. What a run does to its host is said once for all commands, in `command_run`.
 //!
-//! It depends on `command_run` (answers and what a run does), `mesh_finish` (finished meshes), `mesh_measures` (measures),
-//! `mesh_provenance` (their text, with where they come from) and `sha2`.
+//! It depends on `command_run` (answers and what a run does), `mesh_finish` (finished meshes), `mesh_measures` and `mesh_crossings`
+//! (measures), `mesh_provenance` (their text, with where they come from) and `sha2`.
 #![tactic(auto)]
 
 mod commands;
+mod crossings;
 mod input;
 mod options;
 mod whole_run;

@@ -9,11 +9,13 @@ ghost use Rattle.mesh_cmd.specs.Commands.{asked, inspect_of};
 ghost use Rattle.mesh_cmd.specs.Inspect.{inspect_task, inspected_line, closed_text, sizes_text, topology_text, volume_text, measures_text, IsInspection, AreMeasuresOf};
 
 use crate::commands::Command;
+use crate::crossings::push_crossings;
 use crate::input::{InputReading, read_input};
 use command_run::{
     FILE_LIMIT, Line, NoMemory, Reply, Status, Stop, are_names, invalid_input, push_labelled,
 };
 use host::Host;
+use mesh_crossings::{CrossingCounts, count_crossings};
 use mesh_edges::{UnbalancedEdge, first_unbalanced};
 use mesh_measures::{Topology, count_flat_faces, measure_topology, six_volume};
 use mesh_ply::Mesh;
@@ -36,6 +38,8 @@ pub struct Measures {
     pub topology: Topology,
     /// How many faces have their three corners on one line.
     pub flat_faces: usize,
+    /// How many pairs of faces cross, how many are undecided, and the first that crosses.
+    pub crossings: CrossingCounts,
     /// Six times the signed volume, in cubes of a scaled unit.
     pub six_volume: i128,
 }
@@ -99,11 +103,13 @@ fn measure(alloc: Global, mesh: &Mesh) -> Result<Measures, NoMemory>
     let unbalanced = first_unbalanced(alloc, mesh)?;
     let topology = measure_topology(alloc, mesh)?;
     let flat_faces = count_flat_faces(mesh);
+    let crossings = count_crossings(alloc, mesh)?;
     let six_volume = six_volume(mesh);
     Ok(Measures {
         unbalanced,
         topology,
         flat_faces,
+        crossings,
         six_volume,
     })
 }
@@ -176,6 +182,7 @@ fn push_measures(line: &mut Vec<u8>, measures: Measures) -> Result<(), NoMemory>
     push_closed(line, measures.unbalanced)?;
     push_topology(line, measures.topology)?;
     push_labelled(line, b" flat_faces ", measures.flat_faces as u64)?;
+    push_crossings(line, measures.crossings)?;
     push_volume(line, measures.six_volume)?;
     Ok(())
 }
