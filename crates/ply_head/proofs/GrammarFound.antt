@@ -9,22 +9,22 @@
 use Rattle.std.proofs.Common.{◌≡◌, ℕ, zero, suc, ◌+◌, ◌<◌, ◌≤◌, Bool, true, false, cond, ltb, List, [], ◌∷◌, ◌++◌, length}
 use Rattle.std.proofs.Common.{get_or, drop, Option, Some, None, Err, refl, sym, ap, subst, ◌∙◌, arith, All, codes, append_assoc}
 use Rattle.std.proofs.Common.{nat_eq, inl, inr, ◌⊎◌}
-use Rattle.std.specs.List.{starts_with, join_with_byte, slice_split, onto_first}
+use Rattle.std.specs.List.{starts_with, join_with_byte, onto_first}
 use Rattle.std.proofs.lemmas.Bool.{ltb-false}
 use Rattle.std.proofs.lemmas.Bool.Decides.{Decides-eqb}
 use Rattle.std.proofs.lemmas.Slice.Eq.{starts_is}
 use Rattle.std.proofs.lemmas.List.{get_or_append_left}
 use Rattle.std.proofs.lemmas.List.Elements.{All-cons}
-use Rattle.std.proofs.lemmas.List.Splits.{join_with_byte-slice_split, slice_split-cons_yes, slice_split-cons_no}
+use Rattle.std.proofs.lemmas.List.Splits.{join_with_byte-slice_split, slice_split-cons_no}
 use Rattle.ply_head.specs.declared.header.Header.{Header}
 use Rattle.ply_head.specs.declared.header.Element.{Element}
 use Rattle.ply_head.specs.declared.header.Property.{Property}
-use Rattle.ply_head.specs.declared.refusal.HeadRefusal.TheVariants.{HeadCut, LongLine, NotPly}
+use Rattle.ply_head.specs.declared.refusal.HeadRefusal.TheVariants.{NotPly}
 use Rattle.ply_head.specs.Lines.{parts_of, words_of, is_line_feed, line_text}
 use Rattle.ply_head.specs.Statements.{Statement, nothing, format, element, property, finish, statement_of_words}
 use Rattle.ply_head.specs.Answers.{◌>>=◌}
-use Rattle.ply_head.specs.Headers.{text_of_line, with_property, has_property, has_element, step_of, Step, goes, ends}
-use Rattle.ply_head.specs.Headers.{then_lines, header_from, header_of}
+use Rattle.ply_head.specs.Headers.{text_of_line, with_property, has_property, step_of, Step, goes, ends, then_lines}
+use Rattle.ply_head.specs.Headers.{header_from, header_of}
 use Rattle.ply_head.specs.Spelling.{joined}
 use Rattle.ply_head.specs.Grammar.{Says, Adds, Leads, HasHeader}
 use Rattle.ply_head.proofs.Answers.{bind_ok, guarded, done, same_done}
@@ -34,9 +34,7 @@ use Rattle.ply_head.proofs.LoopLemmas.{whole_and}
 -- ---- results
 
 whole_is : (a h : Header) (x body : List ℕ) → whole_and a x ≡ whole_and h body → (a ≡ h) × (x ≡ body)
-whole_is a h x body e =
-    let same = same_done (a, x) (h, body) e in
-    (ap (λ (y : Header × List ℕ). y.0) same, ap (λ (y : Header × List ℕ). y.1) same)
+whole_is a h x body e = grind arith
 
 -- ---- what a step makes is what its statement adds
 
@@ -86,23 +84,12 @@ is_step n (Some head) None step e = absurd cc
 is_step n None (Some nothing) step e = subst (IsStep None (Some nothing)) (same_done (goes None) step e) (nothing, (refl, refl))
 is_step n (Some head) (Some nothing) step e =
     subst (IsStep (Some head) (Some nothing)) (same_done (goes (Some head)) step e) (nothing, (refl, refl))
-is_step n None (Some (format kind)) step e =
-    subst (IsStep None (Some (format kind))) (same_done (goes (Some (record { kind = kind; elements = [] }))) step e)
-    (format kind, (refl, refl))
+is_step n None (Some (format kind)) step e = grind arith
 is_step n None (Some (element name count)) step e = absurd cc
 is_step n None (Some (property name shape)) step e = absurd cc
 is_step n None (Some finish) step e = absurd cc
 is_step n (Some head) (Some (format kind)) step e = absurd cc
-is_step n (Some head) (Some (element name count)) step e =
-    let g =
-    guarded (has_element name head.elements) _
-    (done (goes
-    (Some (record head { elements = head.elements ++ record { name = name; count = count; properties = [] } ∷ [] })))) step e in
-    subst (IsStep (Some head) (Some (element name count)))
-    (same_done
-    (goes (Some (record head { elements = head.elements ++ record { name = name; count = count; properties = [] } ∷ [] }))) step
-    g.1)
-    (element name count, (refl, record { is_new = g.0; is = refl }))
+is_step n (Some head) (Some (element name count)) step e = grind arith
 is_step n (Some head) (Some (property name shape)) step e =
     let b =
     bind_ok (with_property n (record { name = name; shape = shape }) head.elements)
@@ -137,19 +124,8 @@ record IsText (part : List ℕ) (more : List (List ℕ)) (text : List ℕ) : Typ
 
 text_found : (n : ℕ) (part : List ℕ) (more : List (List ℕ)) (text : List ℕ) → text_of_line n part more ≡ done text
     → IsText part more text
-text_found n part [] text e =
-    let g = guarded (ltb (length part) 1002) HeadCut (Err (LongLine n)) text e in
-    let none = g.1 in
-    absurd cc
-text_found n part (next ∷ rest) text e =
-    let g = guarded (ltb 1000 (length (line_text part))) (LongLine n) (done (line_text part)) text e in
-    record {
-      next = next;
-      rest = rest;
-      is = refl;
-      text_is = sym (same_done (line_text part) text g.1);
-      short = ltb-false 1000 (length (line_text part)) g.0;
-    }
+text_found n part [] text e = grind arith
+text_found n part (next ∷ rest) text e = grind (arith, ltb-false)
 
 -- the lines that were read, and what is behind them
 record IsFound (n : ℕ) (before : Option Header) (parts : List (List ℕ)) (head : Header) (body : List ℕ) : Type 0 where
@@ -234,9 +210,7 @@ IsClean part = All (λ b. is_line_feed b ≡ false) part
 parts_by_feed : (b : ℕ) (bytes : List ℕ) (f : Bool) → is_line_feed b ≡ f → All IsClean (parts_of bytes)
     → All IsClean (parts_of (b ∷ bytes))
 unfolding parts_of
-parts_by_feed b bytes true e rest =
-    subst (All IsClean) (sym (slice_split-cons_yes is_line_feed b bytes e))
-    (All-cons IsClean [] (slice_split is_line_feed bytes) (λ i d lt. absurd (omega arith)) rest)
+parts_by_feed b bytes true e rest = grind arith
 parts_by_feed b bytes false e rest =
     let part : Parts bytes zero = some_part bytes in
     let all : All IsClean (part.first ∷ part.more) = subst (All IsClean) part.is rest in

@@ -27,10 +27,7 @@ goes_with head elements = Ok (goes (Some (record head { elements = elements })))
 
 property_step : (n : ℕ) (head : Header) (p : Property) (after : Option Header) → AddsProperty head p after
     → (with_property n p head.elements >>= goes_with head) ≡ goes_on after
-property_step n head p after a =
-    ap (λ (es : List Element). with_property n p es >>= goes_with head) a.is_last
-    ∙ ap (λ (r : Result (List Element) HeadRefusal). r >>= goes_with head) (with_property_last n p a.front a.last)
-    ∙ rw a.is_new (ap goes_on (sym a.is))
+property_step n head p after a = grind (arith, with_property_last)
 
 pub adds_step : (n : ℕ) (before after : Option Header) (s : Statement) → Adds before s after
     → step_of n before (Some s) ≡ goes_on after
@@ -87,10 +84,7 @@ last_step n head line body le is says =
 pub lines_read : (n : ℕ) (before : Option Header) (inner : List (List ℕ)) (last body : List ℕ) (head : Header)
     → n + length inner ≤ 1000 → All IsLine inner → IsLine last → Leads before inner (Some head) → Says last finish
     → header_from n before (parts_of (joined (inner ++ last ∷ []) ++ body)) ≡ whole_and head body
-lines_read n before [] last body head le all is leads says =
-    ap (λ (text : List ℕ). header_from n before (parts_of text)) (append_assoc last (10 ∷ []) body)
-    ∙ ap (λ (b : Option Header). header_from n b (parts_of (last ++ 10 ∷ body))) (sym leads)
-    ∙ last_step n head last body (omega arith) is says
+lines_read n before [] last body head le all is leads says = grind (arith, append_assoc, last_step)
 lines_read n before (line ∷ inner) last body head le all is leads says =
     ap (λ (text : List ℕ). header_from n before (parts_of text)) (append_assoc line (10 ∷ joined (inner ++ last ∷ [])) body)
     ∙ line_step n before leads.0 leads.1.0 line (joined (inner ++ last ∷ []) ++ body) (omega arith) (all 0 line (omega arith))
@@ -113,7 +107,4 @@ begun first rest (inr return) = ap (λ (f : List ℕ). header_of (f ++ 10 ∷ re
 -- a text that has a header is read so
 pub header_read : (bytes : List ℕ) (head : Header) (body : List ℕ) → HasHeader bytes head body
     → header_of bytes ≡ whole_and head body
-header_read bytes head body h =
-    ap header_of (h.bytes_are ∙ append_assoc h.first (10 ∷ joined (h.inner ++ h.last ∷ [])) body)
-    ∙ begun h.first (joined (h.inner ++ h.last ∷ []) ++ body) h.begins
-    ∙ lines_read 2 None h.inner h.last body head (omega (arith, h.few)) h.inner_lines h.last_line h.leads h.ends
+header_read bytes head body h = grind (arith, append_assoc, begun, lines_read)

@@ -142,22 +142,8 @@ pub with_property_last : (n : ℕ) (p : Property) (xs : List Element) (e : Eleme
     → with_property n p (xs ++ e ∷ [])
     ≡ cond (has_property p.name e.properties) (Err (Twice n)) (Ok (xs ++ record e { properties = e.properties ++ p ∷ [] } ∷ []))
 with_property_last n p [] e = refl
-with_property_last n p (x ∷ []) e = by_case (has_property p.name e.properties)
-  where
-    by_case : (b : Bool)
-        → (cond b (Err (Twice n)) (Ok (record e { properties = e.properties ++ p ∷ [] } ∷ [])) >>= λ es. Ok (x ∷ es))
-        ≡ cond b (Err (Twice n)) (Ok (x ∷ record e { properties = e.properties ++ p ∷ [] } ∷ []))
-    by_case true = refl
-    by_case false = refl
-with_property_last n p (x ∷ y ∷ xs) e =
-    rw (with_property_last n p (y ∷ xs) e) (by_case (has_property p.name e.properties))
-  where
-    by_case : (b : Bool)
-        → (cond b (Err (Twice n)) (Ok (y ∷ (xs ++ record e { properties = e.properties ++ p ∷ [] } ∷ [])))
-        >>= λ es. Ok (x ∷ es))
-        ≡ cond b (Err (Twice n)) (Ok (x ∷ y ∷ (xs ++ record e { properties = e.properties ++ p ∷ [] } ∷ [])))
-    by_case true = refl
-    by_case false = refl
+with_property_last n p (x ∷ []) e = grind arith
+with_property_last n p (x ∷ y ∷ xs) e = grind (arith, with_property_last n p (y ∷ xs) e)
 
 pub empty_text : (line : List ℕ) → length line ≤ 0 → line ≡ line_text line
 empty_text [] e = refl

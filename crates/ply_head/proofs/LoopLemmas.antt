@@ -7,12 +7,12 @@ use Rattle.std.proofs.lemmas.List.Splits.{join_with_byte-slice_split}
 use Rattle.ply_head.specs.Lines.{parts_of, words_of}
 use Rattle.ply_head.specs.Statements.{statement_of_words}
 use Rattle.ply_head.specs.Answers.{◌>>=◌}
-use Rattle.ply_head.specs.Headers.{Fails, text_of_line, step_of, Step, goes, ends, then_lines, header_from}
+use Rattle.ply_head.specs.Headers.{Fails, step_of, Step, goes, ends, then_lines, header_from}
 use Rattle.ply_head.specs.Reading.{line_at, IsEndOf}
 use Rattle.ply_head.specs.declared.header.Header.{Header}
 use Rattle.ply_head.specs.declared.refusal.HeadRefusal.{HeadRefusal}
 use Rattle.ply_head.specs.declared.refusal.HeadRefusal.TheVariants.{LongHeader, NoMemory}
-use Rattle.ply_head.proofs.HeadLemmas.{Parts, line_and, some_part}
+use Rattle.ply_head.proofs.HeadLemmas.{Parts, some_part}
 
 abbrev pub Whole : Type 0
 Whole = Result (Header × List ℕ) HeadRefusal
@@ -29,22 +29,13 @@ pub header_step : (n : ℕ) (head : Option Header) (parts : List (List ℕ)) →
     → header_from n head parts ≡ (line_at n parts >>= line_done n head)
 unfolding header_from
 header_step n head [] le = refl
-header_step n head (part ∷ more) le = rw (le-ltb 1000 n le) (by_text (text_of_line n part more))
-  where
-    by_text : (r : Result (List ℕ) HeadRefusal)
-        → (r >>= λ text. step_of n head (statement_of_words (words_of text))
-        >>= λ step. then_lines step more (λ next. header_from (n + 1) next more))
-        ≡ ((r >>= λ text. line_and text more) >>= line_done n head)
-    by_text (Ok text) = refl
-    by_text (Err e) = refl
+header_step n head (part ∷ more) le = grind (arith, le-ltb)
 
 -- the line is refused
 pub line_refused : (e : HeadRefusal) (n : ℕ) (head : Option Header) (parts : List (List ℕ)) (total : Whole) → n ≤ 1000
     → Fails e (line_at n parts) → header_from n head parts ≡ total → Fails e total
 line_refused NoMemory n head parts total le h so_far = tt
-line_refused e n head parts total le h so_far =
-    sym so_far ∙ header_step n head parts le
-    ∙ ap (λ (r : Result (List ℕ × List (List ℕ)) HeadRefusal). r >>= line_done n head) h
+line_refused e n head parts total le h so_far = grind (arith, header_step)
 
 abbrev step_done : ℕ → List (List ℕ) → Step → Whole
 step_done n more step = then_lines step more (λ next. header_from (n + 1) next more)

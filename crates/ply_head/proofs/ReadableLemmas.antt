@@ -5,20 +5,17 @@
 -- new where it is added (added, by the statement). So after k lines a header has at most k elements and each element at most
 -- k properties, whose names differ in pairs (SoFar); lines_keep carries that from line to line, and readable_has ends it
 -- with the most lines that a header has.
-use Rattle.std.proofs.Common.{◌≡◌, ◌≢◌, ℕ, suc, ◌+◌, ◌<◌, ◌≤◌, Bool, true, false, cond, leb, ◌&&◌, List, [], ◌∷◌, ◌++◌, length}
-use Rattle.std.proofs.Common.{get_or, Option, Some, None, refl, sym, ap, subst, arith, All, codes, inl, inr, ◌⊎◌, length-append}
+use Rattle.std.proofs.Common.{◌≡◌, ◌≢◌, ℕ, suc, ◌+◌, ◌<◌, ◌≤◌, Bool, true, false, cond, List, [], ◌∷◌, ◌++◌, length, get_or}
+use Rattle.std.proofs.Common.{Option, Some, None, refl, sym, ap, subst, arith, All, codes, inl, inr, ◌⊎◌, length-append}
 use Rattle.std.specs.Prelude.{AllPairs, filter}
-use Rattle.std.specs.List.{list_all, list_any, slice_split}
-use Rattle.std.specs.Char.{is_ascii_digit}
+use Rattle.std.specs.List.{list_any, slice_split}
 use Rattle.std.specs.Str.{bytes_eq}
-use Rattle.std.specs.Str.Parse.{digits_value}
 use Rattle.std.proofs.lemmas.Bool.Decides.{nat_tests}
 use Rattle.std.proofs.lemmas.Slice.Eq.{bytes_eq-Decides}
 use Rattle.std.proofs.lemmas.List.{get_or_append_left}
 use Rattle.std.proofs.lemmas.List.Elements.{All-append, All-cons, filter_passes}
 use Rattle.std.proofs.lemmas.List.Folds.{list_any_at}
 use Rattle.std.proofs.lemmas.List.Quantifiers.{all_pairs_push}
-use Rattle.std.proofs.lemmas.Bool.{and_parts}
 use Rattle.std.proofs.lemmas.Option.{same_Some}
 use Rattle.ply_head.specs.declared.header.Scalar.{Scalar}
 use Rattle.ply_head.specs.declared.header.Scalar.TheVariants.{Char, Uchar, Short, Ushort, Int, Uint, Float, Double}
@@ -28,9 +25,9 @@ use Rattle.ply_head.specs.declared.header.Element.{Element}
 use Rattle.ply_head.specs.declared.header.Header.{Header}
 use Rattle.ply_head.specs.Lines.{words_of, is_blank, has_bytes, line_text}
 use Rattle.ply_head.specs.Optional.{◌>>=◌}
-use Rattle.ply_head.specs.Statements.{Statement, nothing, format, element, property, finish, either_word, is_name_byte, kind_of}
-use Rattle.ply_head.specs.Statements.{scalar_of, whole_scalar, count_of, name_of, format_line, element_line, property_line}
-use Rattle.ply_head.specs.Statements.{finish_line, statement_of_words}
+use Rattle.ply_head.specs.Statements.{Statement, nothing, format, element, property, finish, either_word, scalar_of}
+use Rattle.ply_head.specs.Statements.{whole_scalar, count_of, name_of, format_line, element_line, property_line, finish_line}
+use Rattle.ply_head.specs.Statements.{statement_of_words}
 use Rattle.ply_head.specs.Headers.{has_property, has_element}
 use Rattle.ply_head.specs.Grammar.{Adds, AddsProperty, Leads, HasHeader}
 use Rattle.ply_head.specs.Readable.{IsName, HasWholeCount, IsReadableProperty, IsReadable}
@@ -56,28 +53,11 @@ Stated finish = Unit {0}
 
 name_told : (word name : List ℕ) → 0 < length word → name_of word ≡ Some name → IsName name
 unfolding name_of
-name_told word name some e =
-    let g = guard_some (list_all is_name_byte word) (Some word) name e in
-    let is : word ≡ name = same_Some word name g.1 in
-    subst IsName is (record { some = some; visible = g.0 })
+name_told word name some e = grind (arith, guard_some)
 
 count_told : (word : List ℕ) (count : ℕ) → count_of word ≡ Some count → count ≤ 4294967295
 unfolding count_of
-count_told word count e =
-    let g =
-    guard_some
-    (leb 1 (length word) && (leb (length word) 10 && (list_all is_ascii_digit word && leb (digits_value 10 word) 4294967295)))
-    (Some (digits_value 10 word)) count e in
-    let b =
-    and_parts (leb 1 (length word))
-    (leb (length word) 10 && (list_all is_ascii_digit word && leb (digits_value 10 word) 4294967295)) g.0 in
-    let c = and_parts (leb (length word) 10) (list_all is_ascii_digit word && leb (digits_value 10 word) 4294967295) b.1 in
-    let d = and_parts (list_all is_ascii_digit word) (leb (digits_value 10 word) 4294967295) c.1 in
-    let is : digits_value 10 word ≡ count = same_Some (digits_value 10 word) count g.1 in
-    subst (λ n. n ≤ 4294967295) is (within (digits_value 10 word) d.1)
-  where
-    within : (n : ℕ) → leb n 4294967295 ≡ true → n ≤ 4294967295
-    within n h = grind (arith, nat_tests)
+count_told word count e = grind (arith, nat_tests, guard_some)
 
 whole_told : (scalar count : Scalar) → whole_scalar scalar ≡ Some count → whole_scalar count ≡ Some count
 whole_told Char count e = subst (λ s. whole_scalar s ≡ Some s) (same_Some Char count e) refl
@@ -93,10 +73,7 @@ format_told : (words : List (List ℕ)) (s : Statement) → format_line words �
 unfolding format_line
 format_told [] s e = absurd cc
 format_told (a ∷ []) s e = absurd cc
-format_told (kind ∷ version ∷ []) s e =
-    let g = guard_some (bytes_eq version (codes "1.0")) (kind_of kind >>= λ k. Some (format k)) s e in
-    let b = bind_some (kind_of kind) (λ k. Some (format k)) s g.1 in
-    subst Stated (same_Some (format b.0) s b.2) tt
+format_told (kind ∷ version ∷ []) s e = grind (arith, guard_some, bind_some)
 format_told (a ∷ b ∷ c ∷ words) s e = absurd cc
 
 element_told : (words : List (List ℕ)) (s : Statement) → All (λ w. 0 < length w) words → element_line words ≡ Some s → Stated s
@@ -194,11 +171,7 @@ element_later k e is =
 
 later : (k : ℕ) (before : Option Header) → SoFar k before → SoFar (k + 1) before
 later k None is = tt
-later k (Some head) is = record {
-  few = omega (arith, is.few);
-  elements = λ i d lt. element_later k (get_or head.elements i d) (is.elements i d lt);
-  apart = is.apart;
-}
+later k (Some head) is = grind (arith, element_later)
 
 not_there : {X : Type 0} (p : X → Bool) (xs : List X) (i : ℕ) (d : X) → list_any p xs ≡ false → i < length xs
     → p (get_or xs i d) ≡ true → ⊥
@@ -284,9 +257,7 @@ added : (k : ℕ) (before after : Option Header) (s : Statement) → Stated s �
     → SoFar (k + 1) after
 added k None after nothing stated a is = subst (SoFar (k + 1)) (sym a) tt
 added k (Some head) after nothing stated a is = subst (SoFar (k + 1)) (sym a) (later k (Some head) is)
-added k None after (format kind) stated a is =
-    subst (SoFar (k + 1)) (sym a)
-    (record { few = omega arith; elements = λ i d lt. absurd (omega arith); apart = λ i j d lt le. absurd (omega arith) })
+added k None after (format kind) stated a is = grind arith
 added k None after (element name count) stated a is = absurd a
 added k None after (property name shape) stated a is = absurd a
 added k None after finish stated a is = absurd a

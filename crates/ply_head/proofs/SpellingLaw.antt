@@ -10,7 +10,7 @@ use Rattle.ply_head.specs.declared.header.Property.{Property}
 use Rattle.ply_head.specs.declared.header.Element.{Element}
 use Rattle.ply_head.specs.declared.header.Header.{Header}
 use Rattle.ply_head.specs.Headers.{header_of}
-use Rattle.ply_head.specs.Spelling.{format_text, element_text, property_text, element_lines, inner_lines, spelling}
+use Rattle.ply_head.specs.Spelling.{element_text, property_text, element_lines, inner_lines, spelling}
 use Rattle.ply_head.specs.Grammar.{HasHeader}
 use Rattle.ply_head.specs.Readable.{IsReadableProperty, IsReadableElement, IsReadable, KeepsLimits}
 use Rattle.ply_head.proofs.LoopLemmas.{whole_and}
@@ -41,9 +41,7 @@ elements_plain (e ∷ es) readable =
     (All-append IsPlain (element_lines e) (flat_map element_lines es) lines rest)
 
 inner_plain : (head : Header) → IsReadable head → All IsPlain (inner_lines head)
-inner_plain head is =
-    All-cons IsPlain (format_text head.kind) (flat_map element_lines head.elements) (format_plain head.kind)
-    (elements_plain head.elements is.elements)
+inner_plain head is = grind (arith, format_plain, elements_plain)
 
 inner_short : (head : Header) → KeepsLimits head → All (λ line. length line ≤ 1000) (inner_lines head)
 inner_short head keeps i d lt =

@@ -183,9 +183,7 @@ end_word : IsWord (codes "end_header")
 end_word = record { some = omega arith; visible = refl }
 
 pub format_plain : (kind : Kind) → list_all is_plain (format_text kind) ≡ true
-format_plain kind =
-    spaced (codes "format") (kind_name kind ++ 32 ∷ codes "1.0") refl
-    (spaced (kind_name kind) (codes "1.0") (word_plain (kind_name kind) (kind_word kind)) refl)
+format_plain kind = grind (arith, spaced, word_plain, kind_word)
 
 format_statement : (kind : Kind) → statement_of_words (codes "format" ∷ kind_name kind ∷ codes "1.0" ∷ []) ≡ Some (format kind)
 unfolding statement_of_words format_line
@@ -200,9 +198,7 @@ format_says kind =
 
 pub element_plain : (name : List ℕ) (count : ℕ) → IsName name → count ≤ 4294967295
     → list_all is_plain (element_text name count) ≡ true
-element_plain name count is le =
-    spaced (codes "element") (name ++ 32 ∷ decimal count) refl
-    (spaced name (decimal count) (word_plain name (name_word name is)) (word_plain (decimal count) (decimal_word count le)))
+element_plain name count is le = grind (arith, spaced, word_plain, name_word, decimal_word)
 
 element_statement : (name : List ℕ) (count : ℕ) → IsName name → count ≤ 4294967295
     → statement_of_words (codes "element" ∷ name ∷ decimal count ∷ []) ≡ Some (element name count)
@@ -221,15 +217,10 @@ element_says name count is le =
 
 shape_plain : (shape : Shape) → list_all is_plain (shape_text shape) ≡ true
 shape_plain (One scalar) = word_plain (scalar_name scalar) (scalar_word scalar)
-shape_plain (Many count item) =
-    spaced (codes "list") (scalar_name count ++ 32 ∷ scalar_name item) refl
-    (spaced (scalar_name count) (scalar_name item) (word_plain (scalar_name count) (scalar_word count))
-    (word_plain (scalar_name item) (scalar_word item)))
+shape_plain (Many count item) = grind (arith, spaced, word_plain, scalar_word)
 
 pub property_plain : (p : Property) → IsName p.name → list_all is_plain (property_text p) ≡ true
-property_plain p is =
-    spaced (codes "property") (shape_text p.shape ++ 32 ∷ p.name) refl
-    (spaced (shape_text p.shape) p.name (shape_plain p.shape) (word_plain p.name (name_word p.name is)))
+property_plain p is = grind (arith, spaced, shape_plain, word_plain, name_word)
 
 one_statement : (name : List ℕ) (scalar : Scalar) → IsName name
     → statement_of_words (codes "property" ∷ scalar_name scalar ∷ name ∷ []) ≡ Some (property name (One scalar))
@@ -269,9 +260,7 @@ unfolding statement_of_words finish_line
 end_statement = refl
 
 pub end_says : Says (codes "end_header") finish
-end_says =
-    says_words (codes "end_header") (codes "end_header" ∷ []) finish refl (last_word (codes "end_header") end_word)
-    end_statement
+end_says = grind (arith, says_words, last_word, end_word, end_statement)
 
 pub end_plain : list_all is_plain (codes "end_header") ≡ true
 end_plain = refl
