@@ -43,18 +43,13 @@ pub passed_empty : (elements : List Element) (e r : ℕ) (el : Element) (tokens 
     → el ≡ get_or elements e el → length el.properties ≡ 0
     → rows_from (drop (e + 1) elements) (e + 1) 0 tokens ≡ rows_from (drop e elements) e r tokens
 unfolding rows_from
-passed_empty elements e r el tokens lt is none =
-    sym (ap (λ (els : List Element). rows_from els e r tokens) (here elements e el lt is)
-    ∙ element_empty el.properties e r (el.count - r) tokens (λ behind. rows_from (drop (e + 1) elements) (e + 1) 0 behind) none)
+passed_empty elements e r el tokens lt is none = grind (arith, here, element_empty)
 
 pub passed_over : (elements : List Element) (e r : ℕ) (el : Element) (tokens : Rest) → e < length elements
     → el ≡ get_or elements e el → el.count ≤ r
     → rows_from (drop (e + 1) elements) (e + 1) 0 tokens ≡ rows_from (drop e elements) e r tokens
 unfolding rows_from
-passed_over elements e r el tokens lt is none =
-    sym (ap (λ (els : List Element). rows_from els e r tokens) (here elements e el lt is)
-    ∙ element_over el.properties e r (el.count - r) tokens (λ behind. rows_from (drop (e + 1) elements) (e + 1) 0 behind)
-    (omega arith))
+passed_over elements e r el tokens lt is none = grind (arith, here, element_over)
 
 -- the next row of an element
 pub next_is : (elements : List Element) (e r : ℕ) (el : Element) (tokens : Rest) → e < length elements

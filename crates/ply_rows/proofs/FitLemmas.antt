@@ -1,10 +1,9 @@
 -- The fields that are handed on fit their properties, and no property is refused as trailing.
-use Rattle.std.proofs.Common.{◌≡◌, ℕ, ◌+◌, ◌-◌, ◌*◌, ◌<◌, Bool, true, false, List, [], ◌∷◌, ◌++◌, length, get_or, ℤ, pos}
-use Rattle.std.proofs.Common.{negsuc, Result, Ok, Err, sym, ap, ◌∙◌, arith, inl, inr, subst}
+use Rattle.std.proofs.Common.{◌≡◌, ℕ, ◌+◌, ◌-◌, ◌<◌, Bool, true, false, List, [], ◌∷◌, ◌++◌, length, get_or, ℤ, pos, negsuc}
+use Rattle.std.proofs.Common.{Result, Ok, Err, sym, ap, ◌∙◌, arith, inl, inr, subst}
 use Rattle.std.proofs.lemmas.Bool.{cases_lt}
 use Rattle.std.proofs.lemmas.List.{get_or_default, get_or_append_left, get_or-append_right, length-append}
 use Rattle.std.specs.Prelude.{nat_lt, if◌then◌else◌}
-use Rattle.num_text.specs.WholeNumbers.{whole_of}
 use Rattle.num_text.specs.declared.refusal.NumRefusal.{NumRefusal}
 use Rattle.ply_head.specs.declared.header.Kind.{Kind}
 use Rattle.ply_head.specs.declared.header.Endian.{Endian}
@@ -17,8 +16,8 @@ use Rattle.ply_rows.specs.declared.place.Place.{Place}
 use Rattle.ply_rows.specs.declared.refusal.RowRefusal.{RowRefusal}
 use Rattle.ply_rows.specs.declared.refusal.RowRefusal.TheVariants.{BadCount, Cut, Trailing, NoMemory}
 use Rattle.ply_rows.specs.Tokens.{Token}
-use Rattle.ply_rows.specs.Texts.{Fails, count_in, count_or_refusal, items_of, text_field}
-use Rattle.ply_rows.specs.Binaries.{size_of, number_of, bytes_of, binary_field}
+use Rattle.ply_rows.specs.Texts.{Fails, count_in, count_or_refusal, text_field}
+use Rattle.ply_rows.specs.Binaries.{size_of, bytes_of, binary_field}
 use Rattle.ply_rows.specs.Rests.{Rest, text, raw, field_of, fields_of}
 use Rattle.ply_rows.specs.Readers.{IsFieldOf, EndsInside}
 
@@ -84,9 +83,7 @@ unfolding text_field
 text_field-row at (One scalar) [] = tt
 text_field-row at (Many count item) [] = tt
 text_field-row at (One scalar) (t ∷ tokens) = tt
-text_field-row at (Many count item) (t ∷ tokens) =
-    and_then (count_or_refusal at (whole_of t.bytes)) (λ n. items_of at n tokens) (count_or_refusal-row at (whole_of t.bytes))
-    (λ n. cut_if (nat_lt (length tokens) n) at _)
+text_field-row at (Many count item) (t ∷ tokens) = grind (arith, and_then, count_or_refusal-row, cut_if)
 
 bytes_of-row : (at : Place) (n : ℕ) (bytes : List ℕ) → IsOfRow (bytes_of at n bytes)
 bytes_of-row at n bytes = cut_if (nat_lt (length bytes) n) at _
@@ -95,10 +92,7 @@ binary_field-row : (order : Endian) (at : Place) (shape : Shape) (from : ℕ × 
 unfolding binary_field
 binary_field-row order at (One scalar) from =
     and_then (bytes_of at (size_of scalar) from.1) _ (bytes_of-row at (size_of scalar) from.1) (λ value. tt)
-binary_field-row order at (Many count item) from =
-    and_then (bytes_of at (size_of count) from.1) _ (bytes_of-row at (size_of count) from.1) (λ first.
-    and_then (count_in at (number_of order count first.0)) _ (count_in-row at (number_of order count first.0)) (λ n.
-    and_then (bytes_of at (n * size_of item) first.1) _ (bytes_of-row at (n * size_of item) first.1) (λ items. tt)))
+binary_field-row order at (Many count item) from = grind (arith, and_then, bytes_of-row, count_in-row)
 
 field_of-row : (at : Place) (shape : Shape) (rest : Rest) → IsOfRow (field_of at shape rest)
 unfolding field_of

@@ -19,7 +19,7 @@ use Rattle.ply_head.specs.Answers.{◌>>=◌}
 use Rattle.ply_head.proofs.Answers.{bind_ok, guarded, done, same_done}
 use Rattle.ply_rows.specs.declared.place.Field.{Field}
 use Rattle.ply_rows.specs.declared.place.Place.{Place}
-use Rattle.ply_rows.specs.declared.refusal.RowRefusal.TheVariants.{BadCount, Cut}
+use Rattle.ply_rows.specs.declared.refusal.RowRefusal.TheVariants.{Cut}
 use Rattle.ply_rows.specs.Tokens.{Token}
 use Rattle.ply_rows.specs.Texts.{count_in, count_or_refusal, items_of, field_of_items, text_field}
 use Rattle.ply_rows.specs.Binaries.{size_of, number_of, bytes_of, list_field, binary_field}
@@ -31,10 +31,7 @@ use Rattle.ply_rows.specs.Grammar.{BeginsText, BeginsBytes, Begins, BeginsRow}
 
 counted : (at : Place) (z : ℤ) (n : ℕ) → count_in at z ≡ Ok n → (z ≡ pos n) × (n ≤ 4294967295)
 counted at (negsuc m) n e = absurd cc
-counted at (pos m) n e =
-    let both = guarded (ltb 4294967295 m) (BadCount at) (done m) n e in
-    let same : m ≡ n = same_done m n both.1 in
-    (ap pos same, omega (arith, same, ltb-false 4294967295 m both.0))
+counted at (pos m) n e = grind (arith, ltb-false)
 
 count_found : (at : Place) (r : Result ℤ NumRefusal) (n : ℕ) → count_or_refusal at r ≡ Ok n → (r ≡ done (pos n)) × (n ≤ 4294967295)
 count_found at (Err e) n is = absurd cc
@@ -84,9 +81,7 @@ text_found at (Many count item) (t ∷ tokens) field behind e =
 
 bytes_found : (at : Place) (n : ℕ) (bytes : List ℕ) (read : List ℕ × List ℕ) → bytes_of at n bytes ≡ done read
     → (n ≤ length bytes) × (read ≡ (take n bytes, drop n bytes))
-bytes_found at n bytes read e =
-    let enough = guarded (ltb (length bytes) n) (Cut at) (done (take n bytes, drop n bytes)) read e in
-    (ltb-false (length bytes) n enough.0, sym (same_done (take n bytes, drop n bytes) read enough.1))
+bytes_found at n bytes read e = grind (arith, ltb-false)
 
 abbrev ByteRead : Type 0
 ByteRead = Field × (ℕ × List ℕ)
@@ -182,16 +177,8 @@ binary_found order at (Many count item) place bytes field next behind e =
 pub property_found : (at : Place) (shape : Shape) (rest : Rest) (field : Field) (left : Rest)
     → field_of at shape rest ≡ done (field, left) → Begins shape field rest left
 unfolding field_of
-property_found at shape (text tokens) field left e =
-    let read = bind_ok (text_field at shape tokens) (λ read. done (read.0, text read.1)) (field, left) e in
-    let same = same_done (read.0.0, text read.0.1) (field, left) read.2 in
-    subst (λ (x : Field × Rest). BeginsText shape x.0 tokens x.1) same (text_found at shape tokens read.0.0 read.0.1 read.1)
-property_found at shape (raw order place bytes) field left e =
-    let read =
-    bind_ok (binary_field order at shape (place, bytes)) (λ read. done (read.0, raw order read.1.0 read.1.1)) (field, left) e in
-    let same = same_done (read.0.0, raw order read.0.1.0 read.0.1.1) (field, left) read.2 in
-    subst (λ (x : Field × Rest). BeginsBytes order shape x.0 place bytes x.1) same
-    (binary_found order at shape place bytes read.0.0 read.0.1.0 read.0.1.1 read.1)
+property_found at shape (text tokens) field left e = grind (arith, text_found)
+property_found at shape (raw order place bytes) field left e = grind (arith, binary_found)
 
 pub fields_found : (e r k : ℕ) (properties : List Property) (rest : Rest) (fields : List Field) (left : Rest)
     → fields_of e r k properties rest ≡ done (fields, left) → BeginsRow properties fields rest left

@@ -7,7 +7,7 @@ use Rattle.ply_head.specs.declared.header.Header.{Header}
 use Rattle.ply_rows.specs.declared.place.Field.{Field}
 use Rattle.ply_rows.specs.declared.place.RowAt.{RowAt}
 use Rattle.ply_rows.specs.declared.refusal.RowRefusal.{RowRefusal}
-use Rattle.ply_rows.specs.Rests.{Rest, text, raw, rest_at, fields_of}
+use Rattle.ply_rows.specs.Rests.{Rest, text, raw, fields_of}
 use Rattle.ply_rows.specs.Bodies.{BodyRows, row, row_then, rows_of_element, ending, rows_from, rows_of}
 use Rattle.ply_rows.specs.Grammar.{BeginsRow, announced_rows, announced, IsNothing, Follows, HasRows}
 use Rattle.ply_rows.proofs.GrammarFound.{fields_found}
@@ -110,20 +110,12 @@ read : (due : List Due) (rest : Rest) (rows : List Given) → Follows due rows r
 read [] rest [] f = ending_nothing rest f
 read [] rest (g ∷ rows) f = absurd f
 read (due ∷ others) rest [] f = absurd f
-read (due ∷ others) rest (g ∷ rows) f =
-    ap (λ (r : Result (List Field × Rest) RowRefusal). row_then due.0 r (λ behind. walk others behind))
-    (fields_read due.0.element due.0.row 0 due.1 rest g.1 f.1.0 f.1.1.0)
-    ∙ ap (row due.0 g.1) (read others f.1.0 rows f.1.1.1)
-    ∙ ap (λ (at : RowAt). well_ended ((at, g.1) ∷ rows)) (sym f.0)
+read (due ∷ others) rest (g ∷ rows) f = grind (arith, fields_read, read others f.1.0 rows f.1.1.1)
 
 pub rows_found : (head : Header) (body : List ℕ) (rows : List Given) → rows_of head body ≡ well_ended rows
     → HasRows head body rows
-rows_found head body rows is =
-    found (announced head.elements 0 0) (rest_at head.kind body 0) rows
-    (sym (walk_from head.elements 0 0 (rest_at head.kind body 0)) ∙ is)
+rows_found head body rows is = grind (arith, found, walk_from)
 
 pub rows_read : (head : Header) (body : List ℕ) (rows : List Given) → HasRows head body rows
     → rows_of head body ≡ well_ended rows
-rows_read head body rows has =
-    walk_from head.elements 0 0 (rest_at head.kind body 0)
-    ∙ read (announced head.elements 0 0) (rest_at head.kind body 0) rows has
+rows_read head body rows has = grind (arith, walk_from, read)

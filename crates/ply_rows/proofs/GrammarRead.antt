@@ -1,22 +1,20 @@
 -- The reader and the grammar agree: what the body begins with is what is read of a property.
-use Rattle.std.proofs.Common.{◌≡◌, ℕ, ◌+◌, ◌*◌, ◌≤◌, List, [], ◌∷◌, ◌++◌, length, take, drop, ℤ, pos, Result, refl, sym, ap}
-use Rattle.std.proofs.Common.{◌∙◌, arith}
+use Rattle.std.proofs.Common.{◌≡◌, ℕ, ◌+◌, ◌*◌, ◌≤◌, List, [], ◌∷◌, ◌++◌, length, take, drop, pos, Result, refl, sym, ap, ◌∙◌}
+use Rattle.std.proofs.Common.{arith}
 use Rattle.std.proofs.lemmas.Bool.{le-ltb}
 use Rattle.std.proofs.lemmas.List.{length-append, append_assoc, length-take-le, length-drop, take-append-drop}
 use Rattle.std.proofs.Math.Seq.{take-append_seam, drop-append_seam}
-use Rattle.num_text.specs.declared.refusal.NumRefusal.{NumRefusal}
 use Rattle.ply_head.specs.declared.header.Endian.{Endian}
 use Rattle.ply_head.specs.declared.header.Scalar.{Scalar}
 use Rattle.ply_head.specs.declared.header.Property.{Property}
 use Rattle.ply_head.specs.declared.header.Shape.{Shape}
 use Rattle.ply_head.specs.declared.header.Shape.TheVariants.{One, Many}
-use Rattle.ply_head.specs.Answers.{◌>>=◌}
 use Rattle.ply_head.proofs.Answers.{done}
 use Rattle.ply_rows.specs.declared.place.Field.{Field}
 use Rattle.ply_rows.specs.declared.place.Place.{Place}
 use Rattle.ply_rows.specs.declared.refusal.RowRefusal.{RowRefusal}
 use Rattle.ply_rows.specs.Tokens.{Token}
-use Rattle.ply_rows.specs.Texts.{count_in, count_or_refusal, items_of, field_of_items, text_field}
+use Rattle.ply_rows.specs.Texts.{count_in, items_of, field_of_items, text_field}
 use Rattle.ply_rows.specs.Binaries.{size_of, number_of, bytes_of, list_field, binary_field}
 use Rattle.ply_rows.specs.Rests.{Rest, text, raw, field_of, fields_of}
 use Rattle.ply_rows.specs.Grammar.{IsGroup, group_field, IsPiece, piece_field, Begins, BeginsRow}
@@ -42,14 +40,8 @@ group_read : (at : Place) (shape : Shape) (group behind : List Token) → IsGrou
 unfolding text_field
 group_read at (One scalar) [] behind is = absurd is
 group_read at (Many count item) [] behind is = absurd is
-group_read at (One scalar) (t ∷ items) behind is =
-    ap (λ (ts : List Token). fields_and (record { place = t.place; size = length t.bytes; items = 1 }) (ts ++ behind)) is
-    ∙ ap (λ (n : ℕ). fields_and (record { place = t.place; size = n; items = 1 }) behind) (omega arith)
-    ∙ ap (λ (ts : List Token). fields_and (field_of_items (t ∷ ts)) behind) (sym is)
-group_read at (Many count item) (t ∷ items) behind is =
-    ap (λ (r : Result ℤ NumRefusal). count_or_refusal at r >>= λ n. items_of at n (items ++ behind)) is.0
-    ∙ ap (λ (r : Result ℕ RowRefusal). r >>= λ n. items_of at n (items ++ behind)) (count_read at (length items) is.1)
-    ∙ items_read at items behind
+group_read at (One scalar) (t ∷ items) behind is = grind arith
+group_read at (Many count item) (t ∷ items) behind is = grind (arith, count_read, items_read)
 
 -- ---- in a binary body
 
@@ -74,28 +66,14 @@ list_read : (order : Endian) (at : Place) (count item : Scalar) (items place : �
     ≡ field_then (list_field (place + size_of count) (items * size_of item) items)
     (place + size_of count + items * size_of item) behind
 unfolding binary_field
-list_read order at count item items place front back behind front_size back_size is few =
-    ap (λ (r : Result (List ℕ × List ℕ) RowRefusal). r >>= λ first. count_in at (number_of order count first.0)
-    >>= λ n. bytes_of at (n * size_of item) first.1
-    >>= λ read. field_then (list_field (place + size_of count) (n * size_of item) n) (place + size_of count + n * size_of item)
-    read.1) (bytes_read at (size_of count) front (back ++ behind) front_size)
-    ∙ ap (λ (r : Result ℕ RowRefusal). r >>= λ n. bytes_of at (n * size_of item) (back ++ behind)
-    >>= λ read. field_then (list_field (place + size_of count) (n * size_of item) n) (place + size_of count + n * size_of item)
-    read.1) (ap (count_in at) is ∙ count_read at items few)
-    ∙ ap (λ (r : Result (List ℕ × List ℕ) RowRefusal). r
-    >>= λ read. field_then (list_field (place + size_of count) (items * size_of item) items)
-    (place + size_of count + items * size_of item) read.1) (bytes_read at (items * size_of item) back behind back_size)
+list_read order at count item items place front back behind front_size back_size is few = grind (arith, bytes_read, count_read)
 
 piece_read : (order : Endian) (at : Place) (shape : Shape) (items place : ℕ) (piece behind : List ℕ)
     → IsPiece order shape items piece
     → binary_field order at shape (place, piece ++ behind)
     ≡ field_then (piece_field shape items place) (place + length piece) behind
 unfolding binary_field
-piece_read order at (One scalar) items place piece behind is =
-    ap (λ (r : Result (List ℕ × List ℕ) RowRefusal). r
-    >>= λ value. field_then (record { place = place; size = size_of scalar; items = 1 }) (place + size_of scalar) value.1)
-    (bytes_read at (size_of scalar) piece behind is)
-    ∙ ap (λ (n : ℕ). field_then (record { place = place; size = size_of scalar; items = 1 }) (place + n) behind) (sym is)
+piece_read order at (One scalar) items place piece behind is = grind (arith, bytes_read)
 piece_read order at (Many count item) items place piece behind is =
     let front_size : length (take (size_of count) piece) ≡ size_of count =
     length-take-le (size_of count) piece (omega (arith, is.0)) in
@@ -114,17 +92,8 @@ piece_read order at (Many count item) items place piece behind is =
 property_read : (at : Place) (shape : Shape) (rest : Rest) (field : Field) (left : Rest) → Begins shape field rest left
     → field_of at shape rest ≡ done (field, left)
 unfolding field_of
-property_read at shape (text tokens) field left b =
-    ap (λ (ts : List Token). text_field at shape ts >>= λ read. done (read.0, text read.1)) b.cut
-    ∙ ap (λ (r : Result (Field × List Token) RowRefusal). r >>= λ read. done (read.0, text read.1))
-    (group_read at shape b.group b.behind b.is_group)
-    ∙ ap (λ (f : Field). done (f, text b.behind)) (sym b.field_is) ∙ ap (λ (l : Rest). done (field, l)) (sym b.left_is)
-property_read at shape (raw order place bytes) field left b =
-    ap (λ (xs : List ℕ). binary_field order at shape (place, xs) >>= λ read. done (read.0, raw order read.1.0 read.1.1)) b.cut
-    ∙ ap (λ (r : Result (Field × (ℕ × List ℕ)) RowRefusal). r >>= λ read. done (read.0, raw order read.1.0 read.1.1))
-    (piece_read order at shape b.items place b.piece b.behind b.is_piece)
-    ∙ ap (λ (f : Field). done (f, raw order (place + length b.piece) b.behind)) (sym b.field_is)
-    ∙ ap (λ (l : Rest). done (field, l)) (sym b.left_is)
+property_read at shape (text tokens) field left b = grind (arith, group_read)
+property_read at shape (raw order place bytes) field left b = grind (arith, piece_read)
 
 abbrev row_and : List Field → Rest → Result (List Field × Rest) RowRefusal
 row_and fields left = done (fields, left)
@@ -136,8 +105,4 @@ fields_read e r k [] rest [] left b = ap (row_and []) (sym b)
 fields_read e r k [] rest (f ∷ fields) left b = absurd b
 fields_read e r k (p ∷ properties) rest [] left b = absurd b
 fields_read e r k (p ∷ properties) rest (f ∷ fields) left b =
-    ap (λ (read : Result (Field × Rest) RowRefusal). read >>= λ first. fields_of e r (k + 1) properties first.1
-    >>= λ others. row_and (first.0 ∷ others.0) others.1)
-    (property_read (record { element = e; row = r; property = k }) p.shape rest f b.0 b.1.0)
-    ∙ ap (λ (read : Result (List Field × Rest) RowRefusal). read >>= λ others. row_and (f ∷ others.0) others.1)
-    (fields_read e r (k + 1) properties b.0 fields left b.1.1)
+    grind (arith, property_read, fields_read e r (k + 1) properties b.0 fields left b.1.1)

@@ -1,6 +1,6 @@
 -- The items of a list, one after another.
 use Rattle.std.proofs.Common.{◌≡◌, ℕ, zero, suc, ◌+◌, ◌-◌, ◌<◌, ◌≤◌, List, [], ◌∷◌, ◌++◌, length, get_or, take, drop, Result}
-use Rattle.std.proofs.Common.{Ok, Err, refl, sym, ap, ◌∙◌, arith, inl, inr, subst}
+use Rattle.std.proofs.Common.{Ok, Err, refl, sym, ap, ◌∙◌, arith, inl, inr}
 use Rattle.std.proofs.lemmas.Bool.{le-ltb, lt-ltb, cases_lt}
 use Rattle.std.proofs.lemmas.List.{take_more, drop-drop, length-drop, length-map, length-take, length-take-le, get_or-drop}
 use Rattle.ply_head.specs.Answers.{◌>>=◌}
@@ -63,27 +63,18 @@ first_item at m t ts =
 pub items_first : (at : Place) (n : ℕ) (t : Token) (ts : List Token) (behind : ℕ) → 0 < n → t.place + length t.bytes ≡ behind
     → items_of at n (t ∷ ts) ≡ (items_end at (n - 1) behind ts >>= with_first n t.place)
 items_first at zero t ts behind lt ends = absurd (omega arith)
-items_first at (suc m) t ts behind lt ends =
-    subst (λ (b : ℕ). items_of at (suc m) (t ∷ ts) ≡ (items_end at (suc m - 1) b ts >>= with_first (suc m) t.place)) ends
-    (ap (λ (k : ℕ). items_of at (suc k) (t ∷ ts)) (omega arith) ∙ first_item at (suc m - 1) t ts
-    ∙ ap (λ (k : ℕ). items_end at (suc m - 1) (t.place + length t.bytes) ts >>= with_first (suc k) t.place) (omega arith))
+items_first at (suc m) t ts behind lt ends = grind (arith, first_item)
 
 -- tokens that were read were there
 pub items_there : (at : Place) (n place : ℕ) (ts : List Token) (read : ℕ × List Token) → items_end at n place ts ≡ Ok read
     → n ≤ length ts
-items_there at n place ts read e =
-    elim (cases_lt (length ts) n) [
-      | inl lt ↦ let cut : items_end at n place ts ≡ Err (Cut at) = rw (lt-ltb (length ts) n lt) refl in absurd cc
-      | inr ge ↦ ge
-    ]
+items_there at n place ts read e = grind (arith, lt-ltb)
 
 -- a list is refused as its items are
 pub items_fail : (e : RowRefusal) (at : Place) (n : ℕ) (t : Token) (ts all : List Token) (behind : ℕ) → 0 < n
     → t.place + length t.bytes ≡ behind → all ≡ t ∷ ts → Fails e (items_end at (n - 1) behind ts) → Fails e (items_of at n all)
 items_fail NoMemory at n t ts all behind lt ends is fails = tt
-items_fail e at n t ts all behind lt ends is fails =
-    ap (items_of at n) is ∙ items_first at n t ts behind lt ends
-    ∙ ap (λ (r : Result (ℕ × List Token) RowRefusal). r >>= with_first n t.place) fails
+items_fail e at n t ts all behind lt ends is fails = grind (arith, items_first)
 
 pub items_done : (at : Place) (n : ℕ) (t : Token) (ts all left : List Token) (behind end : ℕ) → 0 < n
     → t.place + length t.bytes ≡ behind → all ≡ t ∷ ts → items_end at (n - 1) behind ts ≡ Ok (end, left)

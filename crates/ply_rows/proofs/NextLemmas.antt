@@ -1,5 +1,5 @@
 -- The next row of a reader.
-use Rattle.std.proofs.Common.{◌≡◌, ℕ, ◌+◌, ◌<◌, ◌≤◌, List, [], length, get_or, drop, Ok, Err, refl, sym, ap, subst, ◌∙◌, arith}
+use Rattle.std.proofs.Common.{◌≡◌, ℕ, ◌+◌, ◌<◌, ◌≤◌, List, [], length, get_or, drop, Ok, Err, refl, ap, subst, ◌∙◌, arith}
 use Rattle.ply_head.specs.declared.header.Property.{Property}
 use Rattle.ply_head.specs.declared.header.Element.{Element}
 use Rattle.ply_rows.specs.declared.place.Field.{Field}
@@ -28,25 +28,12 @@ pub is_next : (els shown : List Element) (e r : ℕ) (el : Element) (properties 
     → ((d : Element) → e < length els → r < (get_or els e d).count)
     → ((d : Element) → e < length els → 0 < length (get_or els e d).properties) → properties ≡ (get_or shown e el).properties
     → IsNext els e r properties
-is_next els shown e r el properties shows le ne is less some same =
-    let lt : e < length els = omega (arith, ap length shows) in
-    let at : el ≡ get_or els e el = is ∙ ap (λ (xs : List Element). get_or xs e el) shows in
-    record {
-      el = el;
-      within = lt;
-      is = at;
-      some = omega (arith, some el lt, ap (λ (x : Element). length x.properties) at);
-      less = omega (arith, less el lt, ap (λ (x : Element). x.count) at);
-      same = same ∙ ap (λ (x : Element). x.properties) (sym is);
-    }
+is_next els shown e r el properties shows le ne is less some same = grind arith
 
 row_start : (els : List Element) (e r : ℕ) (properties : List Property) (tokens : Rest) (left : BodyRows)
     → IsNext els e r properties → rows_from (drop e els) e r tokens ≡ left
     → left ≡ row_then (row_at e r) (fields_of e r 0 properties tokens) (λ behind. rows_from (drop e els) e (r + 1) behind)
-row_start els e r properties tokens left next is =
-    sym is ∙ next_is els e r next.el tokens next.within next.is next.some next.less
-    ∙ ap (λ (ps : List Property).
-    row_then (row_at e r) (fields_of e r 0 ps tokens) (λ behind. rows_from (drop e els) e (r + 1) behind)) (sym next.same)
+row_start els e r properties tokens left next is = grind (arith, next_is)
 
 pub row_read : (els : List Element) (e r : ℕ) (properties : List Property) (tokens behind : Rest) (fields : List Field)
     (left : BodyRows) → IsNext els e r properties → rows_from (drop e els) e r tokens ≡ left

@@ -2,11 +2,10 @@
 use Rattle.std.proofs.Common.{◌≡◌, ℕ, ◌+◌, ◌-◌, ◌<◌, ◌≤◌, true, false, List, [], ◌∷◌, ◌++◌, length, get_or, take, drop, refl}
 use Rattle.std.proofs.Common.{sym, ap, ◌∙◌, arith, All, inl, inr, subst}
 use Rattle.std.specs.Prelude.{filter}
-use Rattle.std.specs.List.{slice_split}
 use Rattle.std.proofs.lemmas.List.{drop_more, drop_all, take-append-drop, length-take, length-drop, drop-drop, get_or-take}
 use Rattle.std.proofs.lemmas.List.{get_or-drop, get_or_default, take_rest}
 use Rattle.std.proofs.lemmas.Bool.{cases_lt}
-use Rattle.std.proofs.lemmas.List.Splits.{slice_split-cons_yes, slice_split_at, slice_split_none}
+use Rattle.std.proofs.lemmas.List.Splits.{slice_split_at, slice_split_none}
 use Rattle.ply_head.specs.Lines.{has_bytes}
 use Rattle.ply_rows.specs.Tokens.{Token, is_white_space, placed, tokens_from, tokens_at}
 
@@ -18,10 +17,7 @@ tokens_none place = refl
 pub tokens_space : (place b : ℕ) (xs : List ℕ) → is_white_space b ≡ true
     → tokens_from place (b ∷ xs) ≡ tokens_from (place + 1) xs
 unfolding tokens_from
-tokens_space place b xs space =
-    ap (λ (parts : List (List ℕ)). filter (λ (token : Token). has_bytes token.bytes) (placed place parts))
-    (slice_split-cons_yes is_white_space b xs space)
-    ∙ ap (λ (n : ℕ). filter (λ (token : Token). has_bytes token.bytes) (placed n (slice_split is_white_space xs))) (omega arith)
+tokens_space place b xs space = grind arith
 
 -- a token ends at white space
 pub tokens_token : (place : ℕ) (w : List ℕ) (b : ℕ) (rest : List ℕ) → 0 < length w → All (λ x. is_white_space x ≡ false) w
