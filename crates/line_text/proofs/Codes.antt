@@ -64,9 +64,7 @@ ended_code m n end r s low a b e = number_first end m n r s low a b (sym (ended_
 
 pub counted_code : (word : List ℕ) (m n : ℕ) (r s : List ℕ) → m < 2 ^ 64 → n < 2 ^ 64
     → counted word m ++ r ≡ counted word n ++ s → (m ≡ n) × (r ≡ s)
-counted_code word m n r s a b e =
-    ended_code m n 10 r s (omega arith) a b
-    (behind_same word _ _ (sym (append_assoc word (ended m 10) r) ∙ e ∙ append_assoc word (ended n 10) s))
+counted_code word m n r s a b e = grind (arith, ended_code, behind_same, append_assoc)
 
 -- two values with these texts in front are one value, and what is behind is the same
 abbrev pub IsCode : {A : Type 0} → (A → Type 0) → (A → List ℕ) → Type 0
@@ -112,9 +110,7 @@ none_first P Q line next text none = λ p rest h e. none p.0 (next p.1 ++ rest) 
 pub none_second : {A B : Type 0} (P : A → Type 0) (Q : B → Type 0) (line : A → List ℕ) (next : B → List ℕ)
     (text behind : List ℕ) (a : A) → IsCode P line → P a → text ≡ line a ++ behind → BeginsWithNone Q next behind
     → BeginsWithNone (Both P Q) (joined line next) text
-none_second P Q line next text behind a code pa is none = λ p rest h e.
-    let same = code a p.0 behind (next p.1 ++ rest) pa h.0 (sym is ∙ (e ∙ append_assoc (line p.0) (next p.1) rest)) in
-    none p.1 rest h.1 same.1
+none_second P Q line next text behind a code pa is none = grind (arith, append_assoc)
 
 -- the same where the first part is fixed
 pub none_behind : {B : Type 0} (Q : B → Type 0) (front : List ℕ) (next : B → List ℕ) (text behind : List ℕ)

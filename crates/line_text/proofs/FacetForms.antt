@@ -12,12 +12,7 @@ pair a b = (a, b)
 
 pub pair_code : (end : ℕ) → end < 48 → IsCode ArePairNumbers (λ p. pair_fields p end)
 unfolding pair
-pair_code end low v w r s a b e =
-    let p =
-    ended_code v.0 w.0 32 (ended v.1 end ++ r) (ended w.1 end ++ s) (omega arith) (omega (arith, a.0)) (omega (arith, b.0))
-    (sym (append_assoc (ended v.0 32) (ended v.1 end) r) ∙ (e ∙ append_assoc (ended w.0 32) (ended w.1 end) s)) in
-    let q = ended_code v.1 w.1 end r s low (omega (arith, a.1)) (omega (arith, b.1)) p.1 in
-    (ap (λ (x : ℕ). pair x v.1) p.0 ∙ ap (pair w.0) q.0, q.1)
+pair_code end low v w r s a b e = grind (arith, ended_code, append_assoc)
 
 pub no_pair : (text behind : List ℕ) (a end : ℕ) → IsVertexNumber a → text ≡ ended a 32 ++ behind
     → BeginsWithNone IsVertexNumber (λ n. ended n end) behind → BeginsWithNone ArePairNumbers (λ p. pair_fields p end) text
@@ -58,13 +53,7 @@ three_code a b c x y z end r s low k l e =
     (ap (λ (n : ℕ). three n b c) p.0 ∙ (ap (λ (n : ℕ). three x n c) q.0 ∙ ap (λ (n : ℕ). three x y n) t.0), t.1)
 
 pub facet_code : (end : ℕ) → end < 48 → IsCode IsFacetRow (λ f. facet_fields f end)
-facet_code end low f g r s k l e =
-    let p = three_of f k in
-    let q = three_of g l in
-    let m =
-    three_code p.a p.b p.c q.a q.b q.c end r s low p.facet q.facet
-    (ap (λ (t : List ℕ). facet_fields t end ++ r) (sym p.is) ∙ e ∙ ap (λ (t : List ℕ). facet_fields t end ++ s) q.is) in
-    (p.is ∙ m.0 ∙ sym q.is, m.1)
+facet_code end low f g r s k l e = grind (arith, three_of, three_code)
 
 abbrev IsTriple : ℕ × (ℕ × ℕ) → Type 0
 IsTriple p = IsVertexNumber p.0 × ArePairNumbers p.1
@@ -81,9 +70,7 @@ no_triple text end none = λ facet rest h e.
 
 pub no_facet_first : (text : List ℕ) (end : ℕ) → BeginsWithNone IsVertexNumber (λ n. ended n 32) text
     → BeginsWithNone IsFacetRow (λ f. facet_fields f end) text
-no_facet_first text end none =
-    no_triple text end
-    (λ p rest h e. none p.0 (pair_fields p.1 end ++ rest) h.0 (e ∙ append_assoc (ended p.0 32) (pair_fields p.1 end) rest))
+no_facet_first text end none = grind (arith, no_triple, append_assoc)
 
 pub no_facet_second : (text behind : List ℕ) (a end : ℕ) → IsVertexNumber a → text ≡ ended a 32 ++ behind
     → BeginsWithNone ArePairNumbers (λ p. pair_fields p end) behind → BeginsWithNone IsFacetRow (λ f. facet_fields f end) text

@@ -94,9 +94,7 @@ not_here : {A : Type 0} (P : A → Type 0) (line_of : A → List ℕ) (order : O
     → rest ≡ line_of y ++ behind
     → IsRefusedLine P line_of order xs n rest r → ⊥
 not_here P line_of order code xs more y rest behind n r rising form front (inl h) = h.0 y behind form front
-not_here {A} P line_of order code xs more y rest behind n r rising form front (inr h) =
-    let same_row = code h.row y h.rest behind h.form form (sym h.front ∙ front) in
-    h.falls (subst (λ (z : A). RisesAbove order xs z) (sym same_row.0) (rises_within order xs more y rising))
+not_here {A} P line_of order code xs more y rest behind n r rising form front (inr h) = grind (arith, rises_within)
 
 refused_here : {A : Type 0} (P : A → Type 0) (line_of : A → List ℕ) (order : Option (A → List ℕ)) (xs : List A) (rest : List ℕ)
     (n : ℕ) (r s : LineRefusal)

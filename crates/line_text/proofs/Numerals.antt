@@ -76,8 +76,4 @@ over_limit text token behind end limit m low less fits e lacks is = λ n rest le
 -- ---- numbers from a least to a greatest
 pub under_least : (text rest : List ℕ) (end least greatest m : ℕ) → end < 48 → m < 2 ^ 64 → greatest < 2 ^ 64 → m < least
     → text ≡ ended m end ++ rest → BeginsWithNone (IsBetween least greatest) (λ n. ended n end) text
-under_least text rest end least greatest m low fits top less is = λ n behind h f.
-    let same =
-    number_first end m n rest behind low fits (omega (arith, h.1))
-    (sym (ended_is m end rest) ∙ (sym is ∙ (f ∙ ended_is n end behind))) in
-    omega (arith, same.0, h.0)
+under_least text rest end least greatest m low fits top less is = grind (arith, number_first, ended_is)

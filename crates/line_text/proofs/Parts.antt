@@ -33,19 +33,14 @@ part_once P text_of code Refused At once none next text r s (inl h) (inr k) =
     absurd (none text r h k.value k.rest k.form k.front)
 part_once P text_of code Refused At once none next text r s (inr h) (inl k) =
     absurd (none text s k h.value h.rest h.form h.front)
-part_once {A} P text_of code Refused At once none next text r s (inr h) (inr k) =
-    let both = code h.value k.value h.rest k.rest h.form k.form (sym h.front ∙ k.front) in
-    next h.value h.form h.rest r s h.next
-    (subst (λ (t : List ℕ). At h.value t s) (sym both.1) (subst (λ (a : A). At a k.rest s) (sym both.0) k.next))
+part_once {A} P text_of code Refused At once none next text r s (inr h) (inr k) = grind arith
 
 pub part_passed : {A : Type 0} (P : A → Type 0) (text_of : A → List ℕ) → IsCode P text_of
     → (Refused : List ℕ → LineRefusal → Type 0) (At : A → List ℕ → LineRefusal → Type 0)
     → ((text : List ℕ) (r : LineRefusal) → Refused text r → BeginsWithNone P text_of text) → (text rest : List ℕ) (a : A) → P a
     → text ≡ text_of a ++ rest → IsPassed (At a) rest → IsPassed (λ t r. AtPart P text_of t (Refused t r) (λ b u. At b u r)) text
 part_passed P text_of code Refused At none text rest a form front never r (inl h) = none text r h a rest form front
-part_passed {A} P text_of code Refused At none text rest a form front never r (inr h) =
-    let both = code h.value a h.rest rest h.form form (sym h.front ∙ front) in
-    never r (subst (λ (t : List ℕ). At a t r) both.1 (subst (λ (b : A). At b h.rest r) both.0 h.next))
+part_passed {A} P text_of code Refused At none text rest a form front never r (inr h) = grind arith
 
 -- ---- a fixed text
 pub word_once : (word : List ℕ) (n : ℕ) (At : List ℕ → LineRefusal → Type 0) → IsOnce At
@@ -161,24 +156,14 @@ pub list_refused : {A : Type 0} (P : A → Type 0) (line_of : A → List ℕ) (o
     (text : List ℕ) (r : LineRefusal) (Next : ℕ → List ℕ → Type 0) → RefusedList P line_of order word n text r
     → AtList P line_of order word n text r Next
 list_refused P line_of order word n text r Next (inl h) = inl h
-list_refused P line_of order word n text r Next (inr h) =
-    inr (record { value = h.value; rest = h.rest; form = h.form; front = h.front; next = by h.next })
-  where
-    by : AtRows P line_of order h.value (line_after n 1) h.rest r (λ _ _. ⊥)
-        → AtRows P line_of order h.value (line_after n 1) h.rest r (λ _ rest. Next (line_after (line_after n 1) h.value) rest)
-    by (inl k) = inl k
-    by (inr k) = absurd k.next
+list_refused P line_of order word n text r Next (inr h) = grind arith
 
 pub list_good : {A : Type 0} (P : A → Type 0) (line_of : A → List ℕ) (order : Option (A → List ℕ)) (word : List ℕ) (n m : ℕ)
     (text rest : List ℕ) (rows : List A) (r : LineRefusal) (Next : ℕ → List ℕ → Type 0) → IsList P order rows
     → text ≡ list_text line_of word rows ++ rest → m ≡ line_after n (1 + length rows) → Next m rest
     → AtList P line_of order word n text r Next
 list_good P line_of order word n m text rest rows r Next form front is next =
-    let place : m ≡ line_after (line_after n 1) (length rows) = omega (arith, is) in
-    number_good word word 0 (2 ^ 64 - 1) n (length rows) text (flat_map line_of rows ++ rest) r _ refl
-    (omega arith, omega (arith, form.0)) (front ∙ append_assoc (counted word (length rows)) (flat_map line_of rows) rest)
-    (rows_good P line_of order (length rows) (line_after n 1) (flat_map line_of rows ++ rest) rest rows r _ (refl, form.1) refl
-    (subst (λ (k : ℕ). Next k rest) place next))
+    grind (arith, number_good, append_assoc, rows_good)
 
 -- ---- the end
 pub end_once : (n : ℕ) → IsOnce (IsBehindEnd n)

@@ -4,9 +4,9 @@
 -- the rest, and the line's number. A row that is good and rises above the last one goes to them (one_more_read: in a rising
 -- list what is above the last is above all, below_last). A row that is not good, or does not rise, is the first such, so it
 -- is the refusal of the whole (bad_row, row_out_of_order).
-use Rattle.std.proofs.Common.{ℕ, ◌≡◌, ◌+◌, ◌-◌, ◌<◌, ◌≤◌, ◌^◌, ◌⊎◌, inl, inr, refl, ap, sym, subst, ◌∙◌, arith, Option, Some}
-use Rattle.std.proofs.Common.{None, List, [], ◌∷◌, ◌++◌, length, map, get_or, take, min, append_assoc, length-append, Bool}
-use Rattle.std.proofs.Common.{true, false, cond, ◌==◌, Result, Ok, Err, is_ok, is_err, IfErr, IsErrAnd}
+use Rattle.std.proofs.Common.{ℕ, ◌≡◌, ◌+◌, ◌-◌, ◌<◌, ◌≤◌, ◌^◌, ◌⊎◌, inl, inr, refl, sym, subst, ◌∙◌, arith, Option, Some, None}
+use Rattle.std.proofs.Common.{List, [], ◌∷◌, ◌++◌, length, map, get_or, take, min, append_assoc, length-append, Bool, true}
+use Rattle.std.proofs.Common.{false, cond, ◌==◌, Result, Ok, Err, is_ok, is_err, IfErr, IsErrAnd}
 use Rattle.std.specs.List.{AllPairs, flat_map}
 use Rattle.std.proofs.lemmas.List.{append-nil, map_push, length-map, get_or-map, take_more, take_all}
 use Rattle.std.proofs.lemmas.List.Concat.{flat_map-append}
@@ -79,11 +79,7 @@ rows_more P order rows row good form rises =
 -- the text with one more row read
 pub text_more : {A : Type 0} (line_of : A → List ℕ) (rows : List A) (row : A) (text rest next : List ℕ)
     → text ≡ flat_map line_of rows ++ rest → rest ≡ line_of row ++ next → text ≡ flat_map line_of (rows ++ row ∷ []) ++ next
-text_more line_of rows row text rest next e f =
-    e ∙ (ap (λ (t : List ℕ). flat_map line_of rows ++ t) f ∙ (sym (append_assoc (flat_map line_of rows) (line_of row) next)
-    ∙ ap (λ (t : List ℕ). t ++ next)
-    (ap (λ (t : List ℕ). flat_map line_of rows ++ t) (sym (append-nil (line_of row)))
-    ∙ sym (flat_map-append line_of rows (row ∷ [])))))
+text_more line_of rows row text rest next e f = grind (arith, append_assoc, append-nil, flat_map-append)
 
 -- what reading so far amounts to
 pub record IsReadSoFar {A : Type 0} (P : A → Type 0) (line_of : A → List ℕ) (order : Option (A → List ℕ)) (text rest : List ℕ)
@@ -111,30 +107,13 @@ pub bad_row : {A : Type 0} (P : A → Type 0) (line_of : A → List ℕ) (order 
     (rows : List A) (total count line at : ℕ) (r : LineRefusal) → IsReadSoFar P line_of order text rest rows count line at
     → count < total → BeginsWithNone P line_of rest → IsCutOrBad at rest r
     → WithMemory r (IsRefusedRow P line_of order total line text r)
-bad_row P line_of order text rest rows total count line at r so less none why =
-    WithMemory-holds r _
-    (record {
-      rows = rows;
-      rest = rest;
-      few = omega (arith, so.size);
-      good = so.good;
-      front = so.front;
-      refused = inl (none, subst (λ (n : ℕ). IsCutOrBad n rest r) so.place why);
-    })
+bad_row P line_of order text rest rows total count line at r so less none why = grind arith
 
 row_out_of_order : {A : Type 0} (P : A → Type 0) (line_of : A → List ℕ) (order : Option (A → List ℕ)) (text rest next : List ℕ)
     (rows : List A) (row : A) (total count line at : ℕ) → IsReadSoFar P line_of order text rest rows count line at
     → count < total → P row → rest ≡ line_of row ++ next → ¬ RisesAbove order rows row
     → IsRefusedRow P line_of order total line text (Order at)
-row_out_of_order P line_of order text rest next rows row total count line at so less form front falls =
-    record {
-      rows = rows;
-      rest = rest;
-      few = omega (arith, so.size);
-      good = so.good;
-      front = so.front;
-      refused = inr (record { row = row; rest = next; form = form; front = front; falls = falls; says = ap Order so.place });
-    }
+row_out_of_order P line_of order text rest next rows row total count line at so less form front falls = grind arith
 
 pub row_out_of_order_at : {A : Type 0} (P : A → Type 0) (line_of : A → List ℕ) (order : Option (A → List ℕ))
     (text rest next : List ℕ) (rows shown : List A) (row : A) (total count line at : ℕ)

@@ -18,10 +18,7 @@ below_zero_is digits (negsuc n) small e = (suc n, omega arith, omega arith, cc)
 
 pub out_of_reach : (digits : List ℕ) (n : ℕ) → n < 2 ^ 64 → digits ≡ decimal n → ¬ ((1 ≤ n) × (n ≤ 2 ^ 63)) → (z : ℤ)
     → mag z < 2 ^ 63 → ¬ (45 ∷ digits ≡ signed_decimal z)
-out_of_reach digits n fits is out z small e =
-    let p = below_zero_is digits z small e in
-    let same : p.0 ≡ n = decimal_injective p.0 n (omega (arith, p.2)) fits (sym p.3 ∙ is) in
-    out (omega (arith, same, p.1), omega (arith, same, p.2))
+out_of_reach digits n fits is out z small e = grind (arith, ints, below_zero_is, decimal_injective)
 
 pub no_digits : (digits : List ℕ) → ((n : ℕ) → n < 2 ^ 64 → ¬ (digits ≡ decimal n)) → (z : ℤ) → mag z < 2 ^ 63
     → ¬ (45 ∷ digits ≡ signed_decimal z)
@@ -35,10 +32,7 @@ plain_is token (negsuc n) small none e = absurd (none (decimal (suc n)) e)
 
 pub plain_too_great : (token : List ℕ) (n : ℕ) → n < 2 ^ 64 → token ≡ decimal n → 2 ^ 63 ≤ n
     → ((rest : List ℕ) → ¬ (token ≡ (45 ∷ []) ++ rest)) → (z : ℤ) → mag z < 2 ^ 63 → ¬ (token ≡ signed_decimal z)
-plain_too_great token n fits is great none z small e =
-    let p = plain_is token z small none e in
-    let same : p.0 ≡ n = decimal_injective p.0 n (omega (arith, p.1)) fits (sym p.2 ∙ is) in
-    omega (arith, same, p.1)
+plain_too_great token n fits is great none z small e = grind (arith, ints, plain_is, decimal_injective)
 
 -- ---- signed numbers at the front of a text
 pub signed_ended_is : (z : ℤ) (end : ℕ) (rest : List ℕ) → signed_ended z end ++ rest ≡ signed_decimal z ++ (end ∷ rest)
