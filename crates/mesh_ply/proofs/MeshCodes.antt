@@ -5,7 +5,7 @@ use Rattle.std.specs.Int.Signed.{mag}
 use Rattle.std.proofs.lemmas.List.Elements.{All-weaker}
 use Rattle.geo_sign.specs.Point.{Point, point, IsWithin}
 use Rattle.line_text.specs.Numbers.{signed_ended, counted}
-use Rattle.line_text.specs.Facets.{IsFacetRow, facet_fields}
+use Rattle.line_text.specs.Facets.{IsFacetRow}
 use Rattle.line_text.proofs.Codes.{IsCode, behind_same, counted_code, code_list, code_fewer}
 use Rattle.line_text.proofs.SignedTokens.{signed_code}
 use Rattle.line_text.proofs.FacetForms.{facet_code}
@@ -23,9 +23,7 @@ coordinate_code end low = code_fewer IsCoordinate (λ z. mag z < 2 ^ 63) (λ z. 
 
 pub point_parts : (p : Point) (r : List ℕ)
     → point_line p ++ r ≡ signed_ended p.x 32 ++ (signed_ended p.y 32 ++ (signed_ended p.z 10 ++ r))
-point_parts p r =
-    append_assoc (signed_ended p.x 32) (signed_ended p.y 32 ++ signed_ended p.z 10) r
-    ∙ ap (λ (t : List ℕ). signed_ended p.x 32 ++ t) (append_assoc (signed_ended p.y 32) (signed_ended p.z 10) r)
+point_parts p r = grind (arith, append_assoc)
 
 pub point_code : IsCode (IsWithin BOX_LIMIT) point_line
 point_code p q r s a b e =
@@ -36,10 +34,7 @@ point_code p q r s a b e =
 
 -- ---- faces
 pub face_row_code : IsCode IsFacetRow face_line
-face_row_code f g r s a b e =
-    facet_code 10 (omega arith) f g r s a b
-    (behind_same (51 ∷ 32 ∷ []) _ _
-    (sym (append_assoc (51 ∷ 32 ∷ []) (facet_fields f 10) r) ∙ e ∙ append_assoc (51 ∷ 32 ∷ []) (facet_fields g 10) s))
+face_row_code f g r s a b e = grind (arith, facet_code, behind_same, append_assoc)
 
 -- the places of a valid mesh are numbers of 32 bits
 pub row_of_face : (n : ℕ) → n < 2 ^ 32 → (f : List ℕ) → IsFace n f → IsFacetRow f

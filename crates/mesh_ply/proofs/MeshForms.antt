@@ -1,5 +1,5 @@
 -- Numbers in front of a text that are no point, no face; lines that make a point.
-use Rattle.std.proofs.Common.{ℕ, ◌≡◌, ◌<◌, ◌^◌, ap, sym, subst, ◌∙◌, arith, ℤ, to_z, of_z, to_z-of_z, w64, List, [], ◌∷◌, ◌++◌}
+use Rattle.std.proofs.Common.{ℕ, ◌≡◌, ◌<◌, ◌^◌, sym, ◌∙◌, arith, ℤ, to_z, of_z, to_z-of_z, w64, List, [], ◌∷◌, ◌++◌}
 use Rattle.std.proofs.lemmas.Int.{fits_signed_from_abs}
 use Rattle.geo_sign.specs.Point.{Point, point, IsWithin}
 use Rattle.line_text.specs.Numbers.{signed_ended, BeginsWithNone}
@@ -25,17 +25,12 @@ no_third text behind last x y form_x form_y is then_is none = λ p tail h e.
 
 pub point_is : (p : Point) (x y z : ℤ) (t0 t1 t2 t3 : List ℕ) → p ≡ point x y z → t0 ≡ signed_ended x 32 ++ t1
     → t1 ≡ signed_ended y 32 ++ t2 → t2 ≡ signed_ended z 10 ++ t3 → t0 ≡ point_line p ++ t3
-point_is p x y z t0 t1 t2 t3 is e0 e1 e2 =
-    e0 ∙ (ap (λ (t : List ℕ). signed_ended x 32 ++ t) (e1 ∙ ap (λ (t : List ℕ). signed_ended y 32 ++ t) e2)
-    ∙ (sym (point_parts (point x y z) t3) ∙ ap (λ (q : Point). point_line q ++ t3) (sym is)))
+point_is p x y z t0 t1 t2 t3 is e0 e1 e2 = grind (arith, point_parts)
 
 pub no_face_among : (text behind rest face : List ℕ) (count : ℕ) → count < 2 ^ 32 → text ≡ (51 ∷ 32 ∷ []) ++ behind
     → IsFacetRow face → behind ≡ facet_fields face 10 ++ rest → ¬ IsFace count face
     → BeginsWithNone (IsFace count) face_line text
-no_face_among text behind rest face count few is row front out = λ f tail h e.
-    let same =
-    face_row_code f face tail rest (row_of_face count few f h) row (sym e ∙ (is ∙ ap (λ (t : List ℕ). 51 ∷ 32 ∷ t) front)) in
-    out (subst (λ (g : List ℕ). IsFace count g) same.0 h)
+no_face_among text behind rest face count few is row front out = grind (arith, face_row_code, row_of_face)
 
 -- a coordinate's bits are its own
 own_bits : (z : ℤ) → IsCoordinate z → to_z w64 (of_z w64 z) ≡ z
@@ -43,6 +38,4 @@ own_bits z h = to_z-of_z (fits_signed_from_abs w64 z (omega (arith, h)))
 
 pub own_place : (p : Point) (x y z : ℤ) → IsCoordinate x → IsCoordinate y → IsCoordinate z
     → p ≡ point (to_z w64 (of_z w64 x)) (to_z w64 (of_z w64 y)) (to_z w64 (of_z w64 z)) → p ≡ point x y z
-own_place p x y z a b c e =
-    e ∙ (ap (λ (n : ℤ). point n (to_z w64 (of_z w64 y)) (to_z w64 (of_z w64 z))) (own_bits x a)
-    ∙ (ap (λ (n : ℤ). point x n (to_z w64 (of_z w64 z))) (own_bits y b) ∙ ap (λ (n : ℤ). point x y n) (own_bits z c)))
+own_place p x y z a b c e = grind (arith, own_bits)

@@ -34,9 +34,7 @@ at_faces n m line text rest points r e form front next =
 
 pub at_end : (n m line k : ℕ) (text rest : List ℕ) (faces : List (List ℕ)) → AreCountedRows (IsFace n) None m faces
     → text ≡ flat_map face_line faces ++ rest → ¬ (rest ≡ []) → k ≡ line_after line m → AtFaces n m line text (lines.BadLine k)
-at_end n m line k text rest faces form front some e =
-    rows_good (IsFace n) face_line None m line text rest faces (lines.BadLine k)
-    (λ _ t. IsBehindEnd (line_after line m) t (lines.BadLine k)) form front (some, ap lines.BadLine e)
+at_end n m line k text rest faces form front some e = grind (arith, rows_good)
 
 -- ---- in one way
 faces_once : (n m k : ℕ) → n < 2 ^ 32 → IsOnce (AtFaces n m k)

@@ -39,11 +39,7 @@ number_less facets u v l h =
 
 number_apart : (facets : List (List ℕ)) (u v : ℕ) → u ≢ v → is_used facets u ≡ true → is_used facets v ≡ true
     → new_number facets u ≢ new_number facets v
-number_apart facets u v apart h k e = by (cases_lt u v)
-  where
-    by : (u < v) ⊎ (v ≤ u) → ⊥
-    by (inl l) = omega (arith, number_less facets u v l h, e)
-    by (inr l) = omega (arith, number_less facets v u (omega (arith, apart)) k, e)
+number_apart facets u v apart h k e = grind (arith, number_less)
 
 -- all vertices of the facet are used
 abbrev AreUsed : List (List ℕ) → List ℕ → Type 0

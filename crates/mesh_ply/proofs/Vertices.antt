@@ -67,11 +67,7 @@ facet_same : (n : ℕ) (f g : ℕ → ℕ) (facet : List ℕ) → IsFace n facet
 facet_same n f g [] o h = refl
 facet_same n f g (a ∷ []) o h = absurd o
 facet_same n f g (a ∷ b ∷ []) o h = absurd o
-facet_same n f g (a ∷ b ∷ c ∷ []) o h =
-    let at_a : f a ≡ g a = h a (omega (arith, o.0, o.3)) in
-    let at_b : f b ≡ g b = h b o.3 in
-    let at_c : f c ≡ g c = h c o.4 in
-    cc
+facet_same n f g (a ∷ b ∷ c ∷ []) o h = grind arith
 facet_same n f g (a ∷ b ∷ c ∷ d ∷ t) o h = absurd o
 
 pub facets_same : (n : ℕ) (f g : ℕ → ℕ) (facets : List (List ℕ)) → All (IsFace n) facets → ((v : ℕ) → v < n → f v ≡ g v)
