@@ -76,7 +76,7 @@ class Drawn(Report):
 
     def __str__(self) -> str:
         counts = f'{number_of(self.loops, "loop")} of {number_of(self.points, "point")}'
-        return f'read {counts} of {self.name}; left out nothing; wrote as many to {self.out}'
+        return f'wrote {counts} of {self.name} to {self.out}'
 
 
 def work(names: Sequence[str], options: Any) -> Drawn:

@@ -56,7 +56,7 @@ class Converted(Report):
 
     def __str__(self) -> str:
         counts = f'{self.vertices} vertices and {number_of(self.faces, "face")}'
-        line = f'read {counts} of {self.name}; left out nothing; wrote as many to {self.out}'
+        line = f'wrote {counts} of {self.name} to {self.out}'
         return line + ', at unit=1, since none is named' if self.is_plain else line
 
 

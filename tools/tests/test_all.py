@@ -32,7 +32,7 @@ PROGRAMS = ('scan', 'mesh_to_floats', 'contours', 'make_scan', 'finish', 'grid',
 class All(InFolder):
     def test_meshes_in_the_numbers_of_the_scan(self) -> None:
         write('in.ply', MESH)
-        line = 'read 4 vertices and 4 faces of in.ply; left out nothing; wrote as many to out.ply'
+        line = 'wrote 4 vertices and 4 faces of in.ply to out.ply'
         faces = '3 0 1 2\n3 0 2 3\n3 0 3 1\n3 1 3 2\n'
         start = head(4, 'double x, double y, double z')[:-11] + 'element face 4\nproperty list uchar int vertex_indices\nend_header\n'
         says('mesh_to_floats', line, 'in.ply', 'out.ply', 'unit=1000')
@@ -52,7 +52,7 @@ class All(InFolder):
         says('mesh_to_floats', line + ', at unit=1, since none is named', 'in.ply', 'out.ply')
 
     def test_slices_in_the_numbers_of_the_scan(self) -> None:
-        line = 'read 1 loop of 4 points of in.txt; left out nothing; wrote as many to out.csv'
+        line = 'wrote 1 loop of 4 points of in.txt to out.csv'
         write('in.txt', SLICE)
         says('contours', line, 'in.txt', 'out.csv')
         equal(read('out.csv'), 'loop,face,x,y\n0,0,0.5,100\n0,2,100,0.5\n0,3,-0.5,-100\n0,1,-100,-0.5\n')
@@ -63,7 +63,7 @@ class All(InFolder):
                                                  'd="M0.05 -10 L10 -0.05 L-0.05 10 L-10 0.05 Z"/>', '</svg>'])
         equal('viewBox="-11 -11 22 22"' in read('out.svg'), True)
         write('in.txt', 'loops 0\n')
-        says('contours', 'read 0 loops of 0 points of in.txt; left out nothing; wrote as many to out.csv', 'in.txt', 'out.csv')
+        says('contours', 'wrote 0 loops of 0 points of in.txt to out.csv', 'in.txt', 'out.csv')
         refuses('contours', 'nothing to draw', 'in.txt', 'out.svg', out='out.svg')
         spoiled = ((SLICE[:-18], 'cut: `A X Y D` is missing behind line 5'), (SLICE[:-1], 'cut: line 6'), (MESH, 'line 1 is not'),
                    (SLICE + '\n', 'line 7 stands behind'), (SLICE.replace(' 400\n2', ' 0\n2'), 'line 3 is not'),
