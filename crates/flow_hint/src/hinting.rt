@@ -131,20 +131,12 @@ fn settled_and_kept<N: FlowNetwork>(
 }
 
 /// Returns a hint at a maximum flow, or `None` if there is none: the capacities sum to more than 2^62, or there are no arcs
-/// between free nodes, or more arcs than fit in 32 bits, or sending the excess back took too long.
+/// between free nodes, or more arcs than fit in 32 bits, or sending the excess back took too long. Reports to a progress
+/// callback from how many nodes amounts were moved on. The count starts again if a first try gives no hint.
 ///
 /// Run time is not specified; on the networks of scans it is about linear in the network. Beside its result it takes 8 bytes an
 /// arc, or 12 if capacities are large, 4 more if the arcs of a node are not adjacent in the network, and at most 48 a node.
-pub fn find_hint<N: FlowNetwork>(alloc: Global, net: &N) -> Result<Option<Hint>, NoMemory>
-    ensures arcs { IfOk result (λ found. IfSome found (λ hint. length hint.flow.on_arc ≡ (N.numbered net.now).arc_count)) }
-    ensures sinks { IfOk result (λ found. IfSome found (λ hint. length hint.flow.on_sink ≡ (N.numbered net.now).node_count)) }
-{
-    find_hint_watched(alloc, net, &mut Silent)
-}
-
-/// Returns the same, and reports to a progress callback from how many nodes amounts were moved on. The count starts again if a
-/// first try gives no hint.
-pub fn find_hint_watched<N: FlowNetwork, W: Watch>(
+pub fn find_hint<N: FlowNetwork, W: Watch>(
     alloc: Global,
     net: &N,
     watch: &mut W,
@@ -164,22 +156,10 @@ pub fn find_hint_watched<N: FlowNetwork, W: Watch>(
 }
 
 /// Returns a hint by which usually no less flows into each sink than is listed, if a valid flow achieves this, and the preflow
-/// of the hint. Nothing is listed past the end of the list.
+/// of the hint. Nothing is listed past the end of the list. Reports progress as [`find_hint`] does.
 ///
 /// The preflow takes 4 bytes an arc, or 8 where capacities are large, and 24 a node.
-pub fn find_hint_above<N: FlowNetwork>(
-    alloc: Global,
-    net: &N,
-    first: &[u64],
-) -> Result<Option<(Hint, KeptPreflow)>, NoMemory>
-    ensures arcs { IfOk result (λ found. IfSome found (λ pair. length pair.0.flow.on_arc ≡ (N.numbered net.now).arc_count)) }
-    ensures sinks { IfOk result (λ found. IfSome found (λ pair. length pair.0.flow.on_sink ≡ (N.numbered net.now).node_count)) }
-{
-    find_hint_above_watched(alloc, net, first, &mut Silent)
-}
-
-/// Returns the same, with a progress callback as for `find_hint_watched`.
-pub fn find_hint_above_watched<N: FlowNetwork, W: Watch>(
+pub fn find_hint_above<N: FlowNetwork, W: Watch>(
     alloc: Global,
     net: &N,
     first: &[u64],

@@ -24,9 +24,7 @@ mod survey;
 mod sweep;
 mod wiring;
 
-pub use hinting::{
-    Hint, find_hint, find_hint_above, find_hint_above_watched, find_hint_on, find_hint_watched,
-};
+pub use hinting::{Hint, find_hint, find_hint_above, find_hint_on};
 pub use kept::KeptPreflow;
 pub use levels::{Levels, find_levels};
 

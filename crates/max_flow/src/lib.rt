@@ -51,10 +51,7 @@ mod validity;
 pub use balance::{Totals, add_up};
 pub use flow_hint::KeptPreflow;
 pub use resuming::{minimum_cut_above, resume};
-pub use solving::{
-    least_inside, minimum_cut, minimum_cut_and_preflow, minimum_cut_and_preflow_watched,
-    minimum_cut_watched, solve,
-};
+pub use solving::{least_inside, minimum_cut, minimum_cut_and_preflow, solve};
 pub use validity::is_valid_flow;
 
 /// The error of a call that ran out of memory.

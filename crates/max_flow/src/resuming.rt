@@ -100,7 +100,7 @@ fn more_above<N: FlowNetwork>(
             return Ok(more);
         }
     }
-    let found = find_hint_above(alloc, net, flow.on_sink.as_slice())?;
+    let found = find_hint_above(alloc, net, flow.on_sink.as_slice(), &mut Silent)?;
     if let Some(more) = tested(alloc, net, flow, found, kept)? {
         return Ok(more);
     }

@@ -16,9 +16,7 @@ use crate::phases::Phase;
 use crate::residual::ResidualArc;
 use crate::searches::{Search, search_back};
 use crate::validity::is_valid_flow;
-use flow_hint::{
-    Hint, KeptPreflow, Levels, find_hint, find_hint_above_watched, find_hint_watched, find_levels,
-};
+use flow_hint::{Hint, KeptPreflow, Levels, find_hint, find_hint_above, find_levels};
 use flow_net::{Flow, FlowNetwork, Labels, Sequence};
 use host::{Silent, Stage, Watch};
 use std::alloc::Global;
@@ -210,7 +208,7 @@ pub fn solve<N: FlowNetwork>(alloc: Global, net: &N) -> Result<Flow, NoMemory>
     ensures valid { IfOk result (λ flow. IsValidFlow (N.numbered net.now) flow) }
     ensures largest { IfOk result (λ flow. IsLargest (N.numbered net.now) flow) }
 {
-    let hint = find_hint(alloc, net)?;
+    let hint = find_hint(alloc, net, &mut Silent)?;
     let (flow, _labels) = largest_flow(alloc, net, hint, &mut Silent)?;
     Ok(flow)
 }
@@ -282,18 +280,10 @@ fn cut_by<N: FlowNetwork, W: Watch>(
 
 /// Returns a maximum flow, and the minimum cut with the smallest inside, whose cost is its value. It takes less time than
 /// `solve` and `least_inside` one after the other.
-pub fn minimum_cut<N: FlowNetwork>(alloc: Global, net: &N) -> Result<(Flow, Labels), NoMemory>
-    ensures valid { IfOk result (λ cut. IsValidFlow (N.numbered net.now) cut.0) }
-    ensures largest { IfOk result (λ cut. IsLargest (N.numbered net.now) cut.0) }
-    ensures least { IfOk result (λ cut. IsLeastInside (N.numbered net.now) cut.1) }
-    ensures cost { IfOk result (λ cut. cost_of (N.numbered net.now) cut.1 ≡ value_of (N.numbered net.now) cut.0) }
-{
-    minimum_cut_watched(alloc, net, &mut Silent)
-}
-
-/// Returns the same, and reports to a progress callback the stage, and from how many nodes the hint moved amounts on; and if
-/// rounds have to follow, the stage of rounds and their number.
-pub fn minimum_cut_watched<N: FlowNetwork, W: Watch>(
+///
+/// Reports to a progress callback the stage, and from how many nodes the hint moved amounts on; and if rounds have to follow,
+/// the stage of rounds and their number.
+pub fn minimum_cut<N: FlowNetwork, W: Watch>(
     alloc: Global,
     net: &N,
     watch: &mut W,
@@ -304,26 +294,13 @@ pub fn minimum_cut_watched<N: FlowNetwork, W: Watch>(
     ensures cost { IfOk result (λ cut. cost_of (N.numbered net.now) cut.1 ≡ value_of (N.numbered net.now) cut.0) }
 {
     watch.stage(Stage::Flow, 0);
-    let hint = find_hint_watched(alloc, net, watch)?;
+    let hint = find_hint(alloc, net, watch)?;
     cut_by(alloc, net, hint, watch)
 }
 
 /// Returns the result of `minimum_cut`, and the preflow of its hint, if there is one, from which `minimum_cut_above` can
-/// resume.
-pub fn minimum_cut_and_preflow<N: FlowNetwork>(
-    alloc: Global,
-    net: &N,
-) -> Result<(Flow, Labels, Option<KeptPreflow>), NoMemory>
-    ensures valid { IfOk result (λ cut. IsValidFlow (N.numbered net.now) cut.0) }
-    ensures largest { IfOk result (λ cut. IsLargest (N.numbered net.now) cut.0) }
-    ensures least { IfOk result (λ cut. IsLeastInside (N.numbered net.now) cut.1) }
-    ensures cost { IfOk result (λ cut. cost_of (N.numbered net.now) cut.1 ≡ value_of (N.numbered net.now) cut.0) }
-{
-    minimum_cut_and_preflow_watched(alloc, net, &mut Silent)
-}
-
-/// Returns the same, with a progress callback as for `minimum_cut_watched`.
-pub fn minimum_cut_and_preflow_watched<N: FlowNetwork, W: Watch>(
+/// resume. Reports progress as `minimum_cut` does.
+pub fn minimum_cut_and_preflow<N: FlowNetwork, W: Watch>(
     alloc: Global,
     net: &N,
     watch: &mut W,
@@ -334,7 +311,7 @@ pub fn minimum_cut_and_preflow_watched<N: FlowNetwork, W: Watch>(
     ensures cost { IfOk result (λ cut. cost_of (N.numbered net.now) cut.1 ≡ value_of (N.numbered net.now) cut.0) }
 {
     watch.stage(Stage::Flow, 0);
-    let (hint, kept) = match find_hint_above_watched(alloc, net, &[], watch)? {
+    let (hint, kept) = match find_hint_above(alloc, net, &[], watch)? {
         Some((hint, kept)) => (Some(hint), Some(kept)),
         None => (None, None),
     };

@@ -11,7 +11,7 @@ use crate::counting::Votes;
 use cell_net::CellNetwork;
 use flow_net::{Flow, Labels, Settings, cost};
 use host::Watch;
-use max_flow::minimum_cut_watched;
+use max_flow::minimum_cut;
 use scan::Scan;
 use std::alloc::Global;
 use tetra_store::Tetra;
@@ -47,7 +47,7 @@ pub fn minimum_cut_of<W: Watch>(
 {
     let _scan = scan;
     let net = CellNetwork::new(tetra, votes.store_counts(), settings);
-    let (flow, labels) = minimum_cut_watched(alloc, &net, watch)?;
+    let (flow, labels) = minimum_cut(alloc, &net, watch)?;
     let cost = cost(&net, &labels) as u64;
     Ok(MinimumCut { labels, flow, cost })
 }

@@ -15,7 +15,7 @@ use cell_net::CellNetwork;
 use flow_net::{Flow, Labels, Settings, cost};
 use geo_sign::Point;
 use host::{Silent, Watch};
-use max_flow::{KeptPreflow, minimum_cut_above, minimum_cut_and_preflow_watched};
+use max_flow::{KeptPreflow, minimum_cut_above, minimum_cut_and_preflow};
 use mesh_ply::Mesh;
 use scan::Scan;
 use solution::{SeenPoints, Votes, counted_cells_with, seen_in};
@@ -86,7 +86,7 @@ impl Sweep {
         let seen = seen_in(alloc, scan)?;
         let (tetra, votes) = counted_cells_with(alloc, scan, &seen, settings, watch)?;
         let net = CellNetwork::new(&tetra, votes.store_counts(), settings);
-        let (flow, labels, kept) = minimum_cut_and_preflow_watched(alloc, &net, watch)?;
+        let (flow, labels, kept) = minimum_cut_and_preflow(alloc, &net, watch)?;
         let scanners = Vec::from_slice(alloc, &scan.scanners)?;
         Ok(Sweep {
             alloc,

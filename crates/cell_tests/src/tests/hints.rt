@@ -5,6 +5,7 @@ ghost use Rattle.std.specs.Prelude.{◌≡◌, length, IfOk};
 use super::flow_networks::three_nodes;
 use flow_hint::{Hint, find_hint, find_hint_above, find_hint_on, find_levels};
 use flow_net::{Flow, NetBuilder, Sequence};
+use host::Silent;
 use std::alloc::Global;
 use std::test::Fail;
 
@@ -52,7 +53,7 @@ fn is_as_known(hint: &Hint, known: &Known) -> bool {
 /// Returns whether the hint at a network is.
 fn is_hinted(alloc: Global, known: &Known) -> Result<bool, Fail> {
     let net = three_nodes(alloc, 3, known.capacities)?;
-    let hint = find_hint(alloc, &net)?.ok_or("no hint")?;
+    let hint = find_hint(alloc, &net, &mut Silent)?.ok_or("no hint")?;
     Ok(is_as_known(&hint, known))
 }
 
@@ -77,7 +78,7 @@ const LISTED: [(&str, [u64; 3], [u64; 3]); 4] = [
 /// Returns whether the hint above a list leaves these amounts at the sinks.
 fn is_hinted_above(alloc: Global, first: [u64; 3], on_sink: [u64; 3]) -> Result<bool, Fail> {
     let net = three_nodes(alloc, 3, (2, 2, 2))?;
-    let found = find_hint_above(alloc, &net, &first)?.ok_or("no hint")?;
+    let found = find_hint_above(alloc, &net, &first, &mut Silent)?.ok_or("no hint")?;
     Ok(found.0.flow.on_sink.as_slice() == on_sink.as_slice())
 }
 
@@ -111,7 +112,7 @@ fn is_hinted_on(
 ) -> Result<bool, Fail> {
     let before = three_nodes(alloc, 3, (10, 1, 1))?;
     let net = three_nodes(alloc, 3, capacities)?;
-    let (_hint, kept) = find_hint_above(alloc, &before, &[])?.ok_or("no hint")?;
+    let (_hint, kept) = find_hint_above(alloc, &before, &[], &mut Silent)?.ok_or("no hint")?;
     let found = find_hint_on(alloc, &net, kept)?.ok_or("no hint on it")?;
     Ok(found.0.flow.on_sink.as_slice() == on_sink.as_slice())
 }
@@ -178,7 +179,7 @@ const LIMIT: u64 = 1_152_921_504_606_846_976;
 /// Returns whether there is a hint if all capacities are the limit.
 fn has_hint_at_the_limit(alloc: Global) -> Result<bool, Fail> {
     let net = three_nodes(alloc, 3, (LIMIT, LIMIT, LIMIT))?;
-    Ok(find_hint(alloc, &net)?.is_some())
+    Ok(find_hint(alloc, &net, &mut Silent)?.is_some())
 }
 
 /// Returns whether there is one if a node receives the limit five times.
@@ -190,7 +191,7 @@ fn has_hint_beyond(alloc: Global) -> Result<bool, Fail> {
         builder.feed(outer, inner, LIMIT)?;
     }
     let net = builder.build();
-    Ok(find_hint(alloc, &net)?.is_some())
+    Ok(find_hint(alloc, &net, &mut Silent)?.is_some())
 }
 
 #[test]

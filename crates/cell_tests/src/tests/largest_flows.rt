@@ -3,6 +3,7 @@
 
 use super::flow_networks::{Kind, random_net, row_with_sights};
 use flow_net::{Net, NetBuilder, cost, value};
+use host::Silent;
 use max_flow::{
     is_valid_flow, least_inside, minimum_cut, minimum_cut_above, minimum_cut_and_preflow, resume,
     solve,
@@ -25,7 +26,7 @@ const MIDDLE: Kind = Kind {
 /// Returns whether the value of a flow is the cost of the labels. No flow has a larger value than the cost of any labels, so
 /// both are optimal then.
 fn is_worth_its_cut(alloc: Global, net: &Net) -> Result<bool, Fail> {
-    let (flow, labels) = minimum_cut(alloc, net)?;
+    let (flow, labels) = minimum_cut(alloc, net, &mut Silent)?;
     Ok(is_valid_flow(alloc, net, &flow)? && value(net, &flow) == cost(net, &labels))
 }
 
@@ -122,7 +123,7 @@ fn as_much_flows_as_the_labels_cost(rt: HostRuntime) -> Result<(), Fail> {
 /// Returns the values of a maximum flow of one network in another, with the same arcs and no smaller capacities: resumed with
 /// its preflow, and without.
 fn gone_on(alloc: Global, before: &Net, net: &Net) -> Result<[u128; 2], Fail> {
-    let (mut flow, _labels, mut kept) = minimum_cut_and_preflow(alloc, before)?;
+    let (mut flow, _labels, mut kept) = minimum_cut_and_preflow(alloc, before, &mut Silent)?;
     if !is_valid_flow(alloc, net, &flow)? {
         return Err(Fail::from("a flow that is none where capacities rise"));
     }
