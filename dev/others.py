@@ -14,7 +14,8 @@ Open3D surfaces from points with normals of 16 neighbors that are turned to the 
 part with the least density is cut off, and ball pivoting with radii of 2, 4 and 8 spacings. What is not installed is named and left out (Debian:
 libcgal-dev, colmap, python3-open3d). Seconds are of the processor, the peak is the largest resident memory. Distances, mean / 95 of 100 /
 greatest, open edges and the mean angle between faces in degrees are those of `dev/measure_surface.py compare`, in thousandths of the object's
-diagonal. Smoothed is in three steps, within twice the noise. Needs numpy.
+diagonal. Smoothed is in three steps, within twice the noise. Non-manifold edges and vertices and pairs of faces that cross are those of
+`recon-mesh inspect`, exact, and so only for meshes of whole numbers: those of recon. Needs numpy, and recon-mesh beside RECON.
 """
 from __future__ import annotations
 
@@ -114,10 +115,22 @@ class Scan:
 
 
 class Row(NamedTuple):
-    """A line of the table: the program, what it cost, and the mesh that it made, if any."""
+    """A line of the table: the program, what it cost, the mesh that it made, if any, and what `recon-mesh inspect` counts of it."""
     program: str
     cost: Cost
     mesh: Optional[str]
+    counts: Sequence[str] = ('', '')
+
+
+def inspected(program: str, mesh: str) -> Sequence[str]:
+    """Returns the numbers of non-manifold edges and vertices, and of pairs of faces that cross, with undecided ones if there are any."""
+    said = ran(program, 'inspect', mesh)
+    if said is None:
+        return Row._field_defaults['counts']
+    count = dict(zip(said.line.split()[1::2], said.line.split()[2::2]))
+    undecided = count['undecided_pairs']
+    pairs = count['crossing_pairs'] + (f' ({undecided} undecided)' if undecided != '0' else '')
+    return f'{count["nonmanifold_edges"]}, {count["nonmanifold_vertices"]}', pairs
 
 
 def of_recon(recon: str, scan: Scan, noise: float) -> list[Row]:
@@ -125,14 +138,18 @@ def of_recon(recon: str, scan: Scan, noise: float) -> list[Row]:
     cost = ran(recon, 'build', scan.scan, mesh, cert, 'unit=1000')
     if cost is None:
         return []
-    built = scan.base + '.built.ply'
+    program = os.path.join(os.path.dirname(recon), 'recon-mesh')
+    built, whole = scan.base + '.built.ply', scan.base + '.whole.ply'
     ran(*tool('mesh_to_floats'), mesh, built, 'unit=1000')
-    rows = [Row('recon, as built', cost, built)]
-    for name, options in (('finished', []), ('smoothed', ['smooth=3', f'within={2000 * noise!r}'])):
+    rows = [Row('recon, as built', cost, built, inspected(program, mesh))]
+    for name, smooth, within in (('finished', [], ''), ('smoothed', ['smooth=3'], f'{2000 * noise:g}')):
         path = f'{scan.base}.{name}.ply'
-        finish = ran(*tool('finish'), mesh, path, 'unit=1000', 'pieces=1', *options)
-        if finish is not None:
-            rows.append(Row(f'recon, {name}', Cost(cost.seconds + finish.seconds, max(cost.megabytes, finish.megabytes), ''), path))
+        finish = ran(*tool('finish'), mesh, path, 'unit=1000', 'pieces=1', *smooth, *([f'within={within}'] if within else []))
+        if finish is None:
+            continue
+        ran(program, 'finish', mesh, whole, 'pieces=1', *smooth, *([f'within={round(1000 * float(within))}'] if within else []))
+        total = Cost(cost.seconds + finish.seconds, max(cost.megabytes, finish.megabytes), '')
+        rows.append(Row(f'recon, {name}', total, path, inspected(program, whole)))
     return rows
 
 
@@ -210,14 +227,17 @@ def main() -> int:
     objects = options['objects'].split(',') if options['objects'] else [os.path.join(folder, 'room.off')]
     if not options['objects']:
         subprocess.run([PYTHON, MEASURE, 'room', objects[0]], check=True, stdout=subprocess.DEVNULL)
-    print('| scan | program | s | peak MB | to the object | from the object | open edges | angle |\n|' + '---|' * 8, flush=True)
+    print('| scan | program | s | peak MB | to the object | from the object | open edges | non-manifold edges, vertices | crossing pairs | angle |\n|' + '---|' * 10,
+          flush=True)
     for path in objects:
         scan = Scan(folder, path, options['points'], options['noise'])
         rows = of_recon(os.path.abspath(recon), scan, float(options['noise'])) + of_cgal(folder, scan) + of_colmap(scan) + of_open3d(scan)
         figures = measured(scan, rows)
         for row in rows:
-            cells = figures.get(row.mesh or '', [''] * 4)
-            print(f'| {scan.name} {len(scan.rows):,}, {1000 * float(options["noise"]):g} | {row.program} | {row.cost.seconds:.1f} | {row.cost.megabytes} | {" | ".join(cells)} |', flush=True)
+            *distances, angle = figures.get(row.mesh or '', [''] * 4)
+            cells = [f'{scan.name} {len(scan.rows):,}, {1000 * float(options["noise"]):g}', row.program, f'{row.cost.seconds:.1f}',
+                     str(row.cost.megabytes), *distances, *row.counts, angle]
+            print(f'| {" | ".join(cells)} |', flush=True)
     return 0
 
 
