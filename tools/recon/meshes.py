@@ -163,7 +163,7 @@ def side_keys(faces: np.ndarray, count: int) -> tuple[np.ndarray, np.ndarray]:
 
 
 def chunks(count: int) -> Iterator[slice]:
-    """Yields slices of some thousands of rows, so that what is computed of them stays in the cache."""
+    """Yields slices that cover this number of rows, some thousands each, so that what is computed of them stays in the cache."""
     for start in range(0, count, CHUNK):
         yield slice(start, min(start + CHUNK, count))
 

@@ -1,4 +1,4 @@
-"""Whole numbers of a text, compared with what Python itself reads."""
+"""Whole numbers of a text, compared with what Python reads."""
 from __future__ import annotations
 
 import random

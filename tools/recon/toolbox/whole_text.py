@@ -45,7 +45,7 @@ def whole_numbers(data: bytes, begin: int = 0, blanks: bytes = b' \n') -> np.nda
 
 
 def numbers_before(data: bytes, letters: np.ndarray, ends: np.ndarray, sizes: np.ndarray) -> np.ndarray | None:
-    """The numbers whose digits end at these positions, the first at least eight bytes after the start; None if one is no number."""
+    """The numbers that end at these offsets, eight or more from the start, and have these lengths; None if one is invalid."""
     is_minus = None
     if (letters[ends[0] - sizes[0]:ends[-1]] == MINUS).any():
         is_minus = letters[ends - sizes] == MINUS
