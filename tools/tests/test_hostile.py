@@ -191,6 +191,9 @@ class Hostile(InFolder):
                              ('int x, int y, int z, uchar weight, int scanner', '1 2 3 - 0')):
             write('in', head(1, columns, 1) + f'{row}\n0 0 9\n')
             equal(call('scan', 'in', 'out.ply'), (1, '', 'recon-scan: refused: vertex row 0: the weight - is no number\n'))
+            for weight in ('1e999999', '1.5', '1e2', '2.'):
+                write('in', head(1, columns, 1) + f'{row}\n0 0 9\n'.replace('-', weight))
+                equal(call('scan', 'in', 'out.ply'), (1, '', f'recon-scan: refused: vertex row 0: the weight {weight} is no whole number\n'))
 
     def test_names_of_columns_beyond_ascii(self) -> None:
         write('mesh', MESH)

@@ -28,6 +28,7 @@ FORMATS = {'char': 'b', 'int8': 'b', 'uchar': 'B', 'uint8': 'B', 'short': 'h', '
 ORDERS = {'ascii': '', 'binary_little_endian': '<', 'binary_big_endian': '>'}
 NUMBER = r'[+-]?(?:[0-9]+\.?[0-9]*|\.[0-9]+)(?:[eE][+-]?[0-9]+)?'
 IS_NUMBER = re.compile(NUMBER).fullmatch
+IS_WHOLE = re.compile('[+-]?[0-9]+').fullmatch
 IS_COUNT = re.compile('0*([0-9]{1,20})').fullmatch
 ARE_THREE = re.compile(f'{NUMBER} {NUMBER} {NUMBER}').fullmatch
 IS_NOT_FINITE = re.compile(r'[+-]?(?:nan(?:\(.*\))?|inf|infinity|1\.#(?:q?nan|snan|ind|inf)[0-9]*)', re.I).fullmatch

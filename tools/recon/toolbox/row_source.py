@@ -7,7 +7,7 @@ from __future__ import annotations
 from typing import Any, Callable, Sequence
 
 from recon.toolbox.flight import TIMES, Above, Flight
-from recon.toolbox.ply_text import (ARE_THREE, FORMATS, IS_NUMBER, SCANNER_LIMIT, Element, Property, Refusal, decimals, index_text,
+from recon.toolbox.ply_text import (ARE_THREE, FORMATS, IS_NUMBER, IS_WHOLE, SCANNER_LIMIT, Element, Property, Refusal, decimals, index_text,
                               read_positions)
 from recon.toolbox.sieve import Passage
 from recon.toolbox.sources import Source, refuse_others
@@ -76,10 +76,10 @@ class OfReader(Source):
         raise NotImplementedError
 
     def refuse_weight(self, word: str, place: Callable[[], str]) -> None:
-        """Refuses a weight that is no number. Those that occurred before are known."""
+        """Refuses a weight that is no whole number. Those that occurred before are known."""
         if word not in self.weights:
-            if not IS_NUMBER(word):
-                raise Refusal(f'{place()}: the weight {word[:40]} is no number')
+            if not IS_WHOLE(word):
+                raise Refusal(f'{place()}: the weight {word[:40]} is no {"whole " if IS_NUMBER(word) else ""}number')
             if len(self.weights) < MOST_WEIGHTS:
                 self.weights.add(word)
 
