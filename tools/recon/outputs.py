@@ -179,5 +179,6 @@ cd "$folder/mesh.recon" && sha256sum -c - <<SUMS
 SUMS
 """
     path = made.folder / 'again.sh'
-    path.write_text(text)
+    # names of files are any bytes
+    path.write_bytes(os.fsencode(text))
     path.chmod(0o755)

@@ -163,6 +163,13 @@ class Surfaces(InFolder):
         equal(int(top) > 0.95 * len(points), True)
         refused('--tiles goes without', 'in.ply', '--tiles', '--sweep', '3', '-o', 'mesh.glb')
 
+    def test_names_of_files_are_any_bytes(self) -> None:
+        points = sphere(200)
+        name = os.fsdecode(b'caf\xe9.ply')
+        write(name, scan_text(points, SCANNERS, nearest(points)))
+        made(name, '--no-check')
+        equal(b'caf\xe9.ply' in pathlib.Path('mesh.recon', 'again.sh').read_bytes(), True)
+
     def test_nothing_is_left_if_the_check_fails(self) -> None:
         points = sphere(300)
         write('in.ply', scan_text(points, SCANNERS, nearest(points)))
