@@ -84,8 +84,9 @@ def write_outputs(made: Made, beside: Beside) -> None:
         choices.beside['check'] = round(passed, 3)
     write_report(made, figures, digests, part)
     files.update({made.folder / name: made.kept() / name for name in (*made.surface.files(), 'report.json', 'again.sh')})
-    for start, end in files.items():
+    for end in files.values():
         end.parent.mkdir(parents=True, exist_ok=True)
+    for start, end in files.items():
         shutil.move(os.fspath(start), os.fspath(end))
     choices.tell(f'wrote {made.out} ({len(made.mesh.faces):,} faces), {seen_path(os.fspath(made.out))}, {made.out.with_suffix(".html")} and '
                  f'{made.kept()}/')

@@ -170,6 +170,12 @@ class Surfaces(InFolder):
         made(name, '--no-check')
         equal(b'caf\xe9.ply' in pathlib.Path('mesh.recon', 'again.sh').read_bytes(), True)
 
+    def test_nothing_is_left_if_a_folder_cannot_be_made(self) -> None:
+        points = sphere(200)
+        write('in.ply', scan_text(points, SCANNERS, nearest(points)))
+        refused('File name too long', 'in.ply', '-o', 'mesh.ply', '--no-check', '--keep', '9' * 400)
+        equal(os.listdir(), ['in.ply'])
+
     def test_nothing_is_left_if_the_check_fails(self) -> None:
         points = sphere(300)
         write('in.ply', scan_text(points, SCANNERS, nearest(points)))
