@@ -349,6 +349,12 @@ class Program(InFolder):
         for use in USES.splitlines(keepends=True):
             equal(told(use.split()[2]), (2, 'refused words\n', use))
 
+    def test_a_scanner_out_of_range_is_told_as_such(self) -> None:
+        for options in (['scanner=2097152,0,0'], ['scanner=300,0,0', 'unit=10000'], ['scanner=1,2']):
+            status, said, hint = told('build', 'scan', 'mesh', 'cert', *options)
+            equal((status, said, hint.splitlines(keepends=True)[0]), (2, 'refused words\n', USES.splitlines(keepends=True)[0]))
+            equal(hint.splitlines()[1][:70], 'recon: scanner=X,Y,Z takes three numbers, and each times unit= is at m')
+
     def test_a_person_is_told_how_to_mend_a_refusal(self) -> None:
         write('scan', example('tetrahedron.ply'))
         write('other', 'other')

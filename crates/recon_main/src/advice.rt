@@ -4,6 +4,7 @@
 
 use crate::against::Weights;
 use real_host::Advice;
+use std::env::FillError;
 use std::rt::Env;
 
 /// The commands, each with its arguments.
@@ -40,6 +41,13 @@ const COMMAND_LIMIT: usize = 16;
 /// The hint for a surface without a face.
 pub const NO_FACE: &str =
     "no face: do all points coincide at this scale (unit=1000 converts metres to millimetres), or is smooth= large compared with vote=?";
+
+/// What the option `scanner=` takes, for invalid arguments that have it.
+pub const SCANNER_RANGE: &str =
+    "scanner=X,Y,Z takes three numbers, and each times unit= is at most 2,097,151: use a smaller unit=, or an origin near the object (origin= of recon-scan)";
+
+/// An upper bound of the lengths of arguments that begin with `scanner=`.
+const SCANNER_LIMIT: usize = 128;
 
 /// The prefix of each error's reason, and how to fix it.
 const CURES: [(&[&str], &str); 31] = [
@@ -191,6 +199,19 @@ fn command_begun<R: Env>(rt: &R) -> Option<usize> {
     None
 }
 
+/// Returns whether one of the first arguments of the command line gives a scanner position.
+fn has_scanner<R: Env>(rt: &R) -> bool {
+    for index in 2..16 {
+        let mut word = [0; SCANNER_LIMIT];
+        match rt.arg(index, &mut word) {
+            Ok(_) if word.starts_with(b"scanner=") => return true,
+            Ok(_) | Err(FillError::TooLong) => {}
+            Err(_) => return false,
+        }
+    }
+    false
+}
+
 /// Returns how to fix the error, if the line is an error of a file.
 pub fn cure_of(line: &[u8]) -> Option<&'static str> {
     let reason = line.strip_prefix(b"refused ")?;
@@ -218,11 +239,12 @@ pub fn has_no_face(line: &[u8]) -> bool {
             .any(|front| front == b" faces 0 ".as_slice())
 }
 
-/// The hints of `recon` for the command with this index in [`USES`]. The weights are those of a run of `build` that a person sees at a
-/// terminal.
+/// The hints of `recon` for the command with this index in [`USES`], and whether its arguments give a scanner position. The weights are
+/// those of a run of `build` that a person sees at a terminal.
 #[derive(Drop)]
 pub struct Hints {
     command: Option<usize>,
+    has_scanner: bool,
     weights: Option<Weights>,
 }
 
@@ -234,7 +256,11 @@ impl Hints {
             Some(0) if is_seen => Some(Weights::stated(rt)),
             _ => None,
         };
-        Hints { command, weights }
+        Hints {
+            command,
+            has_scanner: has_scanner(rt),
+            weights,
+        }
     }
 
     /// Prints the usage of the command, or of all commands if the arguments begin with none.
@@ -255,6 +281,9 @@ impl Advice for Hints {
     fn advise<R: Eprint>(&self, rt: &R, line: &[u8]) {
         if line == b"refused words\n".as_slice() {
             self.tell_uses(rt);
+            if self.has_scanner {
+                let _ = eprintln!(rt; "recon: {SCANNER_RANGE}");
+            }
         } else if let Some(cure) = cure_of(line) {
             let _ = eprintln!(rt; "recon: {cure}");
         } else if has_no_face(line) {
