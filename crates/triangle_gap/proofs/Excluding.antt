@@ -1,12 +1,15 @@
 -- What planes say of the corners of two triangles.
-use Rattle.std.proofs.Common.{ℕ, ◌≡◌, ◌||◌, sym, ◌∙◌, arith, Bool, true, inl, inr, ℤ, ◌≤ℤ◌, ◌<ℤ◌}
+use Rattle.std.proofs.Common.{ℕ, ◌≡◌, ◌||◌, ap₂, sym, subst, ◌∙◌, arith, Bool, true, inl, inr, ℤ, pos, ◌-ℤ◌, ◌≤ℤ◌, ◌<ℤ◌, []}
 use Rattle.std.proofs.lemmas.Bool.{or_cases}
 use Rattle.std.proofs.lemmas.Int.{ints}
 use mir.Syntax.{w128}
 use mir.Val.{SFits, to_z, of_z}
 use lib.Signed.{le_z}
-use Rattle.geo_sign.specs.Point.{Point, dot, step}
-use Rattle.triangle_gap.specs.Shared.{weighted_sum, Weights, IsShared, AreExcluded}
+use Rattle.geo_sign.specs.Point.{Point, cross, dot, step}
+use Rattle.geo_sign.specs.Polynomial.{Polynomial, variable, difference}
+use Rattle.geo_sign.proofs.Ring.{ring}
+use Rattle.geo_sign.proofs.Written.{Symbols, symbols, coordinates, step', cross', dot'}
+use Rattle.triangle_gap.specs.Shared.{weighted_sum, Weights, IsShared, AreExcluded, AreExcludedOff}
 use Rattle.triangle_gap.specs.declared.corners.Triangle.{Triangle}
 use Rattle.triangle_gap.specs.declared.corners.Excluded.{Excluded}
 use Rattle.triangle_gap.specs.declared.corners.Marks.{Marks}
@@ -120,3 +123,61 @@ module _ (n o : Point) (s t : Triangle) (g h : Heights) (of_s : AreHeights n o s
         y = either _ _ _ w.y joined.y was.y (λ e. at_roof.b_gone (above.q e));
         z = either _ _ _ w.z joined.z was.z (λ e. at_roof.c_gone (above.r e));
       }
+
+-- the two triangles in the other order
+
+abbrev pub turned : Weights → Weights
+turned w = record { p = w.x; q = w.y; r = w.z; x = w.p; y = w.q; z = w.r }
+
+pub shared_turned : (s t : Triangle) (w : Weights) → IsShared s t w → IsShared t s (turned w)
+shared_turned s t w shared = record { total = sym shared.total; place = sym shared.place }
+
+-- the plane of a triangle
+
+abbrev own_normal : (p q r : Point) → Point
+own_normal p q r = cross (step p q) (step q r)
+
+-- the same heights, by the same normal
+pub by_own_normal : {n u v p : Point} (q r : Point) (t : Triangle) (h : Heights) → n ≡ cross u v → u ≡ step p q → v ≡ step q r
+    → AreHeights n p t h → AreHeights (own_normal p q r) p t h
+by_own_normal {n} {u} {v} {p} q r t h whole first second heights =
+    subst (λ (m : Point). AreHeights m p t h) (whole ∙ ap₂ (λ (x y : Point). cross x y) first second) heights
+
+-- its three corners have the height 0
+flat : (p q r : Point)
+    → (dot (own_normal p q r) (step p p) ≡ pos 0) × (dot (own_normal p q r) (step p q) ≡ pos 0) × (dot (own_normal p q r) (step p r) ≡ pos 0)
+flat p q r =
+    let P : Symbols = symbols 0 in
+    let Q : Symbols = symbols 3 in
+    let R : Symbols = symbols 6 in
+    let N : Symbols = cross' (step' P Q) (step' Q R) in
+    let zero : Polynomial = difference (variable 0) (variable 0) in
+    let none : p.x -ℤ p.x ≡ pos 0 = omega (arith, ints) in
+    let numbers = coordinates p (coordinates q (coordinates r [])) in (
+      ring numbers (dot' N (step' P P)) zero tt ∙ none,
+      ring numbers (dot' N (step' P Q)) zero tt ∙ none,
+      ring numbers (dot' N (step' P R)) zero tt ∙ none,
+    )
+
+module _ (s t : Triangle) (h : Heights) (of_t : AreHeights (own_normal s.p s.q s.r) s.p t h) (m : Marks) where
+  abbrev Level : Heights
+  Level = record { p = pos 0; q = pos 0; r = pos 0 }
+
+  level_heights : AreHeights (own_normal s.p s.q s.r) s.p s Level
+  level_heights =
+      let f = flat s.p s.q s.r in
+      record { p = sym f.0; q = sym f.1; r = sym f.2 }
+
+  -- no corner of the other is above the plane
+  pub excluded_under : (roof : ℤ) → roof ≤ℤ pos 0 → IsOver roof h → AreBelow (pos 0) h m → AreExcludedOff s t m
+  excluded_under roof low over below w shared =
+      let gone = gone_at _ s.p s t Level h level_heights of_t w shared (pos 0)
+      (record { p = omega (arith, ints); q = omega (arith, ints); r = omega (arith, ints) }) (over_higher roof (pos 0) h low over) in
+      record { p = λ e. gone.d_gone (below.p e); q = λ e. gone.e_gone (below.q e); r = λ e. gone.f_gone (below.r e) }
+
+  -- none is below it
+  pub excluded_over : (floor : ℤ) → pos 0 ≤ℤ floor → IsUnder floor h → AreAbove (pos 0) h m → AreExcludedOff s t m
+  excluded_over floor high under above w shared =
+      let gone = gone_at _ s.p t s h Level of_t level_heights (turned w) (shared_turned s t w shared) (pos 0) (under_lower (pos 0) floor h high under)
+      (record { p = omega (arith, ints); q = omega (arith, ints); r = omega (arith, ints) }) in
+      record { p = λ e. gone.a_gone (above.p e); q = λ e. gone.b_gone (above.q e); r = λ e. gone.c_gone (above.r e) }

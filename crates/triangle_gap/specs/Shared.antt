@@ -5,6 +5,7 @@
 --   IsShared s t n         the weights give one point of both
 --   IsExcluded f n            the weights of excluded corners are 0
 --   AreExcluded s t f         they are at each point that both triangles contain
+--   AreExcludedOff s t m      those of the second triangle's marked corners are
 --
 -- A point of a triangle with whole corners is a weighted mean of them. The points that two such triangles share are a point, a
 -- segment or a polygon with rational corners, so where there is one but for common corners there is one with whole weights.
@@ -12,6 +13,7 @@ use Rattle.std.specs.Prelude.{ℕ, ◌≡◌, ◌+◌, true, ℤ, pos, ◌+ℤ�
 use Rattle.geo_sign.specs.Point.{Point, point}
 use Rattle.triangle_gap.specs.declared.corners.Triangle.{Triangle}
 use Rattle.triangle_gap.specs.declared.corners.Excluded.{Excluded}
+use Rattle.triangle_gap.specs.declared.corners.Marks.{Marks}
 
 -- the sum of three numbers, each as often as its weight says
 abbrev pub weighted_sum : (a b c : ℤ) → (u v w : ℕ) → ℤ
@@ -47,3 +49,12 @@ pub record IsExcluded (f : Excluded) (n : Weights) : Type 0 where
 
 abbrev pub AreExcluded : Triangle → Triangle → Excluded → Type 0
 AreExcluded s t f = (n : Weights) → IsShared s t n → IsExcluded f n
+
+-- the weights of marked corners of the second are 0
+pub record AreMarkedOff (m : Marks) (x y z : ℕ) : Type 0 where
+  pub p : m.p ≡ true → x ≡ 0
+  pub q : m.q ≡ true → y ≡ 0
+  pub r : m.r ≡ true → z ≡ 0
+
+abbrev pub AreExcludedOff : Triangle → Triangle → Marks → Type 0
+AreExcludedOff s t m = (n : Weights) → IsShared s t n → AreMarkedOff m n.x n.y n.z

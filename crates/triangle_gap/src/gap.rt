@@ -9,7 +9,7 @@ ghost use Rattle.triangle_gap.specs.Settled.{AreCovered, AreSettled, AreMarks, I
 ghost use Rattle.triangle_gap.specs.Gaps.{AreFacesApart};
 
 use crate::corners::{Excluded, Marks, Triangle};
-use crate::planes::excluded_by;
+use crate::planes::{excluded_by, excluded_off};
 use crate::upright::{are_in_one_plane, axis_off};
 use geo_sign::{Point, Vector};
 
@@ -106,34 +106,19 @@ fn is_gap_along_sides(
     is_settled(excluded, common)
 }
 
-/// Returns whether planes show that two triangles with these common corners are apart.
-fn is_gap(one: &Triangle, other: &Triangle, common: Excluded) -> bool
+/// Returns whether these excluded corners or planes along a side of each triangle, or along a side and an axis if both are in one plane,
+/// show that two triangles are apart.
+fn is_gap_off_planes(one: &Triangle, other: &Triangle, common: Excluded, excluded: Excluded) -> bool
+    requires { AreExcluded one.now other.now excluded }
     ensures { OnTrue result (AreSettled one.now other.now common) }
 {
-    let none = Marks {
-        p: false,
-        q: false,
-        r: false,
-    };
-    let excluded = Excluded {
-        one: none,
-        other: none,
-    };
     let own = sides_of(one);
     let first = normal_of(&own);
-    let excluded = excluded_by(first, one, other, excluded);
-    if is_settled(excluded, common) {
-        return true;
-    }
-    let sides = sides_of(other);
-    let second = normal_of(&sides);
-    let excluded = excluded_by(second, one, other, excluded);
-    if is_settled(excluded, common) {
-        return true;
-    }
     if !are_in_one_plane(one, other, first) {
         return is_gap_along_sides(one, other, common, excluded);
     }
+    let sides = sides_of(other);
+    let second = normal_of(&sides);
     let axis = axis_off(first, second);
     let excluded = excluded_along(axis, &own, one, other, excluded);
     if is_settled(excluded, common) {
@@ -141,6 +126,26 @@ fn is_gap(one: &Triangle, other: &Triangle, common: Excluded) -> bool
     }
     let excluded = excluded_along(axis, &sides, one, other, excluded);
     is_gap_along_sides(one, other, common, excluded)
+}
+
+/// Returns whether planes show that two triangles with these common corners are apart. The planes of the triangles themselves are tried
+/// first: they cost least and mostly suffice.
+fn is_gap(one: &Triangle, other: &Triangle, common: Excluded) -> bool
+    ensures { OnTrue result (AreSettled one.now other.now common) }
+{
+    let off_one = excluded_off(one, other);
+    if are_covered(off_one, common.other) {
+        return true;
+    }
+    let off_other = excluded_off(other, one);
+    if are_covered(off_other, common.one) {
+        return true;
+    }
+    let excluded = Excluded {
+        one: off_other,
+        other: off_one,
+    };
+    is_gap_off_planes(one, other, common, excluded)
 }
 
 /// Returns whether a face has a vertex.

@@ -2,9 +2,9 @@
 
 ghost use Rattle.std.specs.Prelude.{◌≡◌, ◌^◌};
 ghost use Rattle.geo_sign.specs.Point.{IsWithin};
-ghost use Rattle.triangle_gap.specs.Shared.{AreExcluded};
+ghost use Rattle.triangle_gap.specs.Shared.{AreExcluded, AreExcludedOff};
 
-use crate::corners::{Excluded, Triangle};
+use crate::corners::{Excluded, Marks, Triangle};
 use crate::heights::heights_over;
 use geo_sign::Vector;
 
@@ -37,4 +37,28 @@ pub(crate) fn excluded_by(
         return excluded.or(below, above);
     }
     excluded
+}
+
+/// Returns the corners of the second triangle that are excluded by the plane of the first: those off the plane, unless some are above and
+/// some below.
+pub(crate) fn excluded_off(one: &Triangle, other: &Triangle) -> Marks
+    ensures { AreExcludedOff one.now other.now result }
+{
+    let from = one.p;
+    let first = from.to(one.q);
+    let second = one.q.to(one.r);
+    let normal = first.cross(second);
+    let heights = heights_over(other, from, normal);
+    let (floor, roof) = (heights.least(), heights.most());
+    if roof <= 0 {
+        return heights.below(0);
+    }
+    if 0 <= floor {
+        return heights.above(0);
+    }
+    Marks {
+        p: false,
+        q: false,
+        r: false,
+    }
 }
