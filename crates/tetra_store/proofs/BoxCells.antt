@@ -2,9 +2,9 @@
 --
 -- It is computed that no corner is in conflict with any of the six, and that each four of corners in positive order, of 4,096
 -- ordered fours, are one of the six up to an even permutation or have a corner in conflict.
-use Rattle.std.proofs.Common.{ℕ, zero, suc, ◌≡◌, ◌<◌, Bool, true, false, not, ◌&&◌, ◌||◌, ◌==◌, int_lt, ℤ, pos, ◌<ℤ◌}
-use Rattle.std.proofs.Common.{List, [], ◌∷◌, refl, sym, ap, ◌∙◌, inl, inr, subst, arith, slice_index, slice_index_or}
-use Rattle.std.proofs.lemmas.Bool.{false≢true, or_cases, and_parts, eqb-true}
+use Rattle.std.proofs.Common.{ℕ, zero, suc, ◌≡◌, ◌<◌, Bool, true, false, not, ◌&&◌, ◌||◌, ◌==◌, int_lt, ℤ, pos, ◌<ℤ◌, List, []}
+use Rattle.std.proofs.Common.{◌∷◌, refl, sym, inl, inr, subst, arith, slice_index, slice_index_or}
+use Rattle.std.proofs.lemmas.Bool.{false≢true, or_cases, eqb-true}
 use Rattle.std.proofs.lemmas.Int.{ints}
 use Rattle.geo_sign.specs.declared.point.TheConstants.{CORNERS}
 use Rattle.geo_sign.specs.Boxes.{IsBoxed}
@@ -48,23 +48,14 @@ is_same t r = (t.a == r.a) && ((t.b == r.b) && ((t.c == r.c) && (t.d == r.d)))
 
 same_is : (t r : Tetrahedron) → is_same t r ≡ true → t ≡ r
 unfolding is_same
-same_is t r h =
-    let a = and_parts (t.a == r.a) ((t.b == r.b) && ((t.c == r.c) && (t.d == r.d))) h in
-    let b = and_parts (t.b == r.b) ((t.c == r.c) && (t.d == r.d)) a.1 in
-    let c = and_parts (t.c == r.c) (t.d == r.d) b.1 in
-    ap (λ (x : ℕ). tetrahedron x t.b t.c t.d) (eqb-true t.a r.a a.0)
-    ∙ ap (λ (x : ℕ). tetrahedron r.a x t.c t.d) (eqb-true t.b r.b b.0)
-    ∙ ap (λ (x : ℕ). tetrahedron r.a r.b x t.d) (eqb-true t.c r.c c.0)
-    ∙ ap (λ (x : ℕ). tetrahedron r.a r.b r.c x) (eqb-true t.d r.d c.1)
+same_is t r h = grind (arith, eqb-true)
 
 rewritten_test : Tetrahedron → Tetrahedron → Bool
 rewritten_test t r = some_of 12 (λ k. is_same (after_steps (slice_index_or ways k []) t) r)
 
 rewritten_is : (t r : Tetrahedron) → rewritten_test t r ≡ true → IsRewritten t r
 unfolding rewritten_test
-rewritten_is t r h =
-    let k = some_at 12 (λ k. is_same (after_steps (slice_index_or ways k []) t) r) h in
-    (slice_index_or ways k.0 [], same_is (after_steps (slice_index_or ways k.0 []) t) r k.2)
+rewritten_is t r h = grind (arith, some_at, same_is)
 
 -- ---- what is computed
 clear_all : every 6 (λ i. every 8 (is_clear (box_tetrahedron i))) ≡ true

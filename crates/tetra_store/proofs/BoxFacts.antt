@@ -46,9 +46,7 @@ abbrev below_test : ℕ → ℕ → Bool
 below_test i k = nat_lt (vertex_of (box_tetrahedron i) k) 8
 
 pub box_below : (i k : ℕ) → i < 6 → k < 4 → vertex_of (box_tetrahedron i) k < CORNERS
-box_below i k l m =
-    ltb-true (vertex_of (box_tetrahedron i) k) 8
-    (every_at 4 (below_test i) (every_at 6 (λ j. every 4 (below_test j)) refl i l) k m)
+box_below i k l m = grind (arith, ltb-true, every_at)
 
 abbrev apart_test : ℕ → ℕ → ℕ → Bool
 apart_test i j k = not (vertex_of (box_tetrahedron i) j == vertex_of (box_tetrahedron i) k) || (j == k)
@@ -106,9 +104,7 @@ abbrev walled_test : ℕ → ℕ → Bool
 walled_test i k = same (box_number i k == 6) (wall_test (facet_of (box_tetrahedron i) k))
 
 box_walled : (i k : ℕ) → i < 6 → k < 4 → (box_number i k == 6) ≡ wall_test (facet_of (box_tetrahedron i) k)
-box_walled i k l m =
-    same_is (box_number i k == 6) (wall_test (facet_of (box_tetrahedron i) k))
-    (every_at 4 (walled_test i) (every_at 6 (λ j. every 4 (walled_test j)) refl i l) k m)
+box_walled i k l m = grind (arith, same_is, every_at)
 
 abbrev common_test : ℕ → ℕ → ℕ → ℕ → Bool
 common_test i j k m = not (rotated_test (facet_of (box_tetrahedron i) k) (facet_of (box_tetrahedron j) m)) || (i == j)
@@ -129,16 +125,7 @@ keeper_test u =
     nat_lt (box_keeper u) 6 && (nat_lt (keeper_side u) 4 && (vertex_of (box_tetrahedron (box_keeper u)) (keeper_side u) == u))
 
 pub box_keeps : (u : ℕ) → u < CORNERS → (box_keeper u < 6) × IsVertexOf (box_tetrahedron (box_keeper u)) u
-box_keeps u l =
-    let t = every_at 8 keeper_test refl u l in
-    let a = nat_lt (box_keeper u) 6 in
-    let b = nat_lt (keeper_side u) 4 in
-    let c = vertex_of (box_tetrahedron (box_keeper u)) (keeper_side u) == u in
-    let r = and_parts a (b && c) t in (
-      ltb-true (box_keeper u) 6 r.0,
-      at_place (box_tetrahedron (box_keeper u)) (keeper_side u) u
-          (eqb-true (vertex_of (box_tetrahedron (box_keeper u)) (keeper_side u)) u (and_parts b c r.1).1),
-    )
+box_keeps u l = grind (arith, every_at, ltb-true, at_place, eqb-true)
 
 -- ---- the cells are linked
 

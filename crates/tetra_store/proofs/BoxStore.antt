@@ -1,5 +1,5 @@
 -- The store of the box keeps what a store keeps.
-use Rattle.std.proofs.Common.{ℕ, ◌≡◌, ◌<◌, ◌≤◌, Bool, true, false, nat_lt, List, ◌++◌, length, get_or, Option, refl, sym, ap, ◌∙◌}
+use Rattle.std.proofs.Common.{ℕ, ◌≡◌, ◌<◌, ◌≤◌, Bool, true, false, nat_lt, List, ◌++◌, length, get_or, Option, refl, sym, ◌∙◌}
 use Rattle.std.proofs.Common.{subst, arith, slice_index, slice_index_or}
 use borrow.Author.Tests.{ltb-true}
 use Rattle.std.proofs.lemmas.Bool.Decides.{nat_tests}
@@ -7,8 +7,7 @@ use Rattle.geo_sign.specs.Point.{Point, origin, IsWithin}
 use Rattle.geo_sign.specs.declared.point.TheConstants.{CORNERS, DATA_LIMIT}
 use Rattle.geo_sign.specs.Tetrahedron.{Tetrahedron}
 use Rattle.geo_sign.specs.Boxes.{IsBoxed, inserted_vertices}
-use Rattle.geo_sign.specs.Tie.{height}
-use Rattle.geo_sign.specs.Vertices.{Vertices, Has, corners, point_of}
+use Rattle.geo_sign.specs.Vertices.{Has, corners}
 use Rattle.tetra_store.specs.declared.boxed.TheConstants.{VERTEX_LIMIT}
 use Rattle.tetra_store.specs.declared.link.Cell.{Cell}
 use Rattle.geo_sign.specs.Writings.{IsVertexOf}
@@ -23,16 +22,7 @@ use Rattle.tetra_store.proofs.BoxCells.{box_delaunay}
 -- the points of a store are the corners and others
 pub vertices_are : (all points : List Point) (flags : List Bool) → all ≡ corners ++ points
     → vertices_at all flags ≡ inserted_vertices points flags
-vertices_are all points flags e =
-    ap (λ (ps : List Point). vertices_at ps flags) e
-    ∙ ap (λ (n : ℕ).
-    let v : Vertices = record {
-      at = point_of points;
-      high = λ u. height n u (point_of points u);
-      count = n;
-      is_in = λ u. slice_index_or flags u false;
-    } in
-    v) (vertex_count points)
+vertices_are all points flags e = grind (arith, vertex_count)
 
 module _ (points : List Point) (data_points : (k : ℕ) → k < length points → IsWithin DATA_LIMIT (get_or points k origin))
     (distinct : (j k : ℕ) → j < length points → k < length points → get_or points j origin ≡ get_or points k origin → j ≡ k)

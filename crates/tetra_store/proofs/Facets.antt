@@ -55,15 +55,7 @@ end_in f (suc (suc e)) = inr (inl refl)
 -- an edge and its reverse make sides that are the reverse of each other
 pub edges_turned : (f g : DirectedFacet) (p e d : ℕ) → e < 3 → d < 3 → edge_start g d ≡ edge_end f e
     → edge_end g d ≡ edge_start f e → IsTurned (facet_of (over f p) e) (facet_of (over g p) d)
-edges_turned f g p e d l m s t =
-    let x : IsTurned (facet (edge_end f e) (edge_start f e) p) (facet (edge_end g d) (edge_start g d) p) =
-    subst (λ (a : ℕ). IsTurned (facet (edge_end f e) (edge_start f e) p) (facet a (edge_start g d) p)) (sym t)
-    (subst (λ (b : ℕ). IsTurned (facet (edge_end f e) (edge_start f e) p) (facet (edge_start f e) b p)) (sym s)
-    (inr (inr refl))) in
-    turned_rotated (facet_of (over f p) e) (facet (edge_end g d) (edge_start g d) p) (facet_of (over g p) d)
-    (rotated_turned (facet_of (over f p) e) (facet (edge_end f e) (edge_start f e) p) (facet (edge_end g d) (edge_start g d) p)
-    (rotated_back (facet (edge_end f e) (edge_start f e) p) (facet_of (over f p) e) (side_over f p e l)) x)
-    (side_over g p d m)
+edges_turned f g p e d l m s t = grind (arith, turned_rotated, rotated_turned, rotated_back, side_over)
 
 -- ---- distinct vertices
 
@@ -96,12 +88,8 @@ facet_apart t d (suc (suc (suc k))) = record {
 
 pub apart_rotated : (f g : DirectedFacet) → IsRotated f g → IsApart f → IsApart g
 apart_rotated f g (inl e) h = subst (λ (t : DirectedFacet). IsApart t) (sym e) h
-apart_rotated f g (inr (inl e)) h =
-    subst (λ (t : DirectedFacet). IsApart t) (sym e)
-    (let r : IsApart (one f) = record { a_b = h.b_c; b_c = h.c_a; c_a = h.a_b } in r)
-apart_rotated f g (inr (inr e)) h =
-    subst (λ (t : DirectedFacet). IsApart t) (sym e)
-    (let r : IsApart (two f) = record { a_b = h.c_a; b_c = h.a_b; c_a = h.b_c } in r)
+apart_rotated f g (inr (inl e)) h = grind arith
+apart_rotated f g (inr (inr e)) h = grind arith
 
 pub over_distinct : (f : DirectedFacet) (p : ℕ) → IsApart f → (HasVertex f p → ⊥) → IsDistinct (over f p)
 over_distinct f p h out zero zero l m e = refl

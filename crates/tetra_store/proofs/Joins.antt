@@ -7,7 +7,7 @@ use Rattle.std.proofs.Common.{ℕ, zero, suc, Bool, true, ◌&&◌, ◌==◌, mi
 use Rattle.std.proofs.Common.{◌⊎◌, List, [], ◌∷◌, ◌++◌, length, Some, refl, sym, ap, ◌∙◌, inl, inr, subst, arith, slice_index}
 use Rattle.std.proofs.Common.{slice_index_or}
 use Rattle.std.specs.List.{Contains, IsDistinct}
-use Rattle.std.proofs.lemmas.Bool.{cases_eq, cases_lt, eqb-true, and_parts, false_from_ne_true, ne_eqb}
+use Rattle.std.proofs.lemmas.Bool.{cases_lt, eqb-true, and_parts, false_from_ne_true, ne_eqb}
 use Rattle.std.proofs.lemmas.Map.Keys.{IsDistinct-from_apart}
 use Rattle.std.proofs.lemmas.List.{get_or_append_left, get_or_at, get_or_default, length_push}
 use Rattle.tetra_store.specs.declared.fan.Facet.{Facet}
@@ -114,12 +114,7 @@ module _ (a m b : Links) (edges : List Edge) (n : ℕ) (x r : Edge) (h : AreJoin
 -- ---- the reverse is next
 
 key_of_reverse : (x y : Edge) → IsReverse x y → key_of_edge y ≡ key_of_edge x
-key_of_reverse x y r =
-    let s = r.start_is in
-    let e = r.end_is in
-    let low : min y.start y.end ≡ min x.start x.end = omega arith in
-    let high : max y.start y.end ≡ max x.start x.end = omega arith in
-    ap (λ (z : ℕ). edge_key z (max y.start y.end)) low ∙ ap (λ (z : ℕ). edge_key (min x.start x.end) z) high
+key_of_reverse x y r = grind arith
 
 module _ (edges : List Edge) (sorted : AreByKey edges) (pairs : ArePairs edges) (at : ℕ) (l : at < length edges) where
   -- where the reverse comes later, the next is one
@@ -160,10 +155,7 @@ module _ (edges : List Edge) (sorted : AreByKey edges) (pairs : ArePairs edges) 
 edge_same : (s e c t f d k : ℕ) → s ≡ t → e ≡ f → c ≡ d
     → (let x : Edge = record { start = s; end = e; cell = c; side = k } in x)
     ≡ (let y : Edge = record { start = t; end = f; cell = d; side = k } in y)
-edge_same s e c t f d k a b g =
-    ap (λ (z : ℕ). let y : Edge = record { start = z; end = e; cell = c; side = k } in y) a
-    ∙ (ap (λ (z : ℕ). let y : Edge = record { start = t; end = z; cell = c; side = k } in y) b
-    ∙ ap (λ (z : ℕ). let y : Edge = record { start = t; end = f; cell = z; side = k } in y) g)
+edge_same s e c t f d k a b g = grind arith
 
 pub edge_read : (fan : List Facet) (ids : List ℕ) (i e j k cell : ℕ) (d g : Facet) → i < length fan → cell ≡ slice_index ids i
     → edge_of fan ids i e ≡ record {
@@ -179,10 +171,7 @@ pub edge_read : (fan : List Facet) (ids : List ℕ) (i e j k cell : ℕ) (d g : 
       side = e;
     } in
     x) ≡ edge_of fan ids i e
-edge_read fan ids i e j k cell d g l c is =
-    edge_same (slice_index (slice_index_or fan i d).v j) (slice_index (slice_index_or fan i g).v k) cell
-    (slice_index (slice_index_or fan i no_facet).v j) (slice_index (slice_index_or fan i no_facet).v k) (slice_index ids i) e
-    (read_at fan i j d l) (read_at fan i k g l) c ∙ sym is
+edge_read fan ids i e j k cell d g l c is = grind (arith, edge_same, read_at)
 
 pub record IsPushed (xs ys : List Edge) (a b c : Edge) : Type 0 where
   pub one : List Edge
@@ -218,10 +207,7 @@ pushed_length xs news a b c p =
 
 pub edge_from : (fan : List Facet) (ids : List ℕ) (edges : List Edge) → AreFanEdges fan ids edges (length fan) → (m : ℕ)
     → m < length edges → edge_at edges m ≡ edge_of fan ids (m / 3) (m % 3)
-edge_from fan ids edges h m l =
-    let n = h.count in
-    let e : 3 * (m / 3) + m % 3 ≡ m = omega arith in
-    subst (λ (z : ℕ). edge_at edges z ≡ edge_of fan ids (m / 3) (m % 3)) e (h.at (m / 3) (m % 3) (omega arith) (omega arith))
+edge_from fan ids edges h m l = grind arith
 
 pub fan_from : (fan : List Facet) (ids : List ℕ) (edges : List Edge) → AreFanEdges fan ids edges (length fan) → (x : Edge)
     → Contains edges x → IsFanEdge fan ids x
@@ -256,15 +242,7 @@ abbrev pub same_place : Edge → Edge → Bool
 same_place x y = (x.cell == y.cell) && (x.side == y.side)
 
 pub same_place_flips : (x y : Edge) → same_place x y ≡ same_place y x
-same_place_flips x y =
-    ap (λ (b : Bool). b && (x.side == y.side)) (eqb_flips x.cell y.cell)
-    ∙ ap (λ (b : Bool). (y.cell == x.cell) && b) (eqb_flips x.side y.side)
-  where
-    eqb_flips : (a b : ℕ) → (a == b) ≡ (b == a)
-    eqb_flips a b = elim (cases_eq a b) [
-      | inl e ↦ ap (λ (z : ℕ). a == z) (sym e) ∙ ap (λ (z : ℕ). z == a) e
-      | inr n ↦ ne_eqb a b n ∙ sym (ne_eqb b a (λ e. n (sym e)))
-    ]
+same_place_flips x y = grind (arith, ne_eqb)
 
 pub fan_distinct : (fan : List Facet) (ids : List ℕ) (edges : List Edge) → AreFanEdges fan ids edges (length fan)
     → ((i j : ℕ) → i < length fan → j < length fan → slice_index ids i ≡ slice_index ids j → i ≡ j)
@@ -288,10 +266,4 @@ fan_distinct fan ids edges h one =
 -- two edges with one key have the same ends, in one order or the other
 pub ends_of : (s e t f : ℕ) → s < 2 ^ 32 → e < 2 ^ 32 → t < 2 ^ 32 → f < 2 ^ 32
     → edge_key (min s e) (max s e) ≡ edge_key (min t f) (max t f) → ((s ≡ t) × (e ≡ f)) ⊎ ((t ≡ e) × (f ≡ s))
-ends_of s e t f ls le lt lf h =
-    let low : min s e ≡ min t f = omega arith in
-    let high : max s e ≡ max t f = omega arith in
-    elim (cases_eq s t) [
-      | inl a ↦ inl (a, omega arith)
-      | inr n ↦ inr (omega arith, omega arith)
-    ]
+ends_of s e t f ls le lt lf h = grind arith

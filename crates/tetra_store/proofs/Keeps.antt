@@ -8,11 +8,11 @@ use Rattle.std.proofs.Math.ListN.{set, length-set}
 use Rattle.std.specs.List.{Contains}
 use Rattle.std.proofs.lemmas.Bool.{cases_eq, cases_lt, eqb-true, eq-eqb}
 use Rattle.std.proofs.lemmas.List.{get_or_default, get_or-set_same, get_or-set_other}
-use Rattle.geo_sign.specs.Tetrahedron.{tetrahedron, vertex_of}
+use Rattle.geo_sign.specs.Tetrahedron.{vertex_of}
 use Rattle.tetra_store.specs.declared.link.Cell.{Cell}
 use Rattle.tetra_store.specs.declared.fan.Facet.{Facet}
 use Rattle.geo_sign.specs.Writings.{IsVertexOf}
-use Rattle.tetra_store.specs.Links.{Links, slot_at, links_of, vertices_in, tetrahedron_from}
+use Rattle.tetra_store.specs.Links.{Links, slot_at, links_of, tetrahedron_from}
 use Rattle.geo_sign.specs.Edges.{over}
 use Rattle.tetra_store.specs.Fan.{fan_facet, no_facet}
 use Rattle.tetra_store.proofs.Facets.{at_place}
@@ -34,13 +34,7 @@ pub over_read : (fan : List Facet) (i p : ℕ) (d e f : Facet) → i < length fa
     → tetrahedron_from
     (slice_index (slice_index_or fan i d).v 0 ∷ slice_index (slice_index_or fan i e).v 1
     ∷ slice_index (slice_index_or fan i f).v 2 ∷ p ∷ []) ≡ over (fan_facet fan i) p
-over_read fan i p d e f l =
-    ap (λ (z : ℕ). tetrahedron z (slice_index (slice_index_or fan i e).v 1) (slice_index (slice_index_or fan i f).v 2) p)
-    (read_at fan i 0 d l)
-    ∙ (ap (λ (z : ℕ). tetrahedron (slice_index (slice_index_or fan i no_facet).v 0) z (slice_index (slice_index_or fan i f).v 2)
-    p) (read_at fan i 1 e l)
-    ∙ ap (λ (z : ℕ). tetrahedron (slice_index (slice_index_or fan i no_facet).v 0)
-    (slice_index (slice_index_or fan i no_facet).v 1) z p) (read_at fan i 2 f l))
+over_read fan i p d e f l = grind (arith, read_at)
 
 carried : (mid new : List ℕ) (fan : List Facet) (ids : List ℕ) (p i u : ℕ) → i < length fan
     → (slice_index new u ≡ slice_index mid u)
@@ -81,9 +75,7 @@ AreKeptNew_keep old mid new fan ids p i h l at = record {
 -- the vertices that are read of a cell
 pub cell_vertices : (slots : List (Option Cell)) (id : ℕ) (c : Cell) (v : List ℕ) → slot_at slots id ≡ Some c → v ≡ c.v
     → (k : ℕ) → k < 4 → vertex_of ((links_of slots).at id) k ≡ slice_index v k
-cell_vertices slots id c v e d k l =
-    ap (λ (o : Option Cell). vertex_of (vertices_in o) k) e
-    ∙ (ap (λ (xs : List ℕ). vertex_of (tetrahedron_from xs) k) (sym d) ∙ vertex_index v k l)
+cell_vertices slots id c v e d k l = grind (arith, vertex_index)
 
 -- a vertex that still keeps the cell kept it
 pub was_kept : (links : Links) (old kept new : List ℕ) (u id : ℕ)
@@ -94,14 +86,7 @@ was_kept links old kept new u id (inr o) h is = absurd (o.outside (subst (λ (z 
 
 pub mended_skip : (links : Links) (old kept mid : List ℕ) (id k : ℕ) → IsMendedAt links old kept mid id k
     → slice_index mid (vertex_of (links.at id) k) ≢ id → IsMendedAt links old kept mid id (k + 1)
-mended_skip links old kept mid id k h not = record {
-  count = h.count;
-  each = h.each;
-  done = λ j l m. elim (cases_lt j k) [
-    | inl less ↦ h.done j less m
-    | inr more ↦ let s : k ≡ j = omega arith in subst (λ (t : ℕ). slice_index mid (vertex_of (links.at id) t) ≢ id) s not
-  ];
-}
+mended_skip links old kept mid id k h not = grind arith
 
 -- what is written, and what is not
 pub written_cases : (mid : List ℕ) (u w x : ℕ) → u < length mid
@@ -142,7 +127,4 @@ keeps_it kept u d x id l s e = get_or_default kept u 0 d l ∙ (sym s ∙ eqb-tr
 
 pub keeps_other : (kept : List ℕ) (u d x id : ℕ) → u < length kept → x ≡ slice_index_or kept u d → false ≡ eqb x id
     → slice_index kept u ≢ id
-keeps_other kept u d x id l s e same =
-    let yes : eqb x id ≡ true = eq-eqb x id (s ∙ (get_or_default kept u d 0 l ∙ same)) in
-    let no : false ≡ true = e ∙ yes in
-    cc
+keeps_other kept u d x id l s e same = grind (arith, eq-eqb x id (s ∙ (get_or_default kept u d 0 l ∙ same)))

@@ -31,11 +31,7 @@ some_is h = cc
 -- ---- places
 -- a number that is there and not free has a place
 pub placed_or : (places : List (Option ℕ)) (x : ℕ) → ¬ (slice_index_or places x None ≡ None) → HasPlace places x
-placed_or places x h = by (slice_index_or places x None) refl
-  where
-    by : (o : Option ℕ) → slice_index_or places x None ≡ o → HasPlace places x
-    by None e = absurd (h e)
-    by (Some n) e = (n, e)
+placed_or places x h = grind arith
 
 module _ (links : Links) (places : List (Option ℕ)) (from : List ℕ) (at : ℕ) (h : AreAssigned links places from)
     (within : at < length places) (free : slice_index_or places at None ≡ None) (live : IsLive links at)
@@ -89,16 +85,7 @@ moved_within slots n id c h e k y l i = h id k y (ap is_some e) l (ap (λ (o : O
 pub moved_more : (old slots new : List (Option Cell)) (places : List (Option ℕ)) (from : List ℕ) (at : ℕ) (c : Cell)
     → AreMoved old slots places from at → slot_at old (slice_index from at) ≡ Some c → slot_at new at ≡ Some (moved places c)
     → ((x : ℕ) → x ≢ at → slot_at new x ≡ slot_at slots x) → AreMoved old new places from (at + 1)
-moved_more old slots new places from at c h is here others = record {
-  done = λ k l. elim (cases_lt k at) [
-    | inl less ↦ others k (λ e. omega (arith, less, e)) ∙ h.done k less
-    | inr more ↦
-        let e : at ≡ k = omega (arith, l, more) in
-        subst (λ (j : ℕ). slot_at new j ≡ moved_slot places (slot_at old (slice_index from j))) e
-        (here ∙ ap (moved_slot places) (sym is))
-  ];
-  left = λ k l. others k (λ e. omega (arith, l, e)) ∙ h.left k (omega (arith, l));
-}
+moved_more old slots new places from at c h is here others = grind arith
 
 moved_next : (places : List (Option ℕ)) (o : Option Cell) (k : ℕ) → k < 4
     → next_in (moved_slot places o) k ≡ across_by places (next_in o k)

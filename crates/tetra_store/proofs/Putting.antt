@@ -28,10 +28,7 @@ pushed_cases ids key i l =
 
 put_apart : (old mid : List (Option Cell)) (cell : ℕ → Cell) (ids : List ℕ) (key i : ℕ) → ArePut old mid cell ids
     → slot_at mid key ≡ None → i < length ids → slice_index ids i ≢ key
-put_apart old mid cell ids key i put vacant l e =
-    let is = put.put i l in
-    let h : slot_at mid key ≡ Some (cell i) = subst (λ (x : ℕ). slot_at mid x ≡ Some (cell i)) e is in
-    cc
+put_apart old mid cell ids key i put vacant l e = grind arith
 
 pub ArePut_put : (old mid new : List (Option Cell)) (cell : ℕ → Cell) (ids : List ℕ) (key : ℕ) → ArePut old mid cell ids
     → slot_at mid key ≡ None → slot_at new key ≡ Some (cell (length ids))
@@ -85,28 +82,11 @@ ArePut_put old mid new cell ids key put vacant here others small = record {
 
 pub AreNamed_skip : (a m : Links) (fan : List Facet) (ids : List ℕ) (i : ℕ) → AreNamed a m fan ids i → fan_outer fan i ≡ None
     → AreNamed a m fan ids (i + 1)
-AreNamed_skip a m fan ids i h none = record {
-  live = h.live;
-  same = h.same;
-  named = λ j y l e. elim (cases_lt j i) [
-    | inl less ↦ h.named j y less e
-    | inr more ↦
-        let s : j ≡ i = omega arith in
-        let e' = subst (λ (t : ℕ). fan_outer fan t ≡ Some y) s e in
-        absurd cc
-  ];
-  kept = h.kept;
-}
+AreNamed_skip a m fan ids i h none = grind arith
 
 -- a side is the one that is written, or it is not
 pub here_or_not : (x k y t : ℕ) → ((x ≡ y) × (k ≡ t)) ⊎ ((x ≢ y) ⊎ (k ≢ t))
-here_or_not x k y t = elim (cases_eq x y) [
-  | inr n ↦ inr (inl n)
-  | inl e ↦ elim (cases_eq k t) [
-    | inr n ↦ inr (inr n)
-    | inl d ↦ inl (e, d)
-  ]
-]
+here_or_not x k y t = grind arith
 
 module _ (a m b : Links) (fan : List Facet) (ids : List ℕ) (i y : ℕ) (h : AreNamed a m fan ids i) (l : i < length fan)
     (is : fan_outer fan i ≡ Some y)

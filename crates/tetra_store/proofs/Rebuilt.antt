@@ -1,6 +1,6 @@
 -- Links are kept where cells are taken out and cells over their rim are put in.
-use Rattle.std.proofs.Common.{ℕ, zero, suc, ◌≡◌, ◌≢◌, ◌<◌, ◌≤◌, ◌<ℤ◌, pos, Bool, List, [], ◌∷◌, length, Some, refl, sym, ◌∙◌}
-use Rattle.std.proofs.Common.{◌⊎◌, inl, inr, subst, arith, slice_index}
+use Rattle.std.proofs.Common.{ℕ, zero, suc, ◌≡◌, ◌≢◌, ◌<◌, ◌≤◌, ◌<ℤ◌, pos, Bool, List, [], ◌∷◌, length, Some, sym, ◌⊎◌, inl}
+use Rattle.std.proofs.Common.{inr, subst, arith, slice_index}
 use Rattle.std.specs.List.{Contains}
 use Rattle.std.proofs.lemmas.Bool.{cases_eq}
 use Rattle.geo_sign.specs.declared.point.TheConstants.{CORNERS}
@@ -45,41 +45,14 @@ pub record IsRebuilding (points : List Point) (flags flags' : List Bool) (a b : 
 
 pub wall_rotated : (v : Vertices) (f g : geo.DirectedFacet) → IsRotated f g → IsWall v f → IsWall v g
 wall_rotated v f g (inl e) w = subst (λ (t : geo.DirectedFacet). IsWall v t) (sym e) w
-wall_rotated v f g (inr (inl e)) w = subst (λ (t : geo.DirectedFacet). IsWall v t) (sym e) (around w.agree)
-  where
-    around : (((v.at f.a).x ≡ (v.at f.b).x) × ((v.at f.a).x ≡ (v.at f.c).x))
-        ⊎ ((((v.at f.a).y ≡ (v.at f.b).y) × ((v.at f.a).y ≡ (v.at f.c).y))
-        ⊎ (((v.at f.a).z ≡ (v.at f.b).z) × ((v.at f.a).z ≡ (v.at f.c).z))) → IsWall v (facet f.b f.c f.a)
-    around (inl h) = record { first = w.second; second = w.third; third = w.first; agree = inl (sym h.0 ∙ h.1, sym h.0) }
-    around (inr (inl h)) =
-        record { first = w.second; second = w.third; third = w.first; agree = inr (inl (sym h.0 ∙ h.1, sym h.0)) }
-    around (inr (inr h)) =
-        record { first = w.second; second = w.third; third = w.first; agree = inr (inr (sym h.0 ∙ h.1, sym h.0)) }
-wall_rotated v f g (inr (inr e)) w = subst (λ (t : geo.DirectedFacet). IsWall v t) (sym e) (around w.agree)
-  where
-    around : (((v.at f.a).x ≡ (v.at f.b).x) × ((v.at f.a).x ≡ (v.at f.c).x))
-        ⊎ ((((v.at f.a).y ≡ (v.at f.b).y) × ((v.at f.a).y ≡ (v.at f.c).y))
-        ⊎ (((v.at f.a).z ≡ (v.at f.b).z) × ((v.at f.a).z ≡ (v.at f.c).z))) → IsWall v (facet f.c f.a f.b)
-    around (inl h) = record { first = w.third; second = w.first; third = w.second; agree = inl (sym h.1, sym h.1 ∙ h.0) }
-    around (inr (inl h)) =
-        record { first = w.third; second = w.first; third = w.second; agree = inr (inl (sym h.1, sym h.1 ∙ h.0)) }
-    around (inr (inr h)) =
-        record { first = w.third; second = w.first; third = w.second; agree = inr (inr (sym h.1, sym h.1 ∙ h.0)) }
+wall_rotated v f g (inr (inl e)) w = grind arith
+wall_rotated v f g (inr (inr e)) w = grind arith
 
 pub wall_back : (v : Vertices) (f : geo.DirectedFacet) → IsWall v f → IsWall v (facet f.a f.c f.b)
-wall_back v f w = around w.agree
-  where
-    around : (((v.at f.a).x ≡ (v.at f.b).x) × ((v.at f.a).x ≡ (v.at f.c).x))
-        ⊎ ((((v.at f.a).y ≡ (v.at f.b).y) × ((v.at f.a).y ≡ (v.at f.c).y))
-        ⊎ (((v.at f.a).z ≡ (v.at f.b).z) × ((v.at f.a).z ≡ (v.at f.c).z))) → IsWall v (facet f.a f.c f.b)
-    around (inl h) = record { first = w.first; second = w.third; third = w.second; agree = inl (h.1, h.0) }
-    around (inr (inl h)) = record { first = w.first; second = w.third; third = w.second; agree = inr (inl (h.1, h.0)) }
-    around (inr (inr h)) = record { first = w.first; second = w.third; third = w.second; agree = inr (inr (h.1, h.0)) }
+wall_back v f w = grind arith
 
 pub wall_turned : (v : Vertices) (f g : geo.DirectedFacet) → IsTurned f g → IsWall v f → IsWall v g
-wall_turned v f g t w =
-    let b : geo.DirectedFacet = facet f.a f.c f.b in
-    wall_rotated v b g (turned_turned b f g (turned_back f b (inl refl)) t) (wall_back v f w)
+wall_turned v f g t w = grind (arith, wall_rotated, turned_turned, turned_back, wall_back)
 
 pub wall_below : (v : Vertices) (f : geo.DirectedFacet) (u : ℕ) → IsWall v f → HasVertex f u → u < CORNERS
 wall_below v f u w (inl e) = let h = w.first in omega arith

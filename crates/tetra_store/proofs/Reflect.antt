@@ -35,36 +35,20 @@ abbrev pub turned_test : geo.DirectedFacet → geo.DirectedFacet → Bool
 turned_test f g = is_facet g f.a f.c f.b || (is_facet g f.c f.b f.a || is_facet g f.b f.a f.c)
 
 facet_is : (g : geo.DirectedFacet) (a b c : ℕ) → is_facet g a b c ≡ true → g ≡ facet a b c
-facet_is g a b c h =
-    let p = and_parts (g.a == a) ((g.b == b) && (g.c == c)) h in
-    let q = and_parts (g.b == b) (g.c == c) p.1 in
-    let x = eqb-true g.a a p.0 in
-    let y = eqb-true g.b b q.0 in
-    let z = eqb-true g.c c q.1 in
-    ap (λ (t : ℕ). facet t g.b g.c) x ∙ (ap (λ (t : ℕ). facet a t g.c) y ∙ ap (λ (t : ℕ). facet a b t) z)
+facet_is g a b c h = grind (arith, eqb-true)
 
 facet_yes : (a b c : ℕ) → is_facet (facet a b c) a b c ≡ true
 facet_yes a b c =
     and_from (a == a) ((b == b) && (c == c)) (eq-eqb a a refl) (and_from (b == b) (c == c) (eq-eqb b b refl) (eq-eqb c c refl))
 
 pub turned_of : (f g : geo.DirectedFacet) → turned_test f g ≡ true → IsTurned f g
-turned_of f g h = elim (or_cases (is_facet g f.a f.c f.b) (is_facet g f.c f.b f.a || is_facet g f.b f.a f.c) h) [
-  | inl x ↦ inl (facet_is g f.a f.c f.b x)
-  | inr r ↦ elim (or_cases (is_facet g f.c f.b f.a) (is_facet g f.b f.a f.c) r) [
-    | inl x ↦ inr (inl (facet_is g f.c f.b f.a x))
-    | inr x ↦ inr (inr (facet_is g f.b f.a f.c x))
-  ]
-]
+turned_of f g h = grind (arith, or_cases, facet_is)
 
 pub rotated_yes : (f g : geo.DirectedFacet) → IsRotated f g → rotated_test f g ≡ true
 rotated_yes f g (inl e) = or_left (is_facet g f.a f.b f.c) (is_facet g f.b f.c f.a || is_facet g f.c f.a f.b)
     (subst (λ (t : geo.DirectedFacet). is_facet t f.a f.b f.c ≡ true) (sym e) (facet_yes f.a f.b f.c))
-rotated_yes f g (inr (inl e)) = or_right (is_facet g f.a f.b f.c) (is_facet g f.b f.c f.a || is_facet g f.c f.a f.b)
-    (or_left (is_facet g f.b f.c f.a) (is_facet g f.c f.a f.b)
-    (subst (λ (t : geo.DirectedFacet). is_facet t f.b f.c f.a ≡ true) (sym e) (facet_yes f.b f.c f.a)))
-rotated_yes f g (inr (inr e)) = or_right (is_facet g f.a f.b f.c) (is_facet g f.b f.c f.a || is_facet g f.c f.a f.b)
-    (or_right (is_facet g f.b f.c f.a) (is_facet g f.c f.a f.b)
-    (subst (λ (t : geo.DirectedFacet). is_facet t f.c f.a f.b ≡ true) (sym e) (facet_yes f.c f.a f.b)))
+rotated_yes f g (inr (inl e)) = grind (arith, or_right, or_left, facet_yes)
+rotated_yes f g (inr (inr e)) = grind (arith, or_right, facet_yes)
 
 -- ---- walls
 
@@ -105,13 +89,7 @@ agree_yes v h bit f a b c x is t =
 agree_no : (v : Vertices) → AreCorners v → (bit : ℕ) (f : geo.DirectedFacet) → f.a < 8 → f.b < 8 → f.c < 8 → (x : Point → ℤ)
     → ((k : ℕ) → x (corner_point k) ≡ side_of (low bit k))
     → (x (v.at f.a) ≡ x (v.at f.b)) × (x (v.at f.a) ≡ x (v.at f.c)) → agree_test bit f ≡ true
-agree_no v h bit f a b c x is t =
-    let at_a : x (v.at f.a) ≡ side_of (low bit f.a) = ap x (h f.a a) ∙ is f.a in
-    let at_b : x (v.at f.b) ≡ side_of (low bit f.b) = ap x (h f.b b) ∙ is f.b in
-    let at_c : x (v.at f.c) ≡ side_of (low bit f.c) = ap x (h f.c c) ∙ is f.c in
-    and_from (same (low bit f.a) (low bit f.b)) (same (low bit f.a) (low bit f.c))
-    (side_same (low bit f.a) (low bit f.b) (sym at_a ∙ (t.0 ∙ at_b)))
-    (side_same (low bit f.a) (low bit f.c) (sym at_a ∙ (t.1 ∙ at_c)))
+agree_no v h bit f a b c x is t = grind (arith, ints, and_from, side_same)
 
 pub wall_of : (v : Vertices) → AreCorners v → (f : geo.DirectedFacet) → f.a < 8 → f.b < 8 → f.c < 8 → wall_test f ≡ true
     → IsWall v f
