@@ -10,7 +10,7 @@ use Rattle.cert_text.specs.Texts.{cert_text}
 use Rattle.flow_net.specs.declared.votes.Settings.{Settings}
 use Rattle.geo_sign.proofs.Booleans.{same_bools}
 use Rattle.geo_sign.specs.Point.{Point, origin}
-use Rattle.host.specs.State.{Files, Told}
+use Rattle.host.specs.State.{Told}
 use Rattle.recon_check.proofs.Uniqueness.{one_claim}
 use Rattle.recon_check.specs.Answers.{IsSolved}
 use Rattle.scan.specs.Shown.{Shown}
@@ -48,10 +48,7 @@ record Answered (names : QueryNames) (options : Options) (bytes queries : List �
 written : (output : List ℕ) (options : Options) (scan : Shown) (points : List Point) (answer : Answer) (told new : Told)
     → (labels : WritesLabels output options scan points answer) → new.files ≡ all_written answer.writes told.files
     → new.files output ≡ Some (labels_text labels.labels)
-written output options scan points answer told new labels files =
-    ap (λ (f : Files). f output) files
-    ∙ (ap (λ (a : Answer). all_written a.writes told.files output) labels.is
-    ∙ file_here output (labels_text labels.labels) told.files)
+written output options scan points answer told new labels files = grind (arith, file_here)
 
 answered : (names : QueryNames) (options : Options) (bytes queries : List ℕ) (told new : Told)
     → told.files names.input ≡ Some bytes → told.files names.points ≡ Some queries

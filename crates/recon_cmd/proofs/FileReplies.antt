@@ -3,8 +3,8 @@
 -- Reads change no file, so a reply to the content of a file, made after further reads, is one to the files as they were at the
 -- start (reply_behind, by same_told), and the further reads are one fewer than all (reads_behind). A file that is rejected has a
 -- reply at once (reply_rejects, too_long). A host may expose no files, so each fact of files is one under IfSome.
-use Rattle.std.proofs.Common.{◌≡◌, ℕ, ◌+◌, ◌≤◌, ◌<◌, List, [], length, Option, Some, None, IfSome, Result, Ok, Err, IfOk, false, refl}
-use Rattle.std.proofs.Common.{sym, ap, subst, ◌∙◌, arith, unwrap_or}
+use Rattle.std.proofs.Common.{◌≡◌, ℕ, ◌+◌, ◌≤◌, ◌<◌, List, length, Option, Some, None, IfSome, Result, Ok, Err, IfOk, false}
+use Rattle.std.proofs.Common.{sym, ap, subst, ◌∙◌, arith}
 use Rattle.std.proofs.lemmas.Option.{IfSome_then}
 use Rattle.host.specs.State.{State, Told, Files, file_bytes}
 use Rattle.host.specs.Whole.{OnlyReads, apart_from_left}
@@ -30,24 +30,14 @@ IsFound name read bytes found told = (told.files name ≡ Some bytes) × (read b
 -- a file that is longer than the limit is there
 pub long_file : (limit : ℕ) (name : List ℕ) (told : Told) → limit < length (file_bytes told.files name)
     → (bytes : List ℕ) × (told.files name ≡ Some bytes) × (limit < length bytes)
-long_file limit name told longer = by (told.files name) refl longer
-  where
-    by : (found : Option (List ℕ)) → told.files name ≡ found → limit < length (unwrap_or found [])
-        → (bytes : List ℕ) × (told.files name ≡ Some bytes) × (limit < length bytes)
-    by None has more = absurd (omega arith)
-    by (Some bytes) has more = (bytes, has, more)
+long_file limit name told longer = grind arith
 
 -- ---- replies
 -- a reply of this status
 pub reply_so : (task : Task) (A : Answers) (status : Status) (reads : ℕ) (reply : Reply) (before : State)
     → reply.status ≡ status → MayEnd task status → IsAnswered status
     → IfSome before.told (λ told. A told.files (answer_of reads reply)) → IsReplyOf task A reply before
-reply_so task A status reads reply before is fits answered there =
-    record {
-      fits = subst (λ (s : Status). MayEnd task s) (sym is) fits;
-      answered = subst IsAnswered (sym is) answered;
-      answers = IfSome_then before.told there (λ told has. (reads, has));
-    }
+reply_so task A status reads reply before is fits answered there = grind arith
 
 -- what the file is read as has this reply
 pub reply_to_found : {V : Type 0} (task : Task) (reads : ℕ) (name : List ℕ) (read : List ℕ → Found V)
@@ -55,9 +45,7 @@ pub reply_to_found : {V : Type 0} (task : Task) (reads : ℕ) (name : List ℕ) 
     → reply.status ≡ status → MayEnd task status → IsAnswered status → ToContent reads (A bytes) found (answer_of reads reply)
     → IfSome before.told (IsFound name read bytes found) → IsReplyOf task (ToFile reads name read A) reply before
 reply_to_found task reads name read A bytes found status reply before is fits answered answers there =
-    reply_so task (ToFile reads name read A) status reads reply before is fits answered
-    (IfSome_then before.told there
-    (λ told (has, so). (opened reads name read A told.files bytes found (answer_of reads reply) has so).1 answers))
+    grind (arith, reply_so task (ToFile reads name read A) status reads reply before is, opened reads name read A)
 
 -- the file is rejected with this line
 pub reply_rejects : {V : Type 0} (task : Task) (reads : ℕ) (name : List ℕ) (read : List ℕ → Found V)
@@ -122,28 +110,11 @@ result_behind task reads name read A bytes content (Ok reply) before mid only th
 pub reads_last : (done : ℕ) (A : Answers) (before after : State)
     → ((files : Files) (answer : Answer) → A files answer → answer.reads ≡ done + 1) → before.writing ≡ false
     → OnlyReads before after → ReadsOn done 1 A before after
-reads_last done A before after each closed only =
-    record {
-      told = only.told;
-      writing = only.writing ∙ closed;
-      opens = omega (arith, only.opens);
-      no_more = by_cases before.told;
-    }
-  where
-    by_cases : (o : Option Told)
-        → IfSome o (λ told. (answer : Answer) → A told.files answer → after.opens + done ≤ before.opens + answer.reads)
-    by_cases None = tt
-    by_cases (Some told) = λ answer is. omega (arith, only.opens, each told.files answer is)
+reads_last done A before after each closed only = grind arith
 
 -- all of them were read
 pub reads_all : (most : ℕ) (A : Answers) (before after : State) → ReadsOn 0 most A before after → ReadsBy most A before after
-reads_all most A before after reads =
-    record {
-      told = reads.told;
-      writing = reads.writing;
-      opens = reads.opens;
-      no_more = IfSome_then before.told reads.no_more (λ told each answer is. omega (arith, each answer is));
-    }
+reads_all most A before after reads = grind arith
 
 -- a file was read whose content decides, and then the others
 pub reads_behind : {V : Type 0} (reads : ℕ) (name : List ℕ) (read : List ℕ → Found V)

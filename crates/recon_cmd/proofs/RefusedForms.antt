@@ -1,16 +1,14 @@
 -- A mesh or a scan whose surfaces were handed to the forms was not refused, and a run that ends with the code of a refusal refused.
-use Rattle.std.proofs.Common.{◌≡◌, refl, arith, inl, inr, List, length, ℕ}
-use Rattle.std.specs.List.{zip}
+use Rattle.std.proofs.Common.{◌≡◌, refl, arith, inl, inr, List, ℕ}
 use Rattle.host.specs.State.{State}
 use Rattle.mesh_form.specs.Received.{Received}
 use Rattle.mesh_ply.specs.Meshes.{Surface}
 use Rattle.scan.specs.Shown.{Shown}
 use Rattle.command_run.specs.Status.{code_of}
-use Rattle.command_run.specs.Steps.{CarriesOut}
 use Rattle.command_run.specs.declared.status.Status.{Status}
 use Rattle.command_run.specs.declared.status.Status.TheVariants.{Done, No, BadArguments, Refused, Failed, NoMemory}
 use Rattle.recon_cmd.specs.Export.{FormsHandOut}
-use Rattle.recon_cmd.specs.Sweep.{SweepAsked, SweepHandOut, sweep_line}
+use Rattle.recon_cmd.specs.Sweep.{SweepAsked, SweepHandOut}
 
 -- the code of a status is that of a refusal
 pub refused_by_code : (status : Status) → code_of status ≡ code_of Refused → status ≡ Refused
@@ -31,9 +29,4 @@ handed_not_refused outputs mesh status before after new texts (inr (all, inr (is
 pub surfaces_not_refused : (asked : SweepAsked) (scan : Shown) (status : Status) (before after : State) (new : List Received)
     (texts : List (List ℕ)) → SweepHandOut asked scan status before after new texts → status ≡ Refused → ⊥
 surfaces_not_refused asked scan status before after new texts (inl (is, fronts, still)) e = absurd (cc (is, e))
-surfaces_not_refused asked scan status before after new texts (inr carries) e = by carries.carried
-  where
-    by : CarriesOut (zip asked.outputs texts) (sweep_line (length asked.outputs) carries.first carries.last) Done status before
-        after → ⊥
-    by (inl (is, whole)) = absurd (cc (is, e))
-    by (inr (is, stopped)) = absurd (cc (is, e))
+surfaces_not_refused asked scan status before after new texts (inr carries) e = grind arith

@@ -125,9 +125,7 @@ module _ (asked : SweepAsked) (names : SurfaceNames) (scan : Shown) (bytes : Lis
 writes_of : (asked : SweepAsked) (k : ℕ) (names : SurfaceNames) (files : Files) (built : Answer) (bytes : List ℕ)
     (scan : Shown) → files asked.input ≡ Some bytes → scan_within file_limit asked.options bytes ≡ Ok scan
     → Builds asked k names files built → WritesSurface names (entry_options asked k) bytes scan built
-writes_of asked k names files built bytes scan has so builds =
-    scan_opened names.input (entry_options asked k) (WritesSurface names (entry_options asked k)) files bytes scan built
-    (ap files builds.input ∙ has) so builds.answers
+writes_of asked k names files built bytes scan has so builds = grind (arith, scan_opened)
 
 pub entries_are_built : EntriesAreBuilt
 entries_are_built = λ asked forms texts files answer answers done.

@@ -3,25 +3,21 @@
 -- Both commands are told by the first word, so words of one are none of the other (no_sweep, no_export). The code looks at
 -- the words behind the first in order: they are too few (too_few), or a scan and three numbers, and what the words behind these ask
 -- for (sweep_at).
-use Rattle.std.proofs.Common.{◌≡◌, ℕ, ◌-◌, ◌<◌, ◌≤◌, ◌==◌, Bool, true, false, cond, List, [], ◌∷◌, Option, Some, None, codes, length, map}
-use Rattle.std.proofs.Common.{take, drop, get_or, refl, sym, ap, subst, ◌∙◌, arith, eq-eqb, ne_eqb, nat_le, leb-true, ◌&&◌}
+use Rattle.std.proofs.Common.{◌≡◌, ℕ, ◌-◌, ◌<◌, ◌≤◌, ◌==◌, Bool, true, false, cond, List, [], ◌∷◌, Option, Some, None, codes}
+use Rattle.std.proofs.Common.{length, map, take, drop, get_or, refl, sym, ap, subst, ◌∙◌, arith, eq-eqb, ne_eqb, leb-true}
 use Rattle.std.specs.Str.{bytes_eq}
 use Rattle.std.proofs.lemmas.List.{take_rest}
 use Rattle.flow_net.specs.declared.votes.TheConstants.{WEIGHT_LIMIT}
 use Rattle.ply_head.specs.Optional.{◌>>=◌}
-use Rattle.recon_cmd.specs.Export.{export_behind, export_of}
-use Rattle.recon_cmd.specs.Options.{number_between, number_of_digits, within}
+use Rattle.recon_cmd.specs.Export.{export_of}
+use Rattle.recon_cmd.specs.Options.{number_between}
 use Rattle.recon_cmd.specs.Sweep.{SweepAsked, entries_behind, entries_of, sweep_behind, sweep_of, sweep_words_of}
 use Rattle.recon_cmd.proofs.WordLemmas.{same_name}
 
 -- words of which the first is not `sweep` ask for no sweep
 pub no_sweep : (words : List (List ℕ)) (n : ℕ) → entries_of words ≡ None → sweep_of n words ≡ None
 no_sweep [] n e = refl
-no_sweep (word ∷ words) n e = by (bytes_eq word (codes "sweep")) _ e
-  where
-    by : (t : Bool) (o : Option SweepAsked) → cond t (Some (entries_behind words)) None ≡ None → cond t o None ≡ None
-    by true o e = cc
-    by false o e = refl
+no_sweep (word ∷ words) n e = grind arith
 
 -- words of which the first is `sweep` ask for no export
 pub no_export : (words : List (List ℕ)) (n m : ℕ) → entries_of words ≡ Some m → export_of n words ≡ None
@@ -36,33 +32,12 @@ no_export (word ∷ words) n m e = by (bytes_eq word (codes "sweep")) refl e
 -- where there is no form, no words ask for an export
 pub no_form_export : (words : List (List ℕ)) → export_of 0 words ≡ None
 no_form_export [] = refl
-no_form_export (word ∷ []) = by (bytes_eq word (codes "export"))
-  where
-    by : (t : Bool) → cond t (export_behind 0 []) None ≡ None
-    by true = refl
-    by false = refl
-no_form_export (word ∷ mesh ∷ outputs) = by (bytes_eq word (codes "export"))
-  where
-    by : (t : Bool) → cond t (export_behind 0 (mesh ∷ outputs)) None ≡ None
-    by true = refl
-    by false = refl
+no_form_export (word ∷ []) = grind arith
+no_form_export (word ∷ mesh ∷ outputs) = grind arith
 
 -- a number from 1 on is not 0
 not_none : (text : List ℕ) (asked : Option SweepAsked) → (number_between 1 64 text >>= λ (k : ℕ). cond (k == 0) asked None) ≡ None
-not_none text asked = by (number_of_digits 10 text)
-  where
-    by_limits : (n : ℕ) (t : Bool) → nat_le 1 n ≡ t
-        → (cond (t && nat_le n 64) (Some n) None >>= λ (k : ℕ). cond (k == 0) asked None) ≡ None
-    by_limits n false is = refl
-    by_limits n true is = by_most (nat_le n 64)
-      where
-        by_most : (m : Bool) → (cond m (Some n) None >>= λ (k : ℕ). cond (k == 0) asked None) ≡ None
-        by_most true = ap (λ (b : Bool). cond b asked None) (ne_eqb n 0 (λ e. omega (arith, leb-true 1 n is, e)))
-        by_most false = refl
-
-    by : (o : Option ℕ) → ((o >>= within 1 64) >>= λ (k : ℕ). cond (k == 0) asked None) ≡ None
-    by None = refl
-    by (Some n) = by_limits n (nat_le 1 n) refl
+not_none text asked = grind (arith, ne_eqb, leb-true)
 
 -- nor for a sweep
 pub no_form_sweep : (words : List (List ℕ)) → sweep_of 0 words ≡ None
