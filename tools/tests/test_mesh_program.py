@@ -60,6 +60,8 @@ def two_cubes(by: Sequence[int]) -> tuple[list[tuple[int, ...]], list[tuple[int,
 
 
 NO_PAIR = 'crossing_pairs 0 undecided_pairs 0'
+TWO = (POINTS + moved(POINTS, (10, 20, 30)), FACES + [(a + 4, b + 4, c + 4) for a, b, c in FACES])
+SMOOTHED = [tuple(1024 * x for x in place) for place in POINTS]
 
 # points, faces, whether closed, non-manifold edges and vertices, pieces, faces without area, pairs that cross, and six times the volume;
 # faces without area are undecided
@@ -77,10 +79,35 @@ INSPECTED: list[tuple[Any, Any, str, int, int, int, int, str, int]] = [
     (*two_cubes((1, 1, 0)), 'yes', 1, 2, 1, 0, NO_PAIR, 12),
     ([(0, 0, 0), (1, 1, 1), (3, 3, 3), (0, 0, 0)], [(0, 1, 2), (0, 2, 1), (0, 3, 1), (0, 1, 3)], 'yes', 1, 2, 1, 4,
      'crossing_pairs 0 undecided_pairs 4', 0),
-    (POINTS + moved(POINTS, (10, 20, 30)), FACES + [(a + 4, b + 4, c + 4) for a, b, c in FACES], 'yes', 0, 0, 2, 0,
-     'crossing_pairs 6 undecided_pairs 0 first_pair 0 4', 32000000),
+    (*TWO, 'yes', 0, 0, 2, 0, 'crossing_pairs 6 undecided_pairs 0 first_pair 0 4', 32000000),
     (POINTS + POINTS[2:3], [(0, 1, 2), (0, 4, 1)], 'no edge 0 2 there 0 back 1', 4, 4, 1, 0, 'crossing_pairs 1 undecided_pairs 0 first_pair 0 1', 0),
 ]
+
+
+# points and faces of a mesh; those of a finished one; what its header states; and the line of `check`
+CHECKED: list[tuple[Any, Any, Any, Any, str, int, str]] = [
+    (POINTS, FACES, POINTS, FACES, '', 1, f'yes points 4 faces 4 {NO_PAIR}'),
+    (POINTS, FACES, POINTS, FACES, ' pieces=7 manifold=yes flips=no', 1, f'yes points 4 faces 4 {NO_PAIR}'),
+    (POINTS, FACES, [], [], ' manifold=yes', 1, f'yes points 0 faces 0 {NO_PAIR}'),
+    ([], [], [], [], '', 1, f'yes points 0 faces 0 {NO_PAIR}'),
+    (POINTS, FACES, POINTS[::-1], FACES, '', 1, f'yes points 4 faces 4 {NO_PAIR}'),
+    (*two_cubes((1, 1, 0)), *two_cubes((1, 1, 0)), '', 1, f'yes points 14 faces 24 {NO_PAIR}'),
+    (*TWO, *TWO, '', 1, 'yes points 8 faces 8 crossing_pairs 6 undecided_pairs 0 first_pair 0 4'),
+    (POINTS, FACES, POINTS, FACES[1:], ' manifold=yes', 1, 'no 3 unbalanced from 0 to 1 there 0 back 1'),
+    (POINTS, FACES, moved(POINTS, (0, 0, 1)), FACES + FACES[3:], ' manifold=yes', 1, 'no 3 unbalanced from 1 to 2 there 1 back 2'),
+    (*two_cubes((1, 1, 0)), *two_cubes((1, 1, 0)), ' manifold=yes', 1, 'no 4 nonmanifold_edges 1 nonmanifold_vertices 2'),
+    (*two_cubes((1, 1, 1)), *two_cubes((1, 1, 1)), ' manifold=yes', 1, 'no 4 nonmanifold_edges 0 nonmanifold_vertices 1'),
+    (POINTS, FACES, *two_cubes((1, 1, 1)), ' manifold=yes', 1, 'no 4 nonmanifold_edges 0 nonmanifold_vertices 1'),
+    (POINTS, FACES, POINTS[:3] + [(-100, -100, 101)], FACES, '', 1, 'no 5 far_vertex 3'),
+    (POINTS, FACES, CUBE, CUBE_FACES, ' manifold=yes', 1, 'no 5 far_vertex 0'),
+    ([], [], POINTS, [], '', 1, 'no 5 far_vertex 0'),
+    (POINTS, FACES, SMOOTHED, FACES, ' smooth=1 within=2', 1024, f'yes points 4 faces 4 {NO_PAIR}'),
+    (POINTS, FACES, moved(SMOOTHED, (0, -2048, 0)), FACES, ' smooth=1 within=2', 1024, f'yes points 4 faces 4 {NO_PAIR}'),
+    (POINTS, FACES, SMOOTHED[:2] + moved(SMOOTHED[2:], (2048, 1, 0)), FACES, ' smooth=1 within=2', 1024, 'no 5 far_vertex 2'),
+    (POINTS, FACES, SMOOTHED, FACES, ' smooth=1 within=2', 1000, 'no 5 far_vertex 0'),
+    (POINTS, FACES, SMOOTHED, FACES, '', 1023, 'no 5 far_vertex 0'),
+    (POINTS, FACES, SMOOTHED, FACES, '', 1024, f'yes points 4 faces 4 {NO_PAIR}'),
+    (POINTS, FACES, moved(SMOOTHED, (1, 0, 0)), FACES, '', 1024, 'no 5 far_vertex 0')]
 
 
 def with_provenance(text: str, options: str, scale: int, source: str) -> str:
@@ -123,11 +150,12 @@ class MeshProgram(InFolder):
                       ('finish', 'mesh.ply', 'out.ply', 'pieces=4294967296'), ('finish', 'mesh.ply', 'out.ply', 'pieces=1', 'pieces=1'),
                       ('finish', 'mesh.ply', 'out.ply', 'manifold=no'), ('finish', 'mesh.ply', 'out.ply', 'manifold=yes', 'manifold=yes'),
                       *(('finish', 'mesh.ply', 'out.ply', *words) for words in NO_SMOOTHING),
-                      ('Finish', 'mesh.ply', 'out.ply'), ('check', 'mesh.ply', 'out.ply'), ('inspect',), ('inspect', ''),
-                      ('inspect', 'mesh.ply', 'out.ply')):
+                      ('Finish', 'mesh.ply', 'out.ply'), ('inspect',), ('inspect', ''), ('inspect', 'mesh.ply', 'out.ply'),
+                      ('check',), ('check', 'mesh.ply'), ('check', 'mesh.ply', 'mesh.ply'), ('check', '', 'out.ply'), ('check', 'mesh.ply', ''),
+                      ('check', 'mesh.ply', 'out.ply', 'flips=no'), ('check', 'mesh.ply', 'out.ply', 'other.ply')):
             status, line, error = mesh_program(*words)
             equal((status, line), (2, 'refused words\n'))
-            usage = 'usage: recon-mesh finish MESH OUT [pieces=N] [manifold=yes] [flips=no] [smooth=N within=D] [comments=no]\nusage: recon-mesh inspect MESH\n'
+            usage = 'usage: recon-mesh finish MESH OUT [pieces=N] [manifold=yes] [flips=no] [smooth=N within=D] [comments=no]\nusage: recon-mesh inspect MESH\nusage: recon-mesh check MESH OUT\n'
             equal(usage in error, True)
         equal(os.listdir('.'), ['mesh.ply'])
 
@@ -139,13 +167,19 @@ class MeshProgram(InFolder):
                              (text.replace('3 0 1 2', '3 0 1 4'), 'refused 29 mesh_line line 14\n')):
             write('mesh.ply', bytes_)
             write('out.ply', 'as it was')
-            for words in (('finish', 'mesh.ply', 'out.ply'), ('inspect', 'mesh.ply')):
+            for words in (('finish', 'mesh.ply', 'out.ply'), ('inspect', 'mesh.ply'), ('check', 'mesh.ply', 'out.ply'), ('check', 'mesh.ply', 'none.ply')):
                 status, said, error = mesh_program(*words)
                 equal((status, said, error.startswith('recon-mesh: ')), (3, line, True))
             equal(read('out.ply'), 'as it was')
+            write('mesh.ply', text)
+            write('out.ply', bytes_)
+            status, said, error = mesh_program('check', 'mesh.ply', 'out.ply')
+            line = line.replace('29 mesh_line', '32 out_line').replace('30 mesh_cut', '33 out_cut')
+            equal((status, said, error.startswith('recon-mesh: ')), (3, line, True))
 
     def test_failed_calls(self) -> None:
-        for words in (('finish', 'none.ply', 'out.ply'), ('finish', 'mesh.ply', 'none/out.ply'), ('finish', '.', 'out.ply'), ('inspect', 'none.ply'), ('inspect', '.')):
+        for words in (('finish', 'none.ply', 'out.ply'), ('finish', 'mesh.ply', 'none/out.ply'), ('finish', '.', 'out.ply'), ('inspect', 'none.ply'), ('inspect', '.'),
+                      ('check', 'none.ply', 'mesh.ply'), ('check', 'mesh.ply', 'none.ply'), ('check', 'mesh.ply', '.')):
             status, said, error = mesh_program(*words)
             equal((status, said, error.startswith('recon-mesh: ')), (4, '', True))
         equal(os.listdir('.'), ['mesh.ply'])
@@ -190,6 +224,31 @@ class MeshProgram(InFolder):
             line = f'inspected points {len(points)} faces {len(faces)} closed {closed} {topology} flat_faces {flat} {pairs} volume {volume}/6\n'
             equal(mesh_program('inspect', 'mesh.ply'), (0, line, ''))
         equal(os.listdir('.'), ['mesh.ply'])
+
+    def test_checks(self) -> None:
+        for points, faces, new_points, new_faces, options, scale, line in CHECKED:
+            text = mesh_text(points, [turned(face) for face in faces])
+            plain = mesh_text(new_points, [turned(face) for face in new_faces])
+            finished = with_provenance(plain, options, scale, text)
+            digit = finished.split('sha256 ')[1][63]
+            other = finished.replace(f'{digit}\nelement vertex', f'{"0" if digit != "0" else "1"}\nelement vertex')
+            write('mesh.ply', text)
+            for out, wanted in ((finished, line), (other, 'no 2 other_mesh'), (plain, 'no 1 not_stated')):
+                write('out.ply', out)
+                status, said, error = mesh_program('check', 'mesh.ply', 'out.ply')
+                equal((status, said, error.startswith('recon-mesh: ')), (int(wanted[:2] == 'no'), f'{wanted}\n', wanted[:2] == 'no'))
+        equal(sorted(os.listdir('.')), ['mesh.ply', 'out.ply'])
+
+    def test_finished_meshes_are_confirmed(self) -> None:
+        places, faces = ball(6, 3000, 0.1)
+        for points, corners in ((POINTS, FACES), two_cubes((1, 1, 0)), two_cubes((1, 1, 1)), (places, faces)):
+            write('mesh.ply', mesh_text(points, [turned(face) for face in corners]))
+            for words, _, _ in STATED + [(('smooth=3', 'within=300'), '', 1024)]:
+                line = mesh_program('finish', 'mesh.ply', 'out.ply', *words)[1]
+                status, said, error = mesh_program('check', 'mesh.ply', 'out.ply')
+                equal((status, said.startswith(f'yes {" ".join(line.split()[1:5])} crossing_pairs '), error), (0, True, ''))
+                equal(mesh_program('check', 'out.ply', 'out.ply'), mesh_program())
+                equal(mesh_program('check', 'out.ply', './out.ply')[:2], (1, 'no 2 other_mesh\n'))
 
     def test_inspections_beside_whole_numbers(self) -> None:
         for seed in range(40):

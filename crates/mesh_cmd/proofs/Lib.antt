@@ -1,3 +1,4 @@
+pub mod Checking
 pub mod Finishing
 pub mod InputReplies
 pub mod Texts

@@ -3,6 +3,7 @@
 --   Asked                        a command with its names and options
 --   finish_of words              what the arguments after `finish` ask for
 --   inspect_of words             what the arguments after `inspect` ask for
+--   confirm_of words               what the arguments after `check` ask for
 --   command_of words             the command that the arguments ask for, if they are valid
 --   asked command                a command as the program holds it
 --   task_of asked                what a command is apart from its arguments
@@ -19,6 +20,7 @@ use Rattle.command_run.specs.Outcome.{Run}
 use Rattle.command_run.specs.Words.{Names, are_names}
 use Rattle.command_run.specs.declared.status.Status.{Status}
 use Rattle.command_run.specs.declared.status.Status.TheVariants.{Done, No, BadArguments, Refused, Failed, NoMemory}
+use Rattle.mesh_cmd.specs.Check.{confirm_names, confirm_task}
 use Rattle.mesh_cmd.specs.Finish.{finish_names, finish_task}
 use Rattle.mesh_cmd.specs.Inspect.{inspect_task}
 use Rattle.mesh_cmd.specs.Options.{finish_options}
@@ -30,6 +32,7 @@ use Rattle.mesh_cmd.specs.declared.options.FinishRequest.{FinishRequest}
 pub data Asked : Type 0 where
   finish : Names → FinishRequest → Asked
   inspect : List ℕ → Asked
+  check : Names → Asked
 
 -- two names, and options
 abbrev pub finish_of : List (List ℕ) → Option Asked
@@ -46,23 +49,34 @@ inspect_of [] = None
 inspect_of (mesh ∷ []) = if are_names (mesh ∷ []) then Some (inspect mesh) else None
 inspect_of (mesh ∷ other ∷ words) = None
 
+-- two names
+abbrev pub confirm_of : List (List ℕ) → Option Asked
+confirm_of [] = None
+confirm_of (mesh ∷ []) = None
+confirm_of (mesh ∷ finished ∷ []) =
+    if are_names (mesh ∷ finished ∷ []) then Some (check (record { input = mesh; output = finished })) else None
+confirm_of (mesh ∷ finished ∷ other ∷ words) = None
+
 -- the command that the arguments ask for, if they are valid
 abbrev pub command_of : List (List ℕ) → Option Asked
 command_of [] = None
 command_of (word ∷ words) =
-    if bytes_eq word (codes "finish")
-    then finish_of words
-    else (if bytes_eq word (codes "inspect") then inspect_of words else None)
+    if bytes_eq word (codes "finish") then finish_of words
+    else if bytes_eq word (codes "inspect") then inspect_of words
+    else if bytes_eq word (codes "check") then confirm_of words
+    else None
 
 -- a command as the program holds it
 abbrev pub asked : Command → Asked
 asked (commands.Finish words) = finish (finish_names words) words.request
 asked (commands.Inspect words) = inspect words.mesh.now
+asked (commands.Check words) = check (confirm_names words)
 
 -- what a command is apart from its arguments
 abbrev pub task_of : Asked → Task
 task_of (finish names request) = finish_task names request
 task_of (inspect name) = inspect_task name
+task_of (check names) = confirm_task names
 
 -- the answer of a command, or to invalid arguments, where the files are these
 abbrev pub AnswerOf : Option Asked → Files → Answer → Type 0

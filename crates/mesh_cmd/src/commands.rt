@@ -5,9 +5,12 @@ ghost use Rattle.command_run.specs.Answers.{file_limit};
 ghost use Rattle.command_run.specs.Steps.{IsReplied, ReadsFor, CountsFaults};
 ghost use Rattle.mesh_cmd.specs.Commands.{command_of, asked, task_of};
 
+mod check;
 mod finish;
 mod inspect;
 
+pub use check::CheckWords;
+use check::{check_command, reply_to_check};
 use command_run::{Reply, Stop};
 pub use finish::FinishWords;
 use finish::{finish_command, reply_to_finish};
@@ -25,6 +28,8 @@ pub enum Command<'a> {
     Finish(FinishWords<'a>),
     /// `inspect MESH`: reads the mesh and says its measures.
     Inspect(InspectWords<'a>),
+    /// `check MESH OUT`: reads the mesh and a finished one, and says whether the second is what its comments state, of the first.
+    Check(CheckWords<'a>),
 }
 
 /// Returns the command that the arguments ask for, and `None` exactly if they are invalid.
@@ -39,6 +44,7 @@ pub fn understand(words: &[String]) -> Option<Command<'_>>
     match command.as_str() {
         "finish" => finish_command(words),
         "inspect" => inspect_command(words),
+        "check" => check_command(words),
         _ => None,
     }
 }
@@ -57,5 +63,6 @@ pub fn reply_to<'a, H: Host>(
     match command {
         Command::Finish(words) => reply_to_finish(alloc, host, words),
         Command::Inspect(words) => reply_to_inspect(alloc, host, words),
+        Command::Check(words) => reply_to_check(alloc, host, words),
     }
 }

@@ -1,17 +1,28 @@
-//! Reads the first input of a command: a mesh as `build` writes it, or one that `finish` wrote with comments. Depends on
+//! Reads an input of a command: a mesh as `build` writes it, or one that `finish` wrote with comments. Depends on
 //! `mesh_provenance`, which parses the bytes of a file, and on `sha2`.
-ghost use Rattle.std.specs.Prelude.{◌≡◌, ◌≤◌, false, length, ℕ, IfOk, IfSome};
+ghost use Rattle.std.specs.Prelude.{◌≡◌, ◌≤◌, false, length, ℕ, IfOk, IfSome, Some};
 ghost use Rattle.sha2.specs.Sha256.{sha256};
 ghost use Rattle.host.specs.Whole.{OnlyReads};
 ghost use Rattle.command_run.specs.Steps.{CountsFaults};
-ghost use Rattle.mesh_cmd.specs.Input.{IsInputReading, IsUnderstoodInput, IsFileIfRead};
+ghost use Rattle.mesh_cmd.specs.Input.{too_long_out_line, out_error_line, too_long_at, error_line_at, IsInputReading, IsUnderstoodInput, IsFileIfRead};
 
-use command_run::{Line, NoMemory, Stop, line_of_mesh_error, line_of_too_long_mesh};
+use command_run::{
+    Line, NoMemory, Stop, line_of_mesh_error, line_of_number, line_of_text, line_of_too_long_mesh,
+};
 use host::{Host, ReadRefusal, read_all};
-use mesh_ply::Mesh;
+use mesh_ply::{Mesh, MeshRefusal};
 use mesh_provenance::{AnnotatedMesh, Provenance, read_annotated};
 use sha2::{Digest, Sha256};
-use std::alloc::Global;
+use std::alloc::{AllocError, Global};
+
+/// Which of the files of a command a mesh is.
+#[derive(Clone, Copy, Debug, PartialEq, Eq)]
+pub enum Role {
+    /// The one that is read first.
+    First,
+    /// The finished mesh, which `check` reads second.
+    Finished,
+}
 
 /// A mesh that was read.
 #[derive(Drop)]
@@ -33,33 +44,35 @@ pub enum InputReading {
     Refused(Line),
 }
 
-/// Reads the mesh of the named file, once. Its bytes are freed. The file may be as long as the limit.
+/// Reads the mesh of the named file, once. Its bytes are freed. The file may be as long as the limit. Its errors have the lines of its
+/// role.
 pub fn read_input<H: Host>(
     alloc: Global,
     host: &mut H,
     name: &str,
     limit: u64,
+    role: Role,
 ) -> Result<InputReading, Stop>
     requires { (H.state host.old).writing ≡ false }
-    ensures read { IfOk result (λ reading. IfSome (H.state host.old).told (IsInputReading limit name.now reading)) }
+    ensures read { IfOk result (λ reading. IfSome (H.state host.old).told (IsInputReading role limit name.now reading)) }
     ensures file { IfOk result IsFileIfRead }
     ensures only { OnlyReads (H.state host.old) (H.state host.new) }
     ensures cause { CountsFaults result (H.state host.old).faults (H.state host.new).faults }
 {
     let bytes = match read_all(alloc, host, name, limit) {
         Ok(bytes) => bytes,
-        Err(ReadRefusal::TooLong) => return Ok(InputReading::Refused(Line::Fixed(
-            line_of_too_long_mesh(),
-        ))),
+        Err(ReadRefusal::TooLong) => return Ok(InputReading::Refused(Line::Fixed(line_of_too_long(
+            role,
+        )))),
         Err(ReadRefusal::Failed) => return Err(Stop::Failed),
         Err(ReadRefusal::NoMemory) => return Err(Stop::NoMemory),
     };
-    Ok(understand_input(alloc, &bytes)?)
+    Ok(understand_input(alloc, &bytes, role)?)
 }
 
 /// Parses the bytes of a mesh's file.
-fn understand_input(alloc: Global, bytes: &[u8]) -> Result<InputReading, NoMemory>
-    ensures understood { (limit : ℕ) → length bytes.now ≤ limit → IfOk result (IsUnderstoodInput limit bytes.now) }
+fn understand_input(alloc: Global, bytes: &[u8], role: Role) -> Result<InputReading, NoMemory>
+    ensures understood { (limit : ℕ) → length bytes.now ≤ limit → IfOk result (IsUnderstoodInput role limit bytes.now) }
     ensures file { IfOk result IsFileIfRead }
 {
     match read_annotated(alloc, bytes) {
@@ -72,7 +85,48 @@ fn understand_input(alloc: Global, bytes: &[u8]) -> Result<InputReading, NoMemor
                 digest,
             }))
         }
-        Err(why) => Ok(InputReading::Refused(Line::Made(line_of_mesh_error(alloc, why)?))),
+        Err(why) => Ok(InputReading::Refused(Line::Made(line_of_error(alloc, role, why)?))),
+    }
+}
+
+/// Returns the line for a file that is longer than the limit.
+fn line_of_too_long(role: Role) -> &'static [u8]
+    ensures { result.now ≡ too_long_at role }
+{
+    match role {
+        Role::First => line_of_too_long_mesh(),
+        Role::Finished => line_of_too_long_out(),
+    }
+}
+
+/// Returns the line for the file of a finished mesh that is longer than the limit.
+#[tactic(auto, unfolding(crate::specs::Input::too_long_out_line))]
+fn line_of_too_long_out() -> &'static [u8]
+    ensures { result.now ≡ too_long_out_line }
+{
+    b"refused 19 too_long out\n"
+}
+
+/// Returns the line for a file that is rejected. Out of memory has no line.
+fn line_of_error(alloc: Global, role: Role, why: MeshRefusal) -> Result<Vec<u8>, NoMemory>
+    ensures { IfOk result (λ line. error_line_at role why ≡ Some line.items) }
+{
+    match role {
+        Role::First => line_of_mesh_error(alloc, why),
+        Role::Finished => line_of_out_error(alloc, why),
+    }
+}
+
+/// Returns the line for a finished mesh that is rejected. Out of memory has no line.
+fn line_of_out_error(alloc: Global, why: MeshRefusal) -> Result<Vec<u8>, NoMemory>
+    ensures { IfOk result (λ line. out_error_line why ≡ Some line.items) }
+{
+    match why {
+        MeshRefusal::BadLine(line) => {
+            line_of_number(alloc, b"refused 32 out_line line ", u64::from(line))
+        }
+        MeshRefusal::MeshCut => line_of_text(alloc, b"refused 33 out_cut"),
+        MeshRefusal::NoMemory => Err(AllocError),
     }
 }
 

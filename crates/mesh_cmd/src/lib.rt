@@ -4,8 +4,8 @@
 //! its task, which is how it may end, how many files it reads and its answers. The commands stand in `specs/Commands`, and each has
 //! a file of its own there and in `src/commands`. What a run does to its host is said once for all commands, in `command_run`.
 //!
-//! It depends on `command_run` (answers and what a run does), `mesh_finish` (finished meshes), `mesh_measures` and `mesh_crossings`
-//! (measures), `mesh_provenance` (their text, with where they come from) and `sha2`.
+//! It depends on `command_run` (answers and what a run does), `mesh_finish` (finished meshes), `mesh_check` (what such a mesh has to
+//! be), `mesh_measures` and `mesh_crossings` (measures), `mesh_provenance` (their text, with where they come from) and `sha2`.
 #![tactic(auto)]
 
 mod commands;
@@ -15,8 +15,8 @@ mod options;
 mod whole_run;
 
 pub use command_run::{NoMemory, Status};
-pub use commands::{Command, FinishWords, InspectWords, Measures, understand};
-pub use input::{InputMesh, InputReading, read_input};
+pub use commands::{CheckWords, Command, FinishWords, InspectWords, Measures, understand};
+pub use input::{InputMesh, InputReading, Role, read_input};
 pub use mesh_provenance::{FinishOptions, Provenance};
 pub use options::FinishRequest;
 pub use whole_run::run;

@@ -14,12 +14,13 @@ use std::alloc::Global;
 /// | Status | When |
 /// |---|---|
 /// | 0 | the command is done |
+/// | 1 | the finished mesh is not what it states |
 /// | 2 | invalid arguments |
 /// | 3 | the mesh is invalid or not closed, or its file is longer than 4,294,967,296 bytes |
 /// | 4 | a call of the host failed |
 /// | 5 | out of memory |
 ///
-/// All but 4 occur only if no call of the host failed. Status 5 prints nothing, and each of 0, 2 and 3 prints exactly one line.
+/// All but 4 occur only if no call of the host failed. Status 5 prints nothing, and each of 0 to 3 prints exactly one line.
 /// No file is created before its text and the line stand in memory, and no part of the line is printed before all files are
 /// whole. No file but the command's outputs ever changes, and these only with status 0 or 4. [`Command`] says which are read.
 pub fn run<H: Host>(alloc: Global, words: &[String], host: &mut H) -> u8

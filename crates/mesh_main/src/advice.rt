@@ -4,16 +4,17 @@
 use real_host::Advice;
 
 /// The commands, each with its arguments.
-const USES: [(&str, &str); 2] = [
+const USES: [(&str, &str); 3] = [
     (
         "finish",
         "MESH OUT [pieces=N] [manifold=yes] [flips=no] [smooth=N within=D] [comments=no]",
     ),
     ("inspect", "MESH"),
+    ("check", "MESH OUT"),
 ];
 
 /// How the line of an error begins, and how to fix what caused it.
-const CURES: [(&[u8], &str); 5] = [
+const CURES: [(&[u8], &str); 13] = [
     (
         b"refused 19 too_long mesh",
         "over 4 GiB, so most likely another file than was meant",
@@ -33,6 +34,38 @@ const CURES: [(&[u8], &str); 5] = [
     (
         b"refused 30 mesh_cut",
         "the mesh is truncated: take the file that recon build wrote",
+    ),
+    (
+        b"refused 19 too_long out",
+        "over 4 GiB, so most likely another file than was meant",
+    ),
+    (
+        b"refused 32 out_line",
+        "the finished mesh is not as recon-mesh finish wrote it: edited, saved by a viewer, brought to floats, or with other line ends (then n is 1): take that file",
+    ),
+    (
+        b"refused 33 out_cut",
+        "the finished mesh is truncated: take the file that recon-mesh finish wrote",
+    ),
+    (
+        b"no 1 not_stated",
+        "the finished mesh has no comments: finish the mesh without comments=no",
+    ),
+    (
+        b"no 2 other_mesh",
+        "the finished mesh was made from another file than this one: take the file with the SHA-256 in its header",
+    ),
+    (
+        b"no 3 unbalanced",
+        "the finished mesh is not closed at the edge between points a and b, counted from 0: its file was changed, so finish the mesh again",
+    ),
+    (
+        b"no 4 nonmanifold",
+        "the finished mesh is not manifold, which its header states: its file was changed, so finish the mesh again",
+    ),
+    (
+        b"no 5 far_vertex",
+        "this vertex, counted from 0, is farther from the mesh than its header states: its file was changed, so finish the mesh again",
     ),
 ];
 

@@ -12,7 +12,7 @@ ghost use Rattle.mesh_cmd.specs.Commands.{asked, finish_of};
 ghost use Rattle.mesh_cmd.specs.Finish.{finish_names, finish_task, scale_text, finished_line, stated_by, finish_done, not_closed_line, unverified_line, IsNotFinished, FinishAnswer};
 
 use crate::commands::Command;
-use crate::input::{InputMesh, InputReading, read_input};
+use crate::input::{InputMesh, InputReading, Role, read_input};
 use crate::options::{FinishRequest, options_in};
 use command_run::{
     FILE_LIMIT, Line, NoMemory, Reply, Status, Stop, Text, are_names, invalid_input, line_of_text,
@@ -64,7 +64,7 @@ pub fn reply_to_finish<'a, H: Host>(
     ensures reads { ReadsFor file_limit (finish_task (finish_names words.now) words.now.request) (H.state host.old) (H.state host.new) }
     ensures cause { CountsFaults result (H.state host.old).faults (H.state host.new).faults }
 {
-    match read_input(alloc, host, words.mesh, FILE_LIMIT)? {
+    match read_input(alloc, host, words.mesh, FILE_LIMIT, Role::First)? {
         InputReading::Mesh(input) => {
             let InputMesh { mesh, digest, .. } = input;
             Ok(reply_to_mesh(alloc, mesh, &digest, words.request, words.output)?)

@@ -10,7 +10,7 @@ ghost use Rattle.mesh_cmd.specs.Inspect.{inspect_task, inspected_line, closed_te
 
 use crate::commands::Command;
 use crate::crossings::push_crossings;
-use crate::input::{InputReading, read_input};
+use crate::input::{InputReading, Role, read_input};
 use command_run::{
     FILE_LIMIT, Line, NoMemory, Reply, Status, Stop, are_names, invalid_input, push_labelled,
 };
@@ -70,7 +70,7 @@ pub fn reply_to_inspect<'a, H: Host>(
     ensures reads { ReadsFor file_limit (inspect_task words.now.mesh.now) (H.state host.old) (H.state host.new) }
     ensures cause { CountsFaults result (H.state host.old).faults (H.state host.new).faults }
 {
-    match read_input(alloc, host, words.mesh, FILE_LIMIT)? {
+    match read_input(alloc, host, words.mesh, FILE_LIMIT, Role::First)? {
         InputReading::Mesh(input) => Ok(reply_to_measured(alloc, &input.mesh)?),
         InputReading::Refused(line) => Ok(invalid_input(alloc, line)),
     }

@@ -4,6 +4,7 @@ use Rattle.command_run.specs.declared.meshes.TheConstants.{FILE_LIMIT}
 use Rattle.mesh_cmd.specs.Finish.{FinishAnswer}
 use Rattle.mesh_cmd.specs.Input.{IsInputReading, surface_of_input}
 use Rattle.mesh_cmd.specs.declared.input.InputReading.{InputReading}
+use Rattle.mesh_cmd.specs.declared.input.Role.TheVariants.{First}
 use Rattle.mesh_cmd.proofs.Finishing.{answer_ends}
 use Rattle.mesh_cmd.proofs.InputReplies.{file_answered, file_refused}
 use Rattle.sha2.specs.Sha256.{sha256}
@@ -22,7 +23,7 @@ returns-in_ok-reply_to_mesh-in-Mesh-clause-replied g c =
     subst (λ (d : List ℕ). FinishAnswer words.output.now words.request d (surface_of_input input)
     (answer_of 1 c.in_ok-reply_to_mesh-in-Mesh.field-0)) e done)
     (subst (λ (reading : InputReading).
-    IfSome (g.H.Host.state c.args.host.now).told (IsInputReading FILE_LIMIT words.mesh.now reading)) c.in-Mesh.is
+    IfSome (g.H.Host.state c.args.host.now).told (IsInputReading First FILE_LIMIT words.mesh.now reading)) c.in-Mesh.is
     c.in_ok-input.ensures.read)
 
 pub returns-in-Refused-clause-replied : goal.returns-in-Refused-clause-replied
@@ -32,5 +33,5 @@ returns-in-Refused-clause-replied g c =
     (λ bytes provenance mesh answer. FinishAnswer words.output.now words.request (sha256 bytes) mesh answer) c.in-Refused.line
     c.invalid_input.result (g.H.Host.state c.args.host.now) (c.invalid_input.ensures 1)
     (subst (λ (reading : InputReading).
-    IfSome (g.H.Host.state c.args.host.now).told (IsInputReading FILE_LIMIT words.mesh.now reading)) c.in-Refused.is
+    IfSome (g.H.Host.state c.args.host.now).told (IsInputReading First FILE_LIMIT words.mesh.now reading)) c.in-Refused.is
     c.in_ok-input.ensures.read)
