@@ -231,7 +231,10 @@ def wishes_for(surface: Surface, scan: Scan, args: Any, choices: Choices) -> Wis
     kept = args.pieces or max(1, int((sizes >= least).sum()))
     choices.choose('pieces', kept, 'given' if args.pieces else f'of {len(sizes)}, those of {least:.0f} faces or more')
     apart, noise = scan.texture
-    within = args.within if args.within is not None else max(float(f'{2 * noise:.2g}'), 1 / scan.unit) if noise > 0.05 * apart else 0.0
+    # steps that are asked for move vertices of a scan without noise too
+    least_move = 0.1 * apart if args.steps else 0.0
+    move = max(float(f'{2 * noise:.2g}'), float(f'{least_move:.2g}'), 1 / scan.unit) if noise > 0.05 * apart or args.steps else 0.0
+    within = args.within if args.within is not None else move
     steps = args.steps if args.steps is not None else 6 if noise > 0.3 * apart else 3
     steps, flips = steps if within else 0, not args.no_flips
     smoothing = len(surface.faces) * steps / SMOOTHED_A_SECOND
@@ -244,7 +247,8 @@ def wishes_for(surface: Surface, scan: Scan, args: Any, choices: Choices) -> Wis
     choices.choose('flips', 'yes' if flips else 'no', 'given' if args.no_flips else 'edges lie better' if flips else 'recon-mesh is not there')
     if steps:
         choices.choose('steps', steps, 'given' if args.steps is not None else f'noise of {noise:.2g} at {apart:.2g} apart')
-        choices.choose('within', f'{within:g}', 'given' if args.within is not None else 'twice the noise')
+        choices.choose('within', f'{within:g}', 'given' if args.within is not None else 'twice the noise' if 2 * noise >= least_move
+                       else f'a tenth of {apart:.2g}')
     else:
         choices.choose('steps', 0, 'given' if args.steps == 0 else 'patience' if within else f'noise {noise:.2g} is small beside {apart:.2g}')
     return Wishes(scan.unit, scan.origin.tolist(), kept or None, flips=flips, steps=steps, within=within if steps else 0.0, seen=True)

@@ -220,11 +220,12 @@ class Words(InFolder):
         equal(arguments(['a', '--scanner', '-1,2,3', '-o', 'x', '-q']), ['a', '--scanner=-1,2,3', '-o', 'x', '-q'])
         status, said, error = call('surface', '--help')
         equal((status, error, all(word in said for word in ('--scanner', '--force', 'Status:'))), (0, '', True))
-        options = {word for action in parser()._actions for word in action.option_strings}
+        options = {word for action in parser()._actions for word in action.option_strings if word.startswith('--')}
         with open(os.path.join(os.path.dirname(os.path.abspath(__file__)), '..', '..', 'docs', 'reference', 'tools.md'), encoding='utf-8') as file:
-            told = set(re.findall('`(--[a-z-]+)', file.read()))
-        equal(sorted(told & {'--scanner', '--force', '--sweep'} | {word for word in told if word.startswith('--') and word in options}),
-              sorted(word for word in told if word in options))
+            section = file.read().split('## `recon-surface`')[1]
+        stated = set(re.findall('`(--[a-z-]+)', section))
+        equal((sorted(stated - options), sorted(options - stated)),
+              ([], ['--help', '--keep', '--no-check', '--output', '--program', '--quiet']))
 
     def test_plain_files_are_read_whole(self) -> None:
         points = np.random.default_rng(1).normal(size=(50, 3)).round(6)
