@@ -1,4 +1,8 @@
 -- The answers of `check`: how they end, and how many files are read.
+--
+-- Each answer reads at least one file (reads_first). No text of a mesh is rejected, so after the first file was read as a mesh, each
+-- answer is one to the second file and reads two (reads_both, by mesh_answers). The finished mesh is compared by the digest that the
+-- program has computed, which is that of any bytes of the first file (home_replied).
 use Rattle.std.proofs.Common.{ℕ, ◌≡◌, ◌⊎◌, ◌+◌, ◌≤◌, inl, inr, ap, ◌∙◌, arith, subst, sym, List, Option, Some, None, IfSome, false}
 use Rattle.std.proofs.Common.{Result, Ok, Err, IfOk}
 use Rattle.std.proofs.lemmas.Option.{IfSome_then}
