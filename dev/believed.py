@@ -7,8 +7,8 @@ usage: dev/believed.py [CRATE FILE CALL]        (a call, as recon_cmd src/whole_
        dev/believed.py audit                    (compares docs/verification/audit.md with its source, as the gate does)
        dev/believed.py audit write              (writes that page)
 
-By default: what a yes of `recon check` for the text of a scan says about the mesh, what it says for any file, what each answer says about
-all three files, and then the whole contract of the top call. A contract depends on the definitions of specs/ that its clauses name,
+By default only the totals, of four contracts: what a yes of `recon check` for the text of a scan says about the mesh, what it says for any
+file, what each answer says about all three files, and the whole contract of the top call. With arguments the lines by file too. A contract depends on the definitions of specs/ that its clauses name,
 these on those that they name, and so on. Comments, imports and blank lines are not counted. Definitions of the toolchain are left
 out, and so are types that the code declares.
 
@@ -237,6 +237,11 @@ def told(crate: str, place: str, *names: str) -> str:
     return head + '; '.join(parts)
 
 
+def total_of(line: str) -> str:
+    """Returns a line of `told` without the counts by file."""
+    return f"{line.partition(' lines. ')[0]} lines."
+
+
 def put(line: Any) -> None:
     """Puts a line into docs/verification/guarantees.md, in the place of the one that begins with the same name."""
     name = line.split(':')[0]
@@ -249,10 +254,10 @@ def main(words: list[str]) -> int:
         return audit(words[1:])
     if words == ['write']:
         for call in BY_DEFAULT:
-            put(told(*call))
+            put(total_of(told(*call)))
         return 0
-    for call in [tuple(words)] if words else BY_DEFAULT:
-        print(told(*call))
+    for line in [told(*words)] if words else [total_of(told(*call)) for call in BY_DEFAULT]:
+        print(line)
     return 0
 
 
