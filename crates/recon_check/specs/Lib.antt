@@ -3,6 +3,7 @@ pub mod Faults
 pub mod Differences
 pub mod Stamps
 pub mod Answers
+pub mod Found
 pub mod Surfaces
 pub mod Stops
 pub mod Lookups

@@ -12,6 +12,7 @@ ghost use Rattle.scan.specs.Views.{shown_of};
 ghost use Rattle.solution.specs.Stored.{IsStoreOf};
 ghost use Rattle.cell_net.specs.Counts.{AreCountsOf};
 ghost use Rattle.recon_check.specs.Answers.{IsFault, IsSolvedWith, IsAccepted, IsYes, IsYesWhereSolved, IsAnswer};
+ghost use Rattle.recon_check.specs.Found.{answer_found, IsTextOf, IsParsedFrom};
 ghost use Rattle.recon_check.specs.Surfaces.{AreShownLabels, IsBestSurface};
 ghost use Rattle.recon_check.specs.Stops.{StopsFor};
 
@@ -176,8 +177,30 @@ pub struct CheckedTexts<'a> {
     pub cert: &'a [u8],
 }
 
-/// Returns the numbers of the surface, if the certificate shows it best, its text is the mesh, and the certificate has no fingerprint or
-/// this one.
+/// The numbers of a best surface, and its parsed certificate.
+#[derive(Debug, Drop)]
+pub struct Confirmed {
+    /// The number of inside cells.
+    pub inside: u64,
+    /// The number of faces of the surface.
+    pub faces: u64,
+    /// The cost of the labels.
+    pub cost: u64,
+    /// The certificate.
+    pub cert: Certificate,
+}
+
+/// What a check of two texts found.
+#[derive(Debug, Drop)]
+pub enum Checked {
+    /// The texts are the best surface of the scan and a certificate of its optimality.
+    Yes(Confirmed),
+    /// The first reason why they are not.
+    No(Reason),
+}
+
+/// Returns the numbers of the surface and the parsed certificate, if the certificate shows the surface best, its text is the mesh, and
+/// the certificate has no fingerprint or this one.
 fn shown_by_texts<W: Watch>(
     alloc: Global,
     scan: &Scan,
@@ -185,15 +208,26 @@ fn shown_by_texts<W: Watch>(
     stamp: &Stamp,
     texts: &CheckedTexts,
     watch: &mut W,
-) -> Result<Accepted, Stop>
+) -> Result<Confirmed, Stop>
     ensures shown { IfOk result (λ shown. IsAnswer (shown_of scan.now) settings (stamp_view stamp.now) texts.now.mesh.now texts.now.cert.now (Answer.Yes shown.inside shown.faces shown.cost)) }
+    ensures parsed { IfOk result (λ shown. IsTextOf shown.cert texts.now.cert.now) }
     ensures fault { IfErr result (StopsFor (λ reason. IsAnswer (shown_of scan.now) settings (stamp_view stamp.now) texts.now.mesh.now texts.now.cert.now (Answer.No reason))) }
 {
-    let stated = certificate(alloc, texts.cert)?;
-    match other_stamp(stamp, &stated) {
-        Some(reason) => Err(Stop::Fault(reason)),
-        None => shown_by_certificate(alloc, scan, settings, texts.mesh, &stated, watch),
+    let cert = certificate(alloc, texts.cert)?;
+    if let Some(reason) = other_stamp(stamp, &cert) {
+        return Err(Stop::Fault(reason));
     }
+    let Accepted {
+        inside,
+        faces,
+        cost,
+    } = shown_by_certificate(alloc, scan, settings, texts.mesh, &cert, watch)?;
+    Ok(Confirmed {
+        inside,
+        faces,
+        cost,
+        cert,
+    })
 }
 
 /// Checks whether two texts are the best surface of a scan at these settings and its certificate of optimality, with no fingerprint of the
@@ -218,10 +252,18 @@ pub fn check_all(
     ensures built { IfOk result (IsYesWhereSolved (shown_of scan.now) settings (stamp_view stamp.now) mesh.now cert.now) }
 {
     let texts = CheckedTexts { mesh, cert };
-    check_all_watched(alloc, scan, settings, stamp, &texts, &mut Silent)
+    match check_all_watched(alloc, scan, settings, stamp, &texts, &mut Silent)? {
+        Checked::Yes(shown) => Ok(Answer::Yes {
+            inside: shown.inside,
+            faces: shown.faces,
+            cost: shown.cost,
+        }),
+        Checked::No(reason) => Ok(Answer::No(reason)),
+    }
 }
 
-/// Checks the same as [`check_all`], and calls the progress callback at each stage.
+/// Checks the same as [`check_all`], and calls the progress callback at each stage. Returns the parsed certificate too, if the answer is
+/// yes.
 pub fn check_all_watched<W: Watch>(
     alloc: Global,
     scan: &Scan,
@@ -229,19 +271,13 @@ pub fn check_all_watched<W: Watch>(
     stamp: &Stamp,
     texts: &CheckedTexts,
     watch: &mut W,
-) -> Result<Answer, NoMemory>
-    ensures answer { IfOk result (IsAnswer (shown_of scan.now) settings (stamp_view stamp.now) texts.now.mesh.now texts.now.cert.now) }
-    ensures only { (answer : Answer) → IsAnswer (shown_of scan.now) settings (stamp_view stamp.now) texts.now.mesh.now texts.now.cert.now answer → IfOk result (λ given. given ≡ answer) }
-    ensures yes { IfOk result (λ answer. IsYes answer ↔ IsAccepted (shown_of scan.now) settings (stamp_view stamp.now) texts.now.mesh.now texts.now.cert.now) }
-    ensures built { IfOk result (IsYesWhereSolved (shown_of scan.now) settings (stamp_view stamp.now) texts.now.mesh.now texts.now.cert.now) }
+) -> Result<Checked, NoMemory>
+    ensures answer { IfOk result (λ checked. IsAnswer (shown_of scan.now) settings (stamp_view stamp.now) texts.now.mesh.now texts.now.cert.now (answer_found checked)) }
+    ensures parsed { IfOk result (IsParsedFrom texts.now.cert.now) }
 {
     match shown_by_texts(alloc, scan, settings, stamp, texts, watch) {
-        Ok(shown) => Ok(Answer::Yes {
-            inside: shown.inside,
-            faces: shown.faces,
-            cost: shown.cost,
-        }),
-        Err(Stop::Fault(reason)) => Ok(Answer::No(reason)),
+        Ok(shown) => Ok(Checked::Yes(shown)),
+        Err(Stop::Fault(reason)) => Ok(Checked::No(reason)),
         Err(Stop::NoMemory) => Err(AllocError),
     }
 }

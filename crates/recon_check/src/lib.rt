@@ -36,7 +36,7 @@ mod stop;
 mod texts;
 
 pub use answer::{Answer, Reason, Which};
-pub use checking::{CheckedTexts, check_all, check_all_watched};
+pub use checking::{Checked, CheckedTexts, Confirmed, check_all, check_all_watched};
 pub use laws::answers_are_unique;
 use std::alloc::AllocError;
 

@@ -18,6 +18,7 @@
 --   verdict_line verdict               the line of a verdict
 --   verdict_status verdict             its status
 --   restamped stamp claim              a certificate with this fingerprint
+--   upgraded_answer output stamp ..    the effect of yes, if there is an output file
 --   IsConcluded output ..              the effect of a verdict: it is printed, or a certificate is written
 --   HasVerdict output options ..       the verdict on a mesh and a certificate, and its effect
 --   whole_within limit line ..         all bytes of a file, or this line if they are too many
@@ -153,17 +154,20 @@ verdict_status (verdicts.No reason) = No
 abbrev pub restamped : StampView → Claim → Claim
 restamped stamp claim = record claim { stamp = Some stamp }
 
+-- the certificate with this fingerprint is written, and the cost is printed
+abbrev pub upgraded_answer : (output : List ℕ) → StampView → Claim → (cost : ℕ) → Answer
+upgraded_answer output stamp claim cost = record {
+  status = Done;
+  reads = 3;
+  writes = (output, cert_text (restamped stamp claim)) ∷ [];
+  line = upgraded_line cost;
+}
+
 -- The verdict is printed. If it is yes and there is an output file, the certificate is written there with this fingerprint, and
 -- its cost is printed.
 abbrev pub IsConcluded : (output : Option (List ℕ)) → StampView → (cert : List ℕ) → Verdict → Answer → Type 0
 IsConcluded (Some output) stamp cert (verdicts.Yes inside faces cost) answer =
-    HasCertificate cert
-    (λ claim. answer ≡ record {
-      status = Done;
-      reads = 3;
-      writes = (output, cert_text (restamped stamp claim)) ∷ [];
-      line = upgraded_line cost;
-    })
+    HasCertificate cert (λ claim. answer ≡ upgraded_answer output stamp claim cost)
 IsConcluded output stamp cert verdict answer =
     answer ≡ record { status = verdict_status verdict; reads = 3; writes = []; line = verdict_line verdict }
 

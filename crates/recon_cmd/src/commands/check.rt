@@ -1,19 +1,16 @@
 //! `check IN MESH CERT`, its arguments, answer and lines: verifies that a mesh is the best surface of a scan, and a certificate
 //! of its optimality. And `upgrade IN MESH CERT OUT`: if so, writes the certificate with the fingerprint of this run. Depends
 //! on `recon_check`, which decides, and on `cert_text`.
-ghost use Rattle.std.specs.Option.{option_map};
 ghost use Rattle.std.specs.Prelude.{map, string_bytes, ◌≡◌, false, IfOk, ℕ, ⊤, Some, []};
-ghost use Rattle.cert_text.specs.Certificates.{stamp_view};
+ghost use Rattle.cert_text.specs.Certificates.{claim_of, stamp_view, IsWellFormed};
 ghost use Rattle.cert_text.specs.Texts.{cert_text};
-ghost use Rattle.recon_check.specs.Answers.{HasCertificate};
 ghost use Rattle.command_run.specs.Replies.{answer_of};
 ghost use Rattle.command_run.specs.Steps.{IsReplied, ReadsFor, CountsFaults, IsReplyOf};
-ghost use Rattle.recon_cmd.specs.Check.{check_names, output_of, HasVerdictFor, MeshAnswerFor, CertAnswerFor, IsConcluded, restamped, too_long_cert_line, upgraded_line, check_task, task_for};
+ghost use Rattle.recon_cmd.specs.Check.{check_names, output_of, HasVerdictFor, MeshAnswerFor, CertAnswerFor, restamped, too_long_cert_line, upgraded_answer, upgraded_line, check_task, task_for};
 ghost use Rattle.recon_cmd.specs.Commands.{IsCommand, asked_by, check_of, upgrade_of};
 ghost use Rattle.recon_cmd.specs.OptionViews.{options_view};
 ghost use Rattle.recon_cmd.specs.Steps.{ReadsOn};
 ghost use Rattle.recon_cmd.specs.Words.{all_keys, named};
-ghost use Rattle.recon_check.specs.declared.answer.Answer.TheVariants as verdicts;
 
 mod lines;
 
@@ -22,15 +19,15 @@ use crate::names::{ALL_KEYS, NamesAndOptions, named};
 use crate::options::Options;
 use crate::stamps::stamp_of;
 use crate::whole_run::{Reading, read_input};
-use cert_text::{Stamp, push_cert, read_cert};
+use cert_text::{Certificate, Stamp, push_cert};
 use command_run::{
     Line, NoMemory, Reply, Status, Stop, Text, invalid_input, line_of_too_long_mesh, push_labelled,
 };
 use host::{Host, ReadRefusal, Watch, read_all};
 use lines::{line_of_reason, line_of_yes};
-use recon_check::{Answer, CheckedTexts, check_all_watched};
+use recon_check::{Checked, CheckedTexts, Confirmed, check_all_watched};
 use scan::Scan;
-use std::alloc::{AllocError, Global};
+use std::alloc::Global;
 
 /// The names of `check IN MESH CERT` and of `upgrade IN MESH CERT OUT`.
 #[derive(Clone, Copy, Debug)]
@@ -193,45 +190,17 @@ fn reply_to_texts<'a, W: Watch>(
 ) -> Result<Reply<'a>, NoMemory>
     ensures { IfOk result (λ reply. HasVerdictFor asked.now scan.now texts.now.mesh.now texts.now.cert.now (answer_of 3 reply)) }
 {
-    let output = asked.names.output;
-    match check_all_watched(
-        alloc,
-        &scan.scan,
-        asked.options.settings,
-        &scan.stamp,
-        texts,
-        watch,
-    ) {
-        Ok(verdict) => reply_to_verdict(alloc, &verdict, &scan.stamp, output, texts.cert),
-        Err(_) => Err(AllocError),
-    }
-}
-
-/// Returns the reply for a verdict.
-fn reply_to_verdict<'a>(
-    alloc: Global,
-    verdict: &Answer,
-    stamp: &Stamp,
-    output: Option<&'a str>,
-    cert: &[u8],
-) -> Result<Reply<'a>, NoMemory>
-    requires { (inside faces cost : ℕ) → verdict.now ≡ verdicts.Yes inside faces cost → HasCertificate cert.now (λ claim. ⊤) }
-    ensures { IfOk result (λ reply. IsConcluded (option_map (λ name. name.now) output.entry) (stamp_view stamp.now) cert.now verdict.now (answer_of 3 reply)) }
-{
-    match verdict {
-        Answer::Yes {
-            inside,
-            faces,
-            cost,
-        } => match output {
+    let settings = asked.options.settings;
+    match check_all_watched(alloc, &scan.scan, settings, &scan.stamp, texts, watch)? {
+        Checked::Yes(shown) => match asked.names.output {
             None => {
-                let line = line_of_yes(alloc, *inside, *faces, *cost)?;
+                let line = line_of_yes(alloc, shown.inside, shown.faces, shown.cost)?;
                 Ok(said(alloc, Status::Done, line))
             }
-            Some(output) => reply_of_upgrade(alloc, stamp, cert, *cost, output),
+            Some(output) => reply_of_upgrade(alloc, &scan.stamp, shown, output),
         },
-        Answer::No(reason) => {
-            let line = line_of_reason(alloc, reason)?;
+        Checked::No(reason) => {
+            let line = line_of_reason(alloc, &reason)?;
             Ok(said(alloc, Status::No, line))
         }
     }
@@ -241,15 +210,14 @@ fn reply_to_verdict<'a>(
 fn reply_of_upgrade<'a>(
     alloc: Global,
     stamp: &Stamp,
-    cert: &[u8],
-    cost: u64,
+    shown: Confirmed,
     output: &'a str,
 ) -> Result<Reply<'a>, NoMemory>
-    requires { HasCertificate cert.now (λ claim. ⊤) }
-    ensures { IfOk result (λ reply. (inside faces : ℕ) → IsConcluded (Some output.now) (stamp_view stamp.now) cert.now (verdicts.Yes inside faces cost) (answer_of 3 reply)) }
+    requires { IsWellFormed (claim_of shown.cert) }
+    ensures { IfOk result (λ reply. answer_of 3 reply ≡ upgraded_answer output.now (stamp_view stamp.now) (claim_of shown.cert) shown.cost) }
 {
-    let text = restamped_text(alloc, stamp, cert)?;
-    let line = line_of_upgrade(alloc, cost)?;
+    let line = line_of_upgrade(alloc, shown.cost)?;
+    let text = restamped_text(alloc, stamp, shown.cert)?;
     let mut texts = Vec::new(alloc);
     texts.push(Text {
         name: output,
@@ -262,16 +230,12 @@ fn reply_of_upgrade<'a>(
     })
 }
 
-/// Returns the text of a certificate with this fingerprint, in place of its own; `cert` is its text.
-fn restamped_text(alloc: Global, stamp: &Stamp, cert: &[u8]) -> Result<Vec<u8>, NoMemory>
-    requires { HasCertificate cert.now (λ claim. ⊤) }
-    ensures { IfOk result (λ text. HasCertificate cert.now (λ claim. text.items ≡ cert_text (restamped (stamp_view stamp.now) claim))) }
+/// Returns the text of a certificate with this fingerprint, in place of its own.
+fn restamped_text(alloc: Global, stamp: &Stamp, cert: Certificate) -> Result<Vec<u8>, NoMemory>
+    requires { IsWellFormed (claim_of cert) }
+    ensures { IfOk result (λ text. text.items ≡ cert_text (restamped (stamp_view stamp.now) (claim_of cert))) }
 {
-    let mut stated = match read_cert(alloc, cert) {
-        Ok(stated) => stated,
-        // It is the text of a certificate, so memory ran out.
-        Err(_) => return Err(AllocError),
-    };
+    let mut stated = cert;
     stated.stamp = Some(*stamp);
     let mut text = Vec::new(alloc);
     push_cert(&mut text, &stated)?;

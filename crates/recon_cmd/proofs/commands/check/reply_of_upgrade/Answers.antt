@@ -1,5 +1,5 @@
 use Rattle.std.proofs.Common.{◌≡◌, ap, ◌∙◌, ◌++◌, List, [], ◌∷◌}
-use Rattle.cert_text.specs.Certificates.{stamp_view}
+use Rattle.cert_text.specs.Certificates.{claim_of, stamp_view}
 use Rattle.command_run.specs.Replies.{texts_of}
 use Rattle.command_run.specs.declared.reply.Text.{Text}
 use Rattle.recon_cmd.proofs.CheckReplies.{upgraded}
@@ -12,7 +12,6 @@ returns c =
     (c.in_ok-push.ensures.items
     ∙ ap (λ (texts : List Text). texts ++ (record { name = c.args.output; bytes = c.in_ok-text.text } ∷ []))
     c.new-texts.ensures.items) in
-    λ inside faces.
-    upgraded c.args.output.now c.in_ok-text.text.items c.in_ok-line.line.items c.args.cert.now (stamp_view c.args.stamp.now)
-    inside faces c.args.cost (texts_of c.push.new.self.items)
+    upgraded c.args.output.now c.in_ok-text.text.items c.in_ok-line.line.items (stamp_view c.args.stamp.now)
+    (claim_of c.args.shown.cert) c.args.shown.cost (texts_of c.push.new.self.items)
     writes_is c.in_ok-line.ensures c.in_ok-text.ensures

@@ -1,22 +1,52 @@
-use Rattle.std.proofs.Common.{refl, subst}
+use Rattle.std.proofs.Common.{ap, ◌∙◌, refl, ℕ, List, [], Option}
+use Rattle.std.proofs.lemmas.Result.{IfOk-weaker}
 use Rattle.cert_text.specs.Certificates.{stamp_view}
 use Rattle.scan.specs.Views.{shown_of}
-use Rattle.recon_check.specs.Answers.{IsAnswer}
-use Rattle.recon_check.specs.declared.answer.Answer.{Answer as Verdict}
+use Rattle.command_run.specs.Answers.{Answer}
+use Rattle.command_run.specs.Replies.{answer_of}
+use Rattle.command_run.specs.declared.status.Status.{Status}
+use Rattle.command_run.specs.declared.status.Status.TheVariants.{Done, No}
+use Rattle.recon_check.specs.Found.{answer_found}
+use Rattle.recon_cmd.specs.Check.{output_of}
 use Rattle.recon_cmd.specs.OptionViews.{options_view}
-use Rattle.recon_cmd.proofs.CheckReplies.{result_decided, yes_has_text}
+use Rattle.recon_cmd.proofs.CheckReplies.{no_said, verdict_given, yes_said, yes_written}
 use Rattle.recon_cmd.proofs.commands.check.reply_to_texts.Goals as goal
 
-pub reply_to_verdict-requires : goal.reply_to_verdict-requires
-reply_to_verdict-requires g c = λ inside faces cost is.
-    yes_has_text (shown_of c.args.scan.now.scan) c.args.asked.now.options.now.settings (stamp_view c.args.scan.now.stamp) c.args.texts.now.mesh.now
-    c.args.texts.now.cert.now inside faces cost
-    (subst (λ (v : Verdict).
-    IsAnswer (shown_of c.args.scan.now.scan) c.args.asked.now.options.now.settings (stamp_view c.args.scan.now.stamp) c.args.texts.now.mesh.now
-    c.args.texts.now.cert.now v) is c.in-Ok.ensures.answer)
+-- the answer that says a line
+said_as : Status → List ℕ → Answer
+said_as status line = record { status = status; reads = 3; writes = []; line = line }
 
-pub returns-in-Ok : goal.returns-in-Ok
-returns-in-Ok g c =
-    result_decided c.reply_to_verdict.result _ (options_view c.args.asked.now.options.now) (stamp_view c.args.scan.now.stamp)
-    (shown_of c.args.scan.now.scan) c.args.texts.now.mesh.now c.args.texts.now.cert.now c.args.asked.now.options.now.settings c.in-Ok.verdict
-    refl refl c.in-Ok.ensures.answer c.reply_to_verdict.ensures
+pub returns-in_ok-line-in-None : goal.returns-in_ok-line-in-None
+unfolding said_as
+returns-in_ok-line-in-None g c =
+    let asked = c.args.asked.now in
+    let stamp = stamp_view c.args.scan.now.stamp in
+    verdict_given (output_of asked.names.now) (options_view asked.options.now) stamp (shown_of c.args.scan.now.scan)
+    c.args.texts.now.mesh.now c.args.texts.now.cert.now asked.options.now.settings (answer_found c.in_ok-shown.field-0) _ refl refl
+    c.in_ok-shown.ensures.answer
+    (yes_said (output_of asked.names.now) stamp c.args.texts.now.cert.now (answer_found c.in_ok-shown.field-0) c.in-Yes.shown.inside
+    c.in-Yes.shown.faces c.in-Yes.shown.cost _ (ap (λ o. output_of (record asked.names.now { output = o })) c.in-None.is)
+    (ap answer_found c.in-Yes.is) (c.said.ensures ∙ ap (said_as Done) c.in_ok-line-in-None.ensures))
+
+pub returns-in-Some : goal.returns-in-Some
+returns-in-Some g c =
+    let asked = c.args.asked.now in
+    let stamp = stamp_view c.args.scan.now.stamp in
+    IfOk-weaker c.reply_of_upgrade.result _ _ (λ reply is.
+    verdict_given (output_of asked.names.now) (options_view asked.options.now) stamp (shown_of c.args.scan.now.scan)
+    c.args.texts.now.mesh.now c.args.texts.now.cert.now asked.options.now.settings (answer_found c.in_ok-shown.field-0) (answer_of 3 reply)
+    refl refl c.in_ok-shown.ensures.answer
+    (yes_written (output_of asked.names.now) c.in-Some.output.now stamp c.args.texts.now.cert.now c.in_ok-shown.field-0 c.in-Yes.shown
+    (answer_of 3 reply) (ap (λ o. output_of (record asked.names.now { output = o })) c.in-Some.is) c.in-Yes.is
+    c.in_ok-shown.ensures.parsed is)) c.reply_of_upgrade.ensures
+
+pub returns-in_ok-line-in-No : goal.returns-in_ok-line-in-No
+unfolding said_as
+returns-in_ok-line-in-No g c =
+    let asked = c.args.asked.now in
+    let stamp = stamp_view c.args.scan.now.stamp in
+    verdict_given (output_of asked.names.now) (options_view asked.options.now) stamp (shown_of c.args.scan.now.scan)
+    c.args.texts.now.mesh.now c.args.texts.now.cert.now asked.options.now.settings (answer_found c.in_ok-shown.field-0) _ refl refl
+    c.in_ok-shown.ensures.answer
+    (no_said (output_of asked.names.now) stamp c.args.texts.now.cert.now (answer_found c.in_ok-shown.field-0) c.in-No.reason _
+    (ap answer_found c.in-No.is) (c.said-in-No.ensures ∙ ap (said_as No) c.in_ok-line-in-No.ensures))

@@ -7,7 +7,7 @@ use Rattle.recon_cmd.proofs.commands.check.restamped_text.Goals as goal
 
 pub push_cert-requires : goal.push_cert-requires
 push_cert-requires c =
-    let formed = c.in-Ok.ensures.ok.0 in
+    let formed = c.requires in
     record {
       stamp = version_of (Some c.args.stamp.now);
       counts = formed.counts;
@@ -18,12 +18,6 @@ push_cert-requires c =
 
 pub returns : goal.returns
 returns c =
-    record {
-      claim = claim_of c.in-Ok.stated;
-      well_formed = c.in-Ok.ensures.ok.0;
-      text_is = c.in-Ok.ensures.ok.1;
-      holds =
-          c.in_ok-push_cert.ensures.printed
-          ∙ ap (λ (front : List ℕ). front ++ cert_text (restamped (stamp_view c.args.stamp.now) (claim_of c.in-Ok.stated)))
-          c.new-text.ensures.items;
-    }
+    c.in_ok-push_cert.ensures.printed
+    ∙ ap (λ (front : List ℕ). front ++ cert_text (restamped (stamp_view c.args.stamp.now) (claim_of c.args.cert)))
+    c.new-text.ensures.items
