@@ -9,7 +9,7 @@ import random
 import subprocess
 import unittest
 from collections import Counter
-from itertools import combinations
+from itertools import combinations, permutations
 from typing import Any, Sequence
 
 import numpy as np
@@ -341,6 +341,14 @@ class MeshProgram(InFolder):
                 equal((len(split), set(edges_of(new).values())), (16, {1}))
                 equal(edges_of(new), Counter((b, a) for a, b in edges_of(new).elements()))
                 equal(topology(new), 'nonmanifold_edges 0 nonmanifold_vertices 0 pieces 2')
+
+    def test_an_edge_of_a_part_that_is_inside_out(self) -> None:
+        for order in permutations([(100, 0, 0), (0, 100, 0), (70, 70, 0), (-70, 70, 0)]):
+            points = [*order, (0, 0, -50), (0, 0, 50)]
+            a, b, c, d = map(points.index, [(100, 0, 0), (0, 100, 0), (70, 70, 0), (-70, 70, 0)])
+            faces = [(4, a, 5), (4, 5, b), (4, b, a), (5, a, b), (4, 5, c), (4, d, 5), (4, c, d), (5, d, c)]
+            split, new = self.finish(points, faces, 'manifold=yes', 'flips=no')
+            equal((len(split), topology(new)), (8, 'nonmanifold_edges 0 nonmanifold_vertices 0 pieces 2'))
 
     def finish(self, points: list[Place], faces: Sequence[Any], *options: str) -> Solid:
         """The points and faces that `finish` writes of this mesh."""

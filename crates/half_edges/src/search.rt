@@ -51,20 +51,22 @@ fn link(twins: &mut [u32], one: u32, other: u32) {
 }
 
 /// Pairs half edges in their order around an edge: each that rises with the last one before it that falls and is not paired yet. The
-/// order is a circle, so it is passed twice.
+/// order is a circle, so those that rise before all that fall are paired at the end.
 fn link_wedges(alloc: Global, order: &[Wing], twins: &mut [u32]) -> Result<(), NoMemory> {
     let mut waiting: Vec<u32> = Vec::new(alloc);
-    let mut left = order.len() / 2;
-    for _ in 0..2 {
-        for wing in order {
-            if !wing.rises {
-                waiting.push(wing.number)?;
-            } else if left > 0 {
-                if let Some(last) = waiting.pop() {
-                    link(twins, wing.number, last);
-                    left -= 1;
-                }
-            }
+    let mut early: Vec<u32> = Vec::new(alloc);
+    for wing in order {
+        if !wing.rises {
+            waiting.push(wing.number)?;
+        } else if let Some(last) = waiting.pop() {
+            link(twins, wing.number, last);
+        } else {
+            early.push(wing.number)?;
+        }
+    }
+    for number in &early {
+        if let Some(last) = waiting.pop() {
+            link(twins, *number, last);
         }
     }
     Ok(())
