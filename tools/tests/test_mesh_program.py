@@ -342,6 +342,17 @@ class MeshProgram(InFolder):
                 equal(edges_of(new), Counter((b, a) for a, b in edges_of(new).elements()))
                 equal(topology(new), 'nonmanifold_edges 0 nonmanifold_vertices 0 pieces 2')
 
+    def test_a_cavity_that_touches_the_outside_in_an_edge(self) -> None:
+        hollow = [(1, 1, 1), (2, 2, 1)]
+        cells = [(x, y, z) for x in range(3) for y in range(3) for z in range(3) if (x, y, z) not in hollow]
+        points, faces = joined(*(cube(100 * x, 100 * y, 100 * z) for x, y, z in cells))
+        faces = [face for face in faces if turned(face[::-1]) not in faces]
+        equal((len(points), [count for count in edges_of(faces).values() if count > 1]), (64, [2, 2]))
+        for options, count, pieces in ((('manifold=yes',), 66, 2), (('manifold=yes', 'flips=no'), 66, 2), (('pieces=1', 'manifold=yes'), 58, 1)):
+            split, new = self.finish(points, faces, *options)
+            equal((len(split), set(edges_of(new).values())), (count, {1}))
+            equal(topology(new), f'nonmanifold_edges 0 nonmanifold_vertices 0 pieces {pieces}')
+
     def test_an_edge_of_a_part_that_is_inside_out(self) -> None:
         for order in permutations([(100, 0, 0), (0, 100, 0), (70, 70, 0), (-70, 70, 0)]):
             points = [*order, (0, 0, -50), (0, 0, 50)]

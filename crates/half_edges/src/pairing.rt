@@ -34,7 +34,7 @@ impl From<NoMemory> for PairingError {
 /// Returns the twin of each half edge of a closed mesh.
 ///
 /// Which half edges are paired where more than two faces meet in an edge is not promised: it goes by the wedges of the solid around the
-/// edge, as exact orientations tell them. The edges are sorted, and all else is linear.
+/// edge, as exact orientations tell them, and by how these are connected. The edges are sorted, and all else is linear.
 pub fn pair(alloc: Global, mesh: &Mesh) -> Result<Vec<u32>, PairingError>
     requires { IsMesh mesh.now.points.items mesh.now.faces.items }
     ensures paired { IfOk result (λ twins. ArePaired mesh.now.faces.items twins.items) }

@@ -1,9 +1,11 @@
 //! Finds the twins of half edges. No clause depends on it, since twins are verified afterwards.
 //!
 //! Half edges are sorted by their edge. Two that run opposite ways along an edge with two faces are twins. Where more faces meet, they
-//! are ordered around the edge by exact orientations, and each that leaves the solid is paired with the one that entered it last.
+//! are ordered around the edge by exact orientations, and each that leaves the solid is paired with the one that entered it last. At the
+//! end two pairs of an edge exchange their twins where copies of its vertices could not separate them ([`crate::exchange`]).
 
 use crate::NoMemory;
+use crate::exchange::exchange_twins;
 use crate::wings::{Wing, wings_of};
 use geo_sign::Point;
 use std::alloc::Global;
@@ -41,7 +43,7 @@ fn halves_of(alloc: Global, faces: &[[u32; 3]]) -> Result<Vec<Half>, NoMemory> {
 }
 
 /// Makes two half edges twins.
-fn link(twins: &mut [u32], one: u32, other: u32) {
+pub(crate) fn link(twins: &mut [u32], one: u32, other: u32) {
     if (one as usize) < twins.len() {
         twins[one as usize] = other;
     }
@@ -90,6 +92,27 @@ fn link_run(
     link_wedges(alloc, &order, twins)
 }
 
+/// Pairs the half edges of each edge.
+fn link_all(
+    alloc: Global,
+    points: &[Point],
+    faces: &[[u32; 3]],
+    halves: &[Half],
+    twins: &mut [u32],
+) -> Result<(), NoMemory> {
+    let mut run: Vec<Half> = Vec::new(alloc);
+    let mut key = 0u64;
+    for half in halves {
+        if half.key != key {
+            link_run(alloc, points, faces, &run, twins)?;
+            run.clear();
+        }
+        key = half.key;
+        run.push(*half)?;
+    }
+    link_run(alloc, points, faces, &run, twins)
+}
+
 /// Returns the twin of each half edge as [`crate::pair`] finds it, unverified: a hint. Those for which none is found get the greatest number.
 pub fn find_twins(
     alloc: Global,
@@ -98,16 +121,7 @@ pub fn find_twins(
 ) -> Result<Vec<u32>, NoMemory> {
     let halves = halves_of(alloc, faces)?;
     let mut twins = vec![in alloc; u32::MAX; halves.len()]?;
-    let mut run: Vec<Half> = Vec::new(alloc);
-    let mut key = 0u64;
-    for half in &halves {
-        if half.key != key {
-            link_run(alloc, points, faces, &run, &mut twins)?;
-            run.clear();
-        }
-        key = half.key;
-        run.push(*half)?;
-    }
-    link_run(alloc, points, faces, &run, &mut twins)?;
+    link_all(alloc, points, faces, &halves, &mut twins)?;
+    exchange_twins(alloc, &halves, &mut twins)?;
     Ok(twins)
 }

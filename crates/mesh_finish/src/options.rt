@@ -24,8 +24,8 @@ pub enum Step {
 pub enum FinishError {
     /// The mesh is not closed: this is its smallest edge that occurs another number of times than its reverse.
     NotClosed(UnbalancedEdge),
-    /// What the search of this step found did not pass its verification. For pairs, pieces and umbrellas this was never seen; vertices
-    /// cannot be split where the same two umbrellas meet in an edge more than once.
+    /// What the search of this step found did not pass its verification. This was never seen: half edges are paired so that no two
+    /// umbrellas meet in an edge more than once, so vertices can be split.
     Unverified(Step),
     /// Out of memory.
     NoMemory,
