@@ -11,6 +11,11 @@ use crate::search::{Half, link};
 use crate::wings::{after, before};
 use std::alloc::Global;
 
+/// How many half edges in one direction are compared at one edge. More occur only in meshes that were made for it, and comparing all pairs of
+/// many would take too long.
+const MOST_COMPARED: usize = 64;
+
+/// Returns the twin of a half edge, or the greatest number, if it has none.
 fn twin_of(twins: &[u32], h: u32) -> u32 {
     match twins.get(h as usize) {
         Some(twin) => *twin,
@@ -43,7 +48,7 @@ fn exchange(twins: &mut [u32], one: u32, other: u32) {
     link(twins, other, here);
 }
 
-/// Exchanges twins until no two pairs of an edge belong to the same umbrella at both of its ends.
+/// Exchanges twins until no two pairs of an edge belong to the same umbrella at both of its ends, of the first [`MOST_COMPARED`] at each edge.
 pub(crate) fn exchange_twins(
     alloc: Global,
     halves: &[Half],
@@ -56,7 +61,7 @@ pub(crate) fn exchange_twins(
             rising.clear();
         }
         key = half.key;
-        if half.rises {
+        if half.rises && rising.len() < MOST_COMPARED {
             for other in &rising {
                 exchange(twins, *other, half.number);
             }
