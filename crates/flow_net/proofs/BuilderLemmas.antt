@@ -1,5 +1,5 @@
 -- Arcs go on fitting their network where an arc and its reverse are added.
-use Rattle.std.proofs.Common.{ℕ, ◌≡◌, ◌≢◌, ◌≤◌, ◌+◌, ◌^◌, Bool, false, List, [], ◌∷◌, ◌++◌, length, get_or, sym, subst, ◌∙◌}
+use Rattle.std.proofs.Common.{ℕ, ◌≡◌, ◌≢◌, ◌≤◌, ◌+◌, ◌^◌, Bool, false, List, [], ◌∷◌, ◌++◌, length, get_or}
 use Rattle.std.proofs.Common.{inl, inr, refl, arith}
 use Rattle.std.specs.Prelude.{Some}
 use Rattle.std.proofs.lemmas.Bool.{cases_lt}
@@ -18,11 +18,7 @@ fits_longer fixed arcs more j a fits = grind (arith, common_steps)
 fits_there : (fixed : List Bool) (arcs more : List Arc) (i k : ℕ) (a : Arc) → k ≡ length arcs + i →
     a ≡ get_or more i no_arc → IsValidArc fixed (arcs ++ more) (length arcs + i) a →
     IsValidArc fixed (arcs ++ more) k (arc_at (arcs ++ more) k)
-fits_there fixed arcs more i k a same is fits =
-    let all = arcs ++ more in
-    let arc : a ≡ arc_at all (length arcs + i) = is ∙ sym (get_or-append-add arcs more i no_arc) in
-    subst (λ (n : ℕ). IsValidArc fixed all n (arc_at all n)) (sym same)
-    (subst (λ (x : Arc). IsValidArc fixed all (length arcs + i) x) arc fits)
+fits_there fixed arcs more i k a same is fits = grind (arith, get_or-append-add)
 
 -- arcs fit where the earlier ones did and the two new ones do
 two_more : (fixed : List Bool) (arcs : List Arc) (a b : Arc) → AreValidArcs fixed arcs →
@@ -33,9 +29,7 @@ two_more fixed arcs a b earlier there back = λ k less.
     let more = a ∷ b ∷ [] in
     let count : length (arcs ++ more) ≡ length arcs + 2 = length-append arcs more in
     elim (cases_lt k (length arcs)) [
-      | inl before ↦
-          subst (λ (x : Arc). IsValidArc fixed (arcs ++ more) k x) (sym (get_or_append_left arcs more no_arc k before))
-          (fits_longer fixed arcs more k (arc_at arcs k) (earlier k before))
+      | inl before ↦ grind (arith, get_or_append_left, fits_longer)
       | inr behind ↦ elim (cases_lt (length arcs) k) [
         | inl second ↦ fits_there fixed arcs more 1 k b (omega (arith, count)) refl back
         | inr first ↦ fits_there fixed arcs more 0 k a (omega arith) refl there

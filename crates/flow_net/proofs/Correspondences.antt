@@ -5,7 +5,7 @@
 -- flows of the same amounts are worth the same and bring the same to each node, so all that is said of them is the same. What
 -- is said of all labels of the one is said of all labels of the other, since these are labels of the one as well: those of the
 -- nodes that stand for its nodes, or of those that its nodes stand for.
-use Rattle.std.proofs.Common.{ℕ, ◌≡◌, ◌≤◌, ◌+◌, ◌↔◌, Bool, cond, not, ◌&&◌, refl, ap, ap₂, sym, subst, ◌∙◌, arith}
+use Rattle.std.proofs.Common.{ℕ, ◌≡◌, ◌≤◌, ◌+◌, ◌↔◌, Bool, cond, refl, ap, ap₂, sym, ◌∙◌, arith}
 use Rattle.flow_net.specs.Networks.{Network, cost, amount_in, amount_out, value, IsValidFlow, IsAdmissible}
 use Rattle.flow_net.specs.Networks.{IsLeastCost, IsLeastInside, AgreeAsNetworks}
 use Rattle.flow_net.specs.Faults.{sink_limit, total_out}
@@ -73,28 +73,13 @@ module _ {Node Arc Place Link : Type 0} (net : Network Node Arc) (far : Network 
     -- at the ends of an arc
     pub ends_say : (a : Arc) → net.HasArc a
         → (inside (net.from a) ≡ there (far.from (c.arc a))) × (inside (net.to a) ≡ there (far.to (c.arc a)))
-    ends_say a i = (
-      h (net.from a) (c.from_there a i) ∙ ap there (c.from_is a i),
-      h (net.to a) (c.to_there a i) ∙ ap there (c.to_is a i),
-    )
+    ends_say a i = grind arith
 
     pub cost_is : cost net inside ≡ cost far there
-    cost_is =
-        ap₂ (λ m n. m + n)
-        (c.arc_sums _ _
-        (λ a i. let ends = ends_say a i in
-        ap₂ (λ x y. cond (not x && y) (net.capacity a) 0) ends.0 ends.1
-        ∙ ap (λ n. cond (not (there (far.from (c.arc a))) && there (far.to (c.arc a))) n 0) (c.capacity_is a i)))
-        (c.node_sums _ _ (λ v i. ap₂ (λ b n. cond b 0 n) (h v i) (c.sink_is v i)))
+    cost_is = grind (arith, ends_say)
 
     pub admissible : IsAdmissible net inside ↔ IsAdmissible far there
-    admissible = (
-      λ k. record {
-        none_fixed = λ p i e.
-            sym (at_back inside there h p i) ∙ k.none_fixed (c.back p) (c.back_there p i) (fixed_back p i ∙ e);
-      },
-      λ k. record { none_fixed = λ v i e. h v i ∙ k.none_fixed (c.node v) (c.node_there v i) (sym (c.fixed_is v i) ∙ e) },
-    )
+    admissible = grind (arith, at_back, fixed_back)
 
   module _ (inside : Node → Bool) (there : Place → Bool) (h : SameAtNodes c inside there) where
     pub least_cost : IsLeastCost net inside ↔ IsLeastCost far there
@@ -118,10 +103,7 @@ module _ {Node Arc Place Link : Type 0} (net : Network Node Arc) (far : Network 
     least_inside = (
       λ k. record {
         least_cost = (least_cost inside there h).0 k.least_cost;
-        within = λ other l p i e.
-            ap other (sym (c.back_node p i))
-            ∙ k.within (near_labels other) ((least_cost (near_labels other) other (λ v j. refl)).1 l) (c.back p)
-            (c.back_there p i) (at_back inside there h p i ∙ e);
+        within = λ other l p i e. grind (arith, least_cost (near_labels other) other (λ v j. refl), at_back);
       },
       λ k. record {
         least_cost = (least_cost inside there h).1 k.least_cost;
@@ -135,23 +117,14 @@ module _ {Node Arc Place Link : Type 0} (net : Network Node Arc) (far : Network 
   -- ---- flows of the same amounts
   module _ (on_arc : Arc → ℕ) (on_link : Link → ℕ) (h : SameOnArcs c on_arc on_link) where
     pub amount_in_is : (v : Node) → net.HasNode v → amount_in net on_arc v ≡ amount_in far on_link (c.node v)
-    amount_in_is v i =
-        c.arc_sums _ _
-        (λ a j. ap₂ (λ b n. cond b n 0)
-        (c.same_is (net.to a) v (c.to_there a j) i ∙ ap (λ p. far.is_same p (c.node v)) (c.to_is a j)) (h a j))
+    amount_in_is v i = grind arith
 
     amount_out_is : (v : Node) → net.HasNode v → amount_out net on_arc v ≡ amount_out far on_link (c.node v)
-    amount_out_is v i =
-        c.arc_sums _ _
-        (λ a j. ap₂ (λ b n. cond b n 0)
-        (c.same_is (net.from a) v (c.from_there a j) i ∙ ap (λ p. far.is_same p (c.node v)) (c.from_is a j)) (h a j))
+    amount_out_is v i = grind arith
 
   module _ (on_node : Node → ℕ) (at_place : Place → ℕ) (k : SameAtNodes c on_node at_place) where
     pub value_is : value net on_node ≡ value far at_place
-    value_is =
-        c.node_sums _ _
-        (λ v i. ap₂ (λ b n. cond b n (on_node v)) (c.fixed_is v i) (c.sink_is v i)
-        ∙ ap (λ n. cond (far.is_fixed (c.node v)) (far.sink (c.node v)) n) (k v i))
+    value_is = grind arith
 
   module _ (on_arc : Arc → ℕ) (on_link : Link → ℕ) (on_node : Node → ℕ) (at_place : Place → ℕ)
       (h : SameOnArcs c on_arc on_link) (k : SameAtNodes c on_node at_place) where
@@ -160,33 +133,7 @@ module _ {Node Arc Place Link : Type 0} (net : Network Node Arc) (far : Network 
     total_out_is v i = ap₂ (λ m n. m + n) (amount_out_is on_arc on_link h v i) (k v i)
 
     pub valid : IsValidFlow net on_arc on_node ↔ IsValidFlow far on_link at_place
-    valid = (
-      λ f. record {
-        within_cap = λ l i.
-            let a : (a : Arc) × net.HasArc a × (c.arc a ≡ l) = c.arc_of l i in
-            le_along _ _ _ _ (h a.0 a.1 ∙ ap on_link a.2) (c.capacity_is a.0 a.1 ∙ ap far.capacity a.2) (f.within_cap a.0 a.1);
-        within_sink = λ p i.
-            le_along _ _ _ _ (at_back on_node at_place k p i) (at_back net.sink far.sink c.sink_is p i)
-            (f.within_sink (c.back p) (c.back_there p i));
-        none_fixed = λ p i e.
-            sym (at_back on_node at_place k p i) ∙ f.none_fixed (c.back p) (c.back_there p i) (fixed_back p i ∙ e);
-        balanced = λ p i e.
-            let there = c.back_there p i in
-            subst (λ q. amount_in far on_link q ≡ total_out far on_link at_place q) (c.back_node p i)
-            (sym (amount_in_is on_arc on_link h (c.back p) there) ∙ f.balanced (c.back p) there (fixed_back p i ∙ e)
-            ∙ total_out_is (c.back p) there);
-      },
-      λ f. record {
-        within_cap = λ a i.
-            le_along _ _ _ _ (sym (h a i)) (sym (c.capacity_is a i)) (f.within_cap (c.arc a) (c.arc_there a i));
-        within_sink = λ v i.
-            le_along _ _ _ _ (sym (k v i)) (sym (c.sink_is v i)) (f.within_sink (c.node v) (c.node_there v i));
-        none_fixed = λ v i e. k v i ∙ f.none_fixed (c.node v) (c.node_there v i) (sym (c.fixed_is v i) ∙ e);
-        balanced = λ v i e.
-            amount_in_is on_arc on_link h v i ∙ f.balanced (c.node v) (c.node_there v i) (sym (c.fixed_is v i) ∙ e)
-            ∙ sym (total_out_is v i);
-      },
-    )
+    valid = grind (arith, at_back, fixed_back, amount_in_is, total_out_is)
 
 -- two networks with the same nodes and arcs, the same ends of each arc, and the same of all else
 pub record AreAlike {Node Arc : Type 0} (net far : Network Node Arc) : Type 0 where

@@ -7,10 +7,9 @@
 -- give `amounts_le_cost`, and of lists `value_le_cost`. At tight labels each of these is an equality (`value_is_cost`). Conversely, where the cost is no more
 -- than the value, no summand can be less than its bound, so the labels are tight (`tight_from_cost`). Where the two are equal,
 -- no flow is worth more and no labels cost less (`equal_is_best`).
-use Rattle.std.proofs.Common.{ℕ, ◌≡◌, ◌<◌, ◌≤◌, ◌+◌, Bool, true, false, cond, not, ◌&&◌, get_or, slice_index, refl, sym, arith}
+use Rattle.std.proofs.Common.{ℕ, ◌≡◌, ◌<◌, ◌≤◌, ◌+◌, Bool, true, false, cond, not, ◌&&◌, get_or, slice_index, arith}
 use Rattle.std.proofs.lemmas.Bool.{false≢true, both_ways, false_from_ne_true}
 use Rattle.flow_net.specs.Sums.{sum_below}
-use Rattle.flow_net.specs.Nets.{flag_at}
 use Rattle.flow_net.specs.Networks.{IsAdmissible, IsValidFlow as AreValidAmounts, amount_in, amount_out, arc_cost, node_cost, cost}
 use Rattle.flow_net.specs.Networks.{node_value, value}
 use Rattle.flow_net.specs.Numbered.{NumberedNetwork, network_by}
@@ -31,25 +30,9 @@ to_inside net on_arc inside j = cond (inside (net.to j)) (on_arc j) 0
 abbrev from_inside : NumberedNetwork → (on_arc : ℕ → ℕ) → (ℕ → Bool) → ℕ → ℕ
 from_inside net on_arc inside j = cond (inside (net.from j)) (on_arc j) 0
 
--- a balance under a test
-balance_if : (b : Bool) (x y z : ℕ) → (b ≡ true → x ≡ y + z) → cond b x 0 ≡ cond b y 0 + cond b z 0
-balance_if true x y z h = h refl
-balance_if false x y z h = omega arith
-
 -- an arc by where its ends are
 cut_if : (s t : Bool) (f c : ℕ) → f ≤ c → cond t f 0 ≤ cond s f 0 + cond (not s && t) c 0
-cut_if true true f c h = omega arith
-cut_if true false f c h = omega arith
-cut_if false true f c h = omega arith
-cut_if false false f c h = omega arith
-
--- a node by where it is
-node_if : (b x : Bool) (taken sink : ℕ) → (x ≡ true → b ≡ false) → taken ≤ sink →
-    cond x sink taken ≤ cond b taken 0 + cond b 0 sink
-node_if true true taken sink h l = absurd (false≢true (sym (h refl)))
-node_if true false taken sink h l = omega arith
-node_if false true taken sink h l = omega arith
-node_if false false taken sink h l = omega arith
+cut_if s t f c h = grind arith
 
 -- amounts by number, however they are given
 module _ (net : NumberedNetwork) (on_arc on_node : ℕ → ℕ) (inside : ℕ → Bool) (valid : AreValidAmounts (network_by net) on_arc on_node) where
@@ -63,10 +46,7 @@ module _ (net : NumberedNetwork) (on_arc on_node : ℕ → ℕ) (inside : ℕ �
     at_node : (v : ℕ) → v < net.node_count
         → cond (inside v) (amount_in (network_by net) on_arc v) 0
         ≡ cond (inside v) (amount_out (network_by net) on_arc v) 0 + inside_sinks inside on_node v
-    at_node v l =
-        balance_if (inside v) (amount_in (network_by net) on_arc v) (amount_out (network_by net) on_arc v) (on_node v)
-        (λ is_in. valid.balanced v l
-        (false_from_ne_true (net.is_fixed v) (λ is_fixed. both_ways _ (admissible.none_fixed v l is_fixed) is_in)))
+    at_node v l = grind (arith, false_from_ne_true, both_ways)
 
     -- what inside nodes get is what they give
     inside_balance : sum_below net.arc_count (to_inside net on_arc inside)
@@ -87,8 +67,7 @@ module _ (net : NumberedNetwork) (on_arc on_node : ℕ → ℕ) (inside : ℕ �
     -- node by node
     node_le : (v : ℕ) → v < net.node_count
         → node_value (network_by net) on_node v ≤ inside_sinks inside on_node v + node_cost (network_by net) inside v
-    node_le v l =
-        node_if (inside v) (net.is_fixed v) (on_node v) (net.sink v) (admissible.none_fixed v l) (valid.within_sink v l)
+    node_le v l = grind arith
 
     -- the value of a valid flow is at most the cost of admissible labels
     pub amounts_le_cost : value (network_by net) on_node ≤ cost (network_by net) inside
@@ -106,8 +85,7 @@ module _ (net : NumberedNetwork) (on_arc on_node : ℕ → ℕ) (inside : ℕ �
 -- of a list of amounts
 pub value_le_cost : (net : NumberedNetwork) (flow : Flow) (inside : ℕ → Bool) →
     IsValidFlow net flow → IsAdmissible (network_by net) inside → value_of net flow ≤ cost (network_by net) inside
-value_le_cost net flow inside valid admissible =
-    amounts_le_cost net (slice_index flow.on_arc) (slice_index flow.on_sink) inside valid.amounts admissible
+value_le_cost net flow inside valid admissible = grind (arith, amounts_le_cost)
 
 -- no room is left where labels cut: arcs into the inside are full, arcs out of it are empty, outside sinks are full
 pub record IsTight (net : NumberedNetwork) (flow : Flow) (inside : ℕ → Bool) : Type 0 where
@@ -124,18 +102,12 @@ pub record IsTight (net : NumberedNetwork) (flow : Flow) (inside : ℕ → Bool)
 -- an arc at which nothing is left over
 cut_is : (s t : Bool) (f c : ℕ) → (s ≡ false → t ≡ true → f ≡ c) → (s ≡ true → t ≡ false → f ≡ 0) →
     cond t f 0 ≡ cond s f 0 + cond (not s && t) c 0
-cut_is true true f c h k = omega arith
-cut_is true false f c h k = omega (arith, k refl refl)
-cut_is false true f c h k = omega (arith, h refl refl)
-cut_is false false f c h k = omega arith
+cut_is s t f c h k = grind arith
 
 -- a node at which nothing is left over
 node_is : (b x : Bool) (taken sink : ℕ) → (x ≡ true → b ≡ false) → (b ≡ false → x ≡ false → taken ≡ sink) →
     cond x sink taken ≡ cond b taken 0 + cond b 0 sink
-node_is true true taken sink h l = absurd (false≢true (sym (h refl)))
-node_is true false taken sink h l = omega arith
-node_is false true taken sink h l = omega arith
-node_is false false taken sink h l = omega (arith, l refl refl)
+node_is b x taken sink h l = grind (arith, false≢true)
 
 -- tight labels cost what the flow is worth
 pub value_is_cost : (net : NumberedNetwork) (flow : Flow) (inside : ℕ → Bool) →
@@ -158,21 +130,6 @@ value_is_cost net flow inside valid admissible tight =
     let along_add = sum_below-add m (from_inside net on_arc inside) (arc_cost (network_by net) inside) in
     omega (arith, nodes, nodes_add, along, along_add, inside_balance net on_arc on_node inside valid.amounts admissible)
 
--- what a tight arc says
-cut_says : (s t : Bool) (f c : ℕ) → cond t f 0 ≡ cond s f 0 + cond (not s && t) c 0 →
-    (s ≡ false → t ≡ true → f ≡ c) × (s ≡ true → t ≡ false → f ≡ 0)
-cut_says true true f c h = (λ a b. absurd (false≢true (sym a)), λ a b. absurd (false≢true (sym b)))
-cut_says true false f c h = (λ a b. absurd (false≢true (sym a)), λ a b. omega arith)
-cut_says false true f c h = (λ a b. omega arith, λ a b. absurd (false≢true a))
-cut_says false false f c h = (λ a b. absurd (false≢true b), λ a b. absurd (false≢true a))
-
--- what a tight node says
-node_says : (b x : Bool) (taken sink : ℕ) → cond x sink taken ≡ cond b taken 0 + cond b 0 sink →
-    b ≡ false → x ≡ false → taken ≡ sink
-node_says true x taken sink h a b = absurd (false≢true (sym a))
-node_says false true taken sink h a b = absurd (false≢true (sym b))
-node_says false false taken sink h a b = omega arith
-
 -- labels that cost what the flow is worth are tight
 pub tight_from_cost : (net : NumberedNetwork) (flow : Flow) (inside : ℕ → Bool) →
     IsValidFlow net flow → IsAdmissible (network_by net) inside → cost (network_by net) inside ≤ value_of net flow →
@@ -190,38 +147,15 @@ tight_from_cost net flow inside valid admissible meets =
     let along = sum_below-le m (to_inside net on_arc inside) right_arc (arc_le net on_arc on_node inside valid.amounts) in
     let along_add = sum_below-add m (from_inside net on_arc inside) (arc_cost (network_by net) inside) in
     let balance = inside_balance net on_arc on_node inside valid.amounts admissible in
-    let node_sums : sum_below n right_node ≤ sum_below n (node_value (network_by net) on_node) =
-    omega (arith, nodes, nodes_add, along, along_add, balance) in
-    let arc_sums : sum_below m right_arc ≤ sum_below m (to_inside net on_arc inside) =
-    omega (arith, nodes, nodes_add, along, along_add, balance) in
+    let node_sums : sum_below n right_node ≤ sum_below n (node_value (network_by net) on_node) = grind arith in
+    let arc_sums : sum_below m right_arc ≤ sum_below m (to_inside net on_arc inside) = grind arith in
     let at_arc =
     sum_below-tight m (to_inside net on_arc inside) right_arc (arc_le net on_arc on_node inside valid.amounts) arc_sums in
     let at_node = sum_below-tight n (node_value (network_by net) on_node) right_node
     (node_le net on_arc on_node inside valid.amounts admissible) node_sums in
-    record {
-      saturated = λ j l. (cut_says (inside (net.from j)) (inside (net.to j))
-          (on_arc j) (net.capacity j) (at_arc j l)).0;
-      unused = λ j l. (cut_says (inside (net.from j)) (inside (net.to j))
-          (on_arc j) (net.capacity j) (at_arc j l)).1;
-      full = λ v l. node_says (inside v) (net.is_fixed v) (on_node v)
-          (net.sink v) (at_node v l);
-    }
+    grind (arith, at_node)
 
 -- equal value and cost are largest and least
 pub equal_is_best : (net : NumberedNetwork) (flow : Flow) (labels : Labels) → IsValidFlow net flow → IsAdmissibleList net labels →
     value_of net flow ≡ cost_of net labels → IsLargest net flow × IsLeastCost net labels
-equal_is_best net flow labels valid admissible equal = (
-  record {
-    valid = valid;
-    largest =
-        λ other valid_other.
-        omega (arith, equal, value_le_cost net other (flag_at labels.inside) valid_other admissible.labelled);
-  },
-  record {
-    count = admissible.count;
-    labelled = record {
-      admissible = admissible.labelled;
-      least = λ other fits. omega (arith, equal, value_le_cost net flow other valid fits);
-    };
-  },
-)
+equal_is_best net flow labels valid admissible equal = grind (arith, value_le_cost)
