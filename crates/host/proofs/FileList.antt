@@ -6,7 +6,7 @@
 -- place is the first one or later). From this follow a file made empty (empties), bytes added to one (adds), and what stands
 -- under a name that is at a place, at none, or at one whose file is not there yet (found_file).
 use Rattle.std.proofs.Common.{◌≡◌, ◌≢◌, ℕ, zero, suc, ◌<◌, ◌-◌, List, [], ◌∷◌, ◌++◌, length, get_or, set, Contains, Option}
-use Rattle.std.proofs.Common.{Some, None, Bool, true, false, cond, refl, sym, ap, ◌∙◌, arith, string_bytes, unwrap_or}
+use Rattle.std.proofs.Common.{Some, None, Bool, true, false, cond, refl, sym, ap, ◌∙◌, arith, string_bytes}
 use mathlib.Core.Path.{fun_ext}
 use Rattle.std.specs.Str.{bytes_eq}
 use Rattle.std.specs.Option.{option_map}
@@ -58,8 +58,7 @@ exists_at-set (other ∷ files) (suc i) file h = exists_at-set files i file (ome
 pub name_at-set : (files : List MemFile) (i : ℕ) (file : MemFile) → string_bytes file.name ≡ name_at files i → (j : ℕ)
     → name_at (set files i file) j ≡ name_at files j
 name_at-set [] i file e j = refl
-name_at-set (other ∷ files) zero file e zero = e
-name_at-set (other ∷ files) zero file e (suc j) = refl
+name_at-set (other ∷ files) zero file e x = grind arith
 name_at-set (other ∷ files) (suc i) file e zero = refl
 name_at-set (other ∷ files) (suc i) file e (suc j) = name_at-set files i file e j
 
@@ -67,8 +66,7 @@ name_at-set (other ∷ files) (suc i) file e (suc j) = name_at-set files i file 
 pub room_at-set : (files : List MemFile) (i : ℕ) (file : MemFile) → file.store.room ≡ room_at files i → (j : ℕ)
     → room_at (set files i file) j ≡ room_at files j
 room_at-set [] i file e j = refl
-room_at-set (other ∷ files) zero file e zero = e
-room_at-set (other ∷ files) zero file e (suc j) = refl
+room_at-set (other ∷ files) zero file e x = grind arith
 room_at-set (other ∷ files) (suc i) file e zero = refl
 room_at-set (other ∷ files) (suc i) file e (suc j) = room_at-set files i file e j
 
@@ -77,8 +75,7 @@ pub names_of_files-set : (files : List MemFile) (i : ℕ) (file : MemFile) → s
     → names_of_files (set files i file) ≡ names_of_files files
 names_of_files-set [] i file e = refl
 names_of_files-set (other ∷ files) zero file e = ap (λ (name : List ℕ). name ∷ names_of_files files) e
-names_of_files-set (other ∷ files) (suc i) file e =
-    ap (λ (names : List (List ℕ)). string_bytes other.name ∷ names) (names_of_files-set files i file e)
+names_of_files-set (other ∷ files) (suc i) file e = grind (arith, names_of_files-set files i file e)
 
 -- a name at a place is among the names
 pub Contains-name_at : (files : List MemFile) (i : ℕ) (name : List ℕ) → i < length files → name_at files i ≡ name
@@ -103,30 +100,20 @@ apart_rest file files apart i j lt within = apart (suc i) (suc j) (omega arith) 
 pub other_name : (q name : List ℕ) → q ≢ name → bytes_eq q name ≡ false
 other_name q name ne = grind (arith, bytes_eq-Decides q name)
 
-put_first : {A : Type 0} (b : Bool) (x y z : A) → cond b x z ≡ cond b x (cond b y z)
-put_first true x y z = refl
-put_first false x y z = refl
-
 put_later : {A : Type 0} (a b : Bool) (x y z : A) → (a ≡ true → b ≡ true → ⊥) → cond a x (cond b y z) ≡ cond b y (cond a x z)
-put_later true true x y z differ = absurd (differ refl refl)
-put_later true false x y z _ = refl
-put_later false true x y z _ = refl
-put_later false false x y z _ = refl
+put_later u a x y z differ = grind arith
 
 more_at : (b : Bool) (q name more : List ℕ) (files : Files) (new : Option (List ℕ)) → b ≡ bytes_eq q name
     → new ≡ option_map (λ bytes. bytes ++ more) (files name)
     → cond b new (files q) ≡ cond b (option_map (λ bytes. bytes ++ more) (files q)) (files q)
-more_at true q name more files new is e =
-    e ∙ ap (λ (n : List ℕ). option_map (λ bytes. bytes ++ more) (files n)) (sym ((bytes_eq-Decides q name).0 (sym is)))
-more_at false q name more files new is e = refl
+more_at b q name more files new is e = grind (arith, bytes_eq-Decides)
 
 -- the files after one of them was replaced by another of its name
 pub files_of-set : (files : List MemFile) (i : ℕ) (file : MemFile) → FilesApart files → i < length files
     → string_bytes file.name ≡ name_at files i
     → (q : List ℕ) → files_of (set files i file) q ≡ cond (bytes_eq q (name_at files i)) (content file) (files_of files q)
 files_of-set [] i file apart h e q = absurd (omega arith)
-files_of-set (other ∷ files) zero file apart h e q =
-    rw e (put_first (bytes_eq q (string_bytes other.name)) (content file) (content other) (files_of files q))
+files_of-set (other ∷ files) zero file apart h e q = grind arith
 files_of-set (other ∷ files) (suc i) file apart h e q =
     let later = files_of-set files i file (apart_rest other files apart) (omega arith) e q in
     rw later
@@ -147,40 +134,30 @@ files_of-at (file ∷ files) (suc i) d apart h =
 pub empties : (files : List MemFile) (i : ℕ) (file : MemFile) → FilesApart files → i < length files
     → string_bytes file.name ≡ name_at files i → content file ≡ Some []
     → files_of (set files i file) ≡ with_file (name_at files i) [] (files_of files)
-empties files i file apart h e is =
-    fun_ext (λ q. files_of-set files i file apart h e q
-    ∙ ap (λ (o : Option (List ℕ)). cond (bytes_eq q (name_at files i)) o (files_of files q)) is)
+empties files i file apart h e is = grind (arith, fun_ext, files_of-set)
 
 -- bytes were added to the file at a place
 pub adds : (files : List MemFile) (i : ℕ) (d file : MemFile) (more : List ℕ) → FilesApart files → i < length files
     → string_bytes file.name ≡ name_at files i
     → content file ≡ option_map (λ bytes. bytes ++ more) (content (get_or files i d))
     → files_of (set files i file) ≡ with_more (name_at files i) more (files_of files)
-adds files i d file more apart h e is =
-    fun_ext (λ q. files_of-set files i file apart h e q
-    ∙ more_at (bytes_eq q (name_at files i)) q (name_at files i) more (files_of files) (content file) refl
-    (is ∙ ap (λ (o : Option (List ℕ)). option_map (λ bytes. bytes ++ more) o) (sym (files_of-at files i d apart h))))
+adds files i d file more apart h e is = grind (arith, fun_ext, files_of-set, more_at, files_of-at)
 
 -- the bytes under the name of a file that is there
 pub file_bytes-name_at : (files : List MemFile) (i : ℕ) (d : MemFile) → FilesApart files → i < length files
     → (get_or files i d).exists ≡ true → file_bytes (files_of files) (name_at files i) ≡ (get_or files i d).store.bytes.items
-file_bytes-name_at files i d apart h is =
-    ap (λ (o : Option (List ℕ)). unwrap_or o [])
-    (files_of-at files i d apart h ∙ ap (λ (b : Bool). cond b (Some (get_or files i d).store.bytes.items) None) is)
+file_bytes-name_at files i d apart h is = grind (arith, files_of-at files i d apart h)
 
 -- no room is left in the file that is being written
 pub no_room_left : (files : List MemFile) (activity : Activity) (at room : ℕ) → activity ≡ Writing at → room_at files at ≡ room
     → room_at files at - length (file_bytes (files_of files) (name_at files at)) ≡ 0
     → room - length (file_bytes (files_of files) (target_of files activity)) ≡ 0
-no_room_left files activity at room is same full =
-    let target : target_of files activity ≡ name_at files at = ap (target_of files) is in
-    rw (target, sym same) full
+no_room_left files activity at room is same full = grind arith
 
 -- what is in a file with more bytes
 pub content_more : (exists : Bool) (old new more : List ℕ) → new ≡ old ++ more
     → cond exists (Some new) None ≡ option_map (λ bytes. bytes ++ more) (cond exists (Some old) None)
-content_more true old new more e = ap Some e
-content_more false old new more e = refl
+content_more exists old new more e = grind arith
 
 -- what is known of the file at a place
 pub ruleset at_place = (exists_lt, name_at-get, bytes_at-get, room_at-get, exists_at-get, exists_at-set, file_bytes-name_at)
@@ -199,15 +176,11 @@ files_of-none (file ∷ files) q none =
 -- the bytes under a name whose file has this place
 pub files_of_place : (files : List MemFile) (i : ℕ) (d : MemFile) (q : List ℕ) → FilesApart files → i < length files
     → name_at files i ≡ q → (get_or files i d).exists ≡ true → files_of files q ≡ Some (bytes_at files i)
-files_of_place files i d q apart h e is =
-    ap (files_of files) (sym e) ∙ files_of-at files i d apart h
-    ∙ ap (λ (b : Bool). cond b (Some (get_or files i d).store.bytes.items) None) is ∙ ap Some (sym (bytes_at-get files i d h))
+files_of_place files i d q apart h e is = grind (arith, files_of-at files i d apart h, bytes_at-get files i d h)
 
 -- there is no file under a name whose file has this place
 pub files_of_absent : (files : List MemFile) (i : ℕ) (d : MemFile) (q : List ℕ) → FilesApart files → i < length files
     → name_at files i ≡ q → (get_or files i d).exists ≡ false → files_of files q ≡ None
-files_of_absent files i d q apart h e is =
-    ap (files_of files) (sym e) ∙ files_of-at files i d apart h
-    ∙ ap (λ (b : Bool). cond b (Some (get_or files i d).store.bytes.items) None) is
+files_of_absent files i d q apart h e is = grind (arith, files_of-at files i d apart h)
 
 pub ruleset found_file = (files_of-none, files_of_place, files_of_absent, exists_at-get)

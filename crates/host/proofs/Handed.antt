@@ -15,19 +15,16 @@ AreKept room (file ∷ files) (handed ∷ all) = IsMadeOf room file handed × Ar
 -- one more file was made
 pub AreKept-push : (room : ℕ) (files : List MemFile) (all : List Handed) (file : MemFile) (handed : Handed)
     → AreKept room files all → IsMadeOf room file handed → AreKept room (files ++ file ∷ []) (all ++ handed ∷ [])
-AreKept-push room [] [] file handed kept is = (is, tt)
-AreKept-push room [] (first ∷ all) file handed kept is = absurd kept
+AreKept-push room [] all file handed kept is = grind (arith, kept)
 AreKept-push room (first ∷ files) [] file handed kept is = absurd kept
 AreKept-push room (first ∷ files) (taken ∷ all) file handed kept is =
     (kept.0, AreKept-push room files all file handed kept.1 is)
 
 kept_file_at : (room : ℕ) (files : List MemFile) (all : List Handed) → AreKept room files all → (name : List ℕ)
     → files_of files name ≡ files_handed all name
-kept_file_at room [] [] kept name = refl
-kept_file_at room [] (taken ∷ all) kept name = absurd kept
+kept_file_at room [] all kept name = grind (arith, kept)
 kept_file_at room (first ∷ files) [] kept name = absurd kept
-kept_file_at room (first ∷ files) (taken ∷ all) kept name =
-    rw (kept.0.name, kept.0.bytes, kept_file_at room files all kept.1 name) refl
+kept_file_at room (first ∷ files) (taken ∷ all) kept name = grind (arith, kept_file_at room files all kept.1 name)
 
 -- they are the files that were handed in
 pub kept_files_of : (room : ℕ) (files : List MemFile) (all : List Handed) → AreKept room files all
@@ -37,22 +34,19 @@ kept_files_of room files all kept = fun_ext (kept_file_at room files all kept)
 -- they have the names that were handed in
 pub kept_names : (room : ℕ) (files : List MemFile) (all : List Handed) → AreKept room files all
     → names_of_files files ≡ names_handed all
-kept_names room [] [] kept = refl
-kept_names room [] (taken ∷ all) kept = absurd kept
+kept_names room [] all kept = grind (arith, kept)
 kept_names room (first ∷ files) [] kept = absurd kept
 kept_names room (first ∷ files) (taken ∷ all) kept = rw (kept.0.name, kept_names room files all kept.1) refl
 
 kept_name : (room : ℕ) (files : List MemFile) (all : List Handed) → AreKept room files all → (i : ℕ)
     → name_at files i ≡ handed_name all i
-kept_name room [] [] kept i = refl
-kept_name room [] (taken ∷ all) kept i = absurd kept
+kept_name room [] all kept i = grind (arith, kept)
 kept_name room (first ∷ files) [] kept i = absurd kept
 kept_name room (first ∷ files) (taken ∷ all) kept zero = kept.0.name
 kept_name room (first ∷ files) (taken ∷ all) kept (suc i) = kept_name room files all kept.1 i
 
 kept_count : (room : ℕ) (files : List MemFile) (all : List Handed) → AreKept room files all → length files ≡ length all
-kept_count room [] [] kept = refl
-kept_count room [] (taken ∷ all) kept = absurd kept
+kept_count room [] all kept = grind (arith, kept)
 kept_count room (first ∷ files) [] kept = absurd kept
 kept_count room (first ∷ files) (taken ∷ all) kept = let rest = kept_count room files all kept.1 in omega arith
 
