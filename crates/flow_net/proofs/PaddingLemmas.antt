@@ -4,10 +4,10 @@
 -- flows on it, which is no more. So all sums are those over the real nodes and the arcs that are there. Labels of these are labels of
 -- all numbers with the rest outside, at the same cost, so what costs least among all numbers costs least among these. So too a flow of
 -- these is one of all numbers with 0 elsewhere, of the same value, which is at most the cost of labels (`kept_at_most`).
-use Rattle.std.proofs.Common.{ℕ, ◌≡◌, ◌<◌, ◌≤◌, ◌+◌, ◌==◌, Bool, true, false, cond, not, ◌&&◌, refl, ap, ap₂, sym, ◌∙◌, arith}
+use Rattle.std.proofs.Common.{ℕ, ◌≡◌, ◌<◌, ◌≤◌, ◌==◌, Bool, true, false, cond, ◌&&◌, sym, ◌∙◌, arith}
 use Rattle.std.proofs.lemmas.Bool.{false≢true, true_from_ne_false}
 use Rattle.flow_net.specs.Sums.{sum_below}
-use Rattle.flow_net.specs.Networks.{Network, arc_cost, node_cost, cost, node_value, value, IsValidFlow}
+use Rattle.flow_net.specs.Networks.{Network, cost, value, IsValidFlow}
 use Rattle.flow_net.specs.Networks.{IsAdmissible, IsLeastCost, IsLeastInside}
 use Rattle.flow_net.specs.Numbered.{NumberedNetwork, network_by}
 use Rattle.flow_net.specs.Paddings.{IsPadding, kept, IsJudgedAlike}
@@ -16,47 +16,22 @@ use Rattle.flow_net.proofs.SumLemmas.{sum_below-cong}
 
 -- an amount that is 0 where a test fails is the same under the test
 under : (b : Bool) (n : ℕ) → (b ≡ false → n ≡ 0) → n ≡ cond b n 0
-under true n h = refl
-under false n h = h refl
-
-zero_or : (b : Bool) (n : ℕ) → n ≡ 0 → cond b n 0 ≡ 0
-zero_or true n e = e
-zero_or false n e = refl
-
-or_zero : (b : Bool) (n : ℕ) → n ≡ 0 → cond b 0 n ≡ 0
-or_zero true n e = refl
-or_zero false n e = e
+under b n h = grind arith
 
 same_if : (b : Bool) (m n : ℕ) → (b ≡ true → m ≡ n) → cond b m 0 ≡ cond b n 0
-same_if true m n h = h refl
-same_if false m n h = refl
+same_if b m n h = grind arith
 
 and_first : (a b : Bool) → (a && b) ≡ true → a ≡ true
-and_first true b e = refl
-and_first false b e = absurd (false≢true e)
-
-and_out : (a b : Bool) → (b ≡ true → a ≡ false) → (a && b) ≡ false
-and_out true true h = absurd (false≢true (sym (h refl)))
-and_out true false h = refl
-and_out false b h = refl
+and_first a b e = grind (arith, false≢true)
 
 and_keeps : (a b : Bool) → b ≡ true → (a && b) ≡ a
-and_keeps true b e = e
-and_keeps false b e = refl
-
-either_first : (a b : Bool) (n : ℕ) → cond a (cond b n 0) 0 ≡ cond b (cond a n 0) 0
-either_first true true n = refl
-either_first true false n = refl
-either_first false true n = refl
-either_first false false n = refl
+and_keeps a b e = grind arith
 
 at_most_if : (b : Bool) (m n : ℕ) → (b ≡ true → m ≤ n) → cond b m 0 ≤ n
-at_most_if true m n h = h refl
-at_most_if false m n h = omega arith
+at_most_if b m n h = grind arith
 
 zero_if : (b : Bool) (n : ℕ) → (b ≡ true → n ≡ 0) → cond b n 0 ≡ 0
-zero_if true n h = h refl
-zero_if false n h = refl
+zero_if b n h = grind arith
 
 module _ (net : NumberedNetwork) (real there : ℕ → Bool) (padding : IsPadding net real there) where
   abbrev far : Network ℕ ℕ
@@ -72,41 +47,20 @@ module _ (net : NumberedNetwork) (real there : ℕ → Bool) (padding : IsPaddin
   arc_sums f h = sum_below-cong net.arc_count f (λ j. cond (there j) (f j) 0) (λ j l. under (there j) (f j) (h j l))
 
   cost_is : (inside : ℕ → Bool) → cost (network_by net) inside ≡ cost far inside
-  cost_is inside =
-      ap₂ (λ m n. m + n)
-      (arc_sums (arc_cost (network_by net) inside) (λ j l none. zero_or _ (net.capacity j) (padding.no_capacity j l none)))
-      (node_sums (node_cost (network_by net) inside) (λ v l not_real. or_zero (inside v) (net.sink v)
-      (padding.no_sink v l not_real)))
+  cost_is inside = grind (arith, arc_sums, node_sums)
 
   value_is : (on_node : ℕ → ℕ) → value (network_by net) on_node ≡ value far on_node
-  value_is on_node =
-      node_sums (node_value (network_by net) on_node)
-      (λ v l not_real.
-      ap (λ b. cond b (net.sink v) (on_node v)) (padding.fixed v l not_real) ∙ padding.no_sink v l not_real)
+  value_is on_node = grind (arith, node_sums)
 
   -- labels of real nodes, with the rest outside
   abbrev spread : (ℕ → Bool) → ℕ → Bool
   spread inside v = inside v && real v
 
   spread_cost : (inside : ℕ → Bool) → cost (network_by net) (spread inside) ≡ cost far inside
-  spread_cost inside =
-      cost_is (spread inside)
-      ∙ ap₂ (λ m n. m + n)
-      (sum_below-cong net.arc_count (λ j. cond (there j) (arc_cost far (spread inside) j) 0)
-      (λ j. cond (there j) (arc_cost far inside j) 0)
-      (λ j l. same_if (there j) (arc_cost far (spread inside) j) (arc_cost far inside j)
-      (λ is. ap₂ (λ s t. cond (not s && t) (net.capacity j) 0)
-      (and_keeps (inside (net.from j)) (real (net.from j)) (padding.from_real j l is))
-      (and_keeps (inside (net.to j)) (real (net.to j)) (padding.to_real j l is)))))
-      (sum_below-cong net.node_count (λ v. cond (real v) (node_cost far (spread inside) v) 0)
-      (λ v. cond (real v) (node_cost far inside v) 0)
-      (λ v l. same_if (real v) (node_cost far (spread inside) v) (node_cost far inside v)
-      (λ is. ap (λ s. cond s 0 (net.sink v)) (and_keeps (inside v) (real v) is))))
+  spread_cost inside = grind (arith, cost_is, sum_below-cong, same_if, and_keeps)
 
   spread_admissible : (inside : ℕ → Bool) → IsAdmissible far inside → IsAdmissible (network_by net) (spread inside)
-  spread_admissible inside admissible = record {
-    none_fixed = λ v l fixed. and_out (inside v) (real v) (λ is. admissible.none_fixed v (l, is) fixed);
-  }
+  spread_admissible inside admissible = grind arith
 
   kept_admissible : (inside : ℕ → Bool) → IsAdmissible (network_by net) inside → IsAdmissible far inside
   kept_admissible inside admissible = record { none_fixed = λ v is fixed. admissible.none_fixed v is.0 fixed }
@@ -114,19 +68,12 @@ module _ (net : NumberedNetwork) (real there : ℕ → Bool) (padding : IsPaddin
   kept_least : (inside : ℕ → Bool) → IsLeastCost (network_by net) inside → IsLeastCost far inside
   kept_least inside is_least = record {
     admissible = kept_admissible inside is_least.admissible;
-    least = λ other admissible.
-        let low = is_least.least (spread other) (spread_admissible other admissible) in
-        omega (arith, low, cost_is inside, spread_cost other);
+    least = λ other admissible. grind (arith, spread_admissible other admissible, cost_is, spread_cost other);
   }
 
   spread_least : (inside other : ℕ → Bool) → IsLeastCost (network_by net) inside → IsLeastCost far other
       → IsLeastCost (network_by net) (spread other)
-  spread_least inside other is_least other_least = record {
-    admissible = spread_admissible other other_least.admissible;
-    least = λ third admissible.
-        let low = other_least.least third (kept_admissible third admissible) in
-        omega (arith, low, cost_is third, spread_cost other);
-  }
+  spread_least inside other is_least other_least = grind (arith, spread_admissible, kept_admissible, cost_is, spread_cost)
 
   kept_least_inside : (inside : ℕ → Bool) → IsLeastInside (network_by net) inside → IsLeastInside far inside
   kept_least_inside inside is_least = record {
@@ -139,21 +86,10 @@ module _ (net : NumberedNetwork) (real there : ℕ → Bool) (padding : IsPaddin
   -- what enters or leaves a node over arcs that are not there is nothing
   none_flows : (on_arc on_node : ℕ → ℕ) → IsValidFlow (network_by net) on_arc on_node → (pick : ℕ → Bool) (j : ℕ)
       → j < net.arc_count → there j ≡ false → cond (pick j) (on_arc j) 0 ≡ 0
-  none_flows on_arc on_node valid pick j l none =
-      let within = valid.within_cap j l in
-      zero_or (pick j) (on_arc j) (omega (arith, within, padding.no_capacity j l none))
+  none_flows on_arc on_node valid pick j l none = grind arith
 
   kept_valid : (on_arc on_node : ℕ → ℕ) → IsValidFlow (network_by net) on_arc on_node → IsValidFlow far on_arc on_node
-  kept_valid on_arc on_node valid = record {
-    within_cap = λ j is. valid.within_cap j is.0;
-    within_sink = λ v is. valid.within_sink v is.0;
-    none_fixed = λ v is fixed. valid.none_fixed v is.0 fixed;
-    balanced = λ v is free.
-        let entering = arc_sums (λ j. cond (net.to j == v) (on_arc j) 0) (none_flows on_arc on_node valid (λ j. net.to j == v)) in
-        let leaving =
-        arc_sums (λ j. cond (net.from j == v) (on_arc j) 0) (none_flows on_arc on_node valid (λ j. net.from j == v)) in
-        sym entering ∙ valid.balanced v is.0 free ∙ ap (λ n. n + on_node v) leaving;
-  }
+  kept_valid on_arc on_node valid = grind (arith, arc_sums, none_flows)
 
   -- amounts of real nodes and of arcs that are there, with 0 elsewhere
   abbrev at_nodes : (ℕ → ℕ) → ℕ → ℕ
@@ -165,9 +101,7 @@ module _ (net : NumberedNetwork) (real there : ℕ → Bool) (padding : IsPaddin
   -- what they bring to a node, or take from it
   spread_flows : (on_arc : ℕ → ℕ) (pick : ℕ → Bool)
       → sum_below net.arc_count (λ j. cond (pick j) (on_arcs on_arc j) 0) ≡ far.arc_sum (λ j. cond (pick j) (on_arc j) 0)
-  spread_flows on_arc pick =
-      sum_below-cong net.arc_count (λ j. cond (pick j) (on_arcs on_arc j) 0) (λ j. cond (there j) (cond (pick j) (on_arc j) 0) 0)
-      (λ j l. either_first (pick j) (there j) (on_arc j))
+  spread_flows on_arc pick = grind (arith, sum_below-cong)
 
   spread_valid : (on_arc on_node : ℕ → ℕ) → IsValidFlow far on_arc on_node
       → IsValidFlow (network_by net) (on_arcs on_arc) (at_nodes on_node)
@@ -178,17 +112,11 @@ module _ (net : NumberedNetwork) (real there : ℕ → Bool) (padding : IsPaddin
     balanced = λ v l free.
         let is : real v ≡ true =
         true_from_ne_false (real v) (λ not_real. false≢true (sym free ∙ padding.fixed v l not_real)) in
-        spread_flows on_arc (λ j. net.to j == v) ∙ valid.balanced v (l, is) free
-        ∙ ap₂ (λ m n. m + n) (sym (spread_flows on_arc (λ j. net.from j == v))) (sym (ap (λ b. cond b (on_node v) 0) is));
+        grind (arith, spread_flows on_arc (λ j. net.to j == v), spread_flows on_arc (λ j. net.from j == v));
   }
 
   spread_value : (on_node : ℕ → ℕ) → value (network_by net) (at_nodes on_node) ≡ value far on_node
-  spread_value on_node =
-      value_is (at_nodes on_node)
-      ∙ sum_below-cong net.node_count (λ v. cond (real v) (node_value far (at_nodes on_node) v) 0)
-      (λ v. cond (real v) (node_value far on_node v) 0)
-      (λ v l. same_if (real v) (node_value far (at_nodes on_node) v) (node_value far on_node v)
-      (λ is. ap (λ b. cond (net.is_fixed v) (net.sink v) (cond b (on_node v) 0)) is))
+  spread_value on_node = grind (arith, value_is, sum_below-cong)
 
   -- the value of a valid flow is at most the cost of admissible labels: so it is where both are spread over all numbers
   kept_at_most : (on_arc on_node : ℕ → ℕ) (inside : ℕ → Bool) → IsValidFlow far on_arc on_node → IsAdmissible far inside

@@ -1,6 +1,6 @@
 -- Sums of weights: as sums over all sights, by one sight more, and how large they get.
-use Rattle.std.proofs.Common.{ℕ, ◌+◌, ◌*◌, ◌≤◌, ◌≡◌, refl, sym, ap, ◌∙◌, arith, Bool, true, false, cond, List, [], ◌∷◌}
-use Rattle.std.proofs.Common.{length, take, get_or, filter, All}
+use Rattle.std.proofs.Common.{ℕ, ◌+◌, ◌*◌, ◌≤◌, ◌≡◌, refl, arith, Bool, true, false, cond, List, [], ◌∷◌}
+use Rattle.std.proofs.Common.{length, take, filter, All}
 use Rattle.std.specs.List.{sum_by}
 use Rattle.std.proofs.lemmas.List.Sums.{sum_by-cons, sum_by-le, sum_by-take-le}
 use Rattle.flow_net.specs.declared.votes.Sight.{Sight}
@@ -25,24 +25,15 @@ weight_where-cons test sight sights = by (test sight)
 pub weight_is_sum : (test : Sight → Bool) (sights : List Sight) → weight_where test sights ≡ sum_by (added_where test) sights
 weight_is_sum test [] = refl
 weight_is_sum test (sight ∷ sights) =
-    weight_where-cons test sight sights
-    ∙ (ap (λ (n : ℕ). added_where test sight + n) (weight_is_sum test sights)
-    ∙ sym (sum_by-cons (added_where test) sight sights))
+    grind (arith, weight_where-cons test sight sights, weight_is_sum test sights, sum_by-cons (added_where test) sight sights)
 
 added_where_small : (test : Sight → Bool) (sight : Sight) → IsWeighed sight → added_where test sight ≤ SIGHT_WEIGHT_LIMIT
-added_where_small test sight h = by (test sight)
-  where
-    by : (passes : Bool) → cond passes sight.weight 0 ≤ SIGHT_WEIGHT_LIMIT
-    by true = h.at_most
-    by false = omega arith
+added_where_small test sight h = grind arith
 
 -- at most 255 a sight
 pub weight_where-le : (test : Sight → Bool) (sights : List Sight) → All IsWeighed sights
     → weight_where test sights ≤ length sights * 255
-weight_where-le test sights h =
-    let n =
-    sum_by-le (added_where test) SIGHT_WEIGHT_LIMIT sights (λ k d l. added_where_small test (get_or sights k d) (h k d l)) in
-    omega (arith, n, weight_is_sum test sights)
+weight_where-le test sights h = grind (arith, sum_by-le, added_where_small, weight_is_sum)
 
 -- which is below 2 ^ 31
 pub weight_where_small : (test : Sight → Bool) (sights : List Sight) → IsSightList sights
