@@ -1,14 +1,11 @@
 -- Each capacity and each sink fits.
 use Rattle.std.proofs.Common.{ℕ, ◌*◌, ◌<◌, ◌≤◌, ◌^◌, arith, List}
 use Rattle.std.proofs.Math.Nat.{mul-le-mul}
-use Rattle.flow_net.specs.declared.votes.Sight.{Sight}
 use Rattle.flow_net.specs.declared.votes.TheConstants.{WEIGHT_LIMIT}
 use Rattle.flow_net.specs.Weights.{IsSightList}
 use Rattle.flow_net.proofs.WeightLemmas.{weight_where_small}
 use Rattle.geo_sign.specs.Tetrahedron.{DirectedFacet}
-use Rattle.geo_sign.specs.Sights.{is_crossed, is_behind}
-use Rattle.visibility.specs.Scenes.{Scene, scanner_point}
-use Rattle.geo_sign.specs.Cells.{written}
+use Rattle.visibility.specs.Scenes.{Scene}
 use Rattle.visibility.specs.Votes.{crossings, capacity, sights_before, sink}
 
 -- at most 65,535 votes for each of at most 8,388,608 sights of a weight of at most 255
@@ -17,27 +14,15 @@ few_votes vote weight h l = let m : vote * weight ≤ WEIGHT_LIMIT * 2139095040 
 
 pub crossings_small : (s : Scene) (f : DirectedFacet) → IsSightList s.sights → crossings s f ≤ 2139095040
 unfolding crossings
-crossings_small s f few =
-    weight_where_small (λ (sight : Sight). is_crossed s.vertices sight.vertex (scanner_point s.scanners sight.scanner) f)
-    s.sights few
+crossings_small s f few = grind (arith, weight_where_small)
 
 pub sights_before_small : (s : Scene) (row : List ℕ) → IsSightList s.sights → sights_before s row ≤ 2139095040
 unfolding sights_before
-sights_before_small s row few =
-    weight_where_small
-    (λ (sight : Sight). is_behind s.vertices sight.vertex (scanner_point s.scanners sight.scanner) (written s.vertices row))
-    s.sights few
+sights_before_small s row few = grind (arith, weight_where_small)
 
 pub capacity_fits : (s : Scene) (f : DirectedFacet) → IsSightList s.sights → capacity s f < 2 ^ 48
-capacity_fits s f few =
-    let votes : s.settings.vote * crossings s f ≤ 140185593446400 =
-    few_votes s.settings.vote (crossings s f) s.settings.vote_at_most (crossings_small s f few) in
-    let smooth : s.settings.smooth ≤ WEIGHT_LIMIT = s.settings.smooth_at_most in
-    omega (arith, votes, smooth)
+capacity_fits s f few = grind (arith, few_votes, crossings_small)
 
 pub sink_fits : (s : Scene) (row : List ℕ) → IsSightList s.sights → sink s row < 2 ^ 48
 unfolding sink
-sink_fits s row few =
-    let votes : s.settings.vote * sights_before s row ≤ 140185593446400 =
-    few_votes s.settings.vote (sights_before s row) s.settings.vote_at_most (sights_before_small s row few) in
-    omega (arith, votes)
+sink_fits s row few = grind (arith, few_votes, sights_before_small)

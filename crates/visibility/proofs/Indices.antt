@@ -1,6 +1,6 @@
 -- Places in lists of rows, and sums over lists as sums over indices.
-use Rattle.std.proofs.Common.{ℕ, ◌<◌, ◌≤◌, ◌≡◌, refl, ap, sym, subst, ◌∙◌, arith, Bool, true, false, ⊎_elim}
-use Rattle.std.proofs.Common.{List, [], ◌∷◌, length, get_or, map, AllPairs, Contains}
+use Rattle.std.proofs.Common.{ℕ, ◌<◌, ◌≡◌, refl, ap, sym, ◌∙◌, arith, Bool, true, ⊎_elim, List, [], ◌∷◌, length, get_or, map}
+use Rattle.std.proofs.Common.{AllPairs, Contains}
 use Rattle.std.specs.List.{Any, position_or_len}
 use Rattle.std.specs.Str.{bytes_eq}
 use Rattle.std.proofs.lemmas.Slice.Eq.{bytes_eq-Decides}
@@ -24,16 +24,12 @@ not_before_itself (x ∷ xs) h =
 
 -- rising rows stand once
 pub once_rising : (rows : List (List ℕ)) → AllPairs IsBefore rows → AreOnce rows
-once_rising rows r i j d l m e =
-    not_before_itself (get_or rows j d) (subst (λ (u : List ℕ). IsBefore u (get_or rows j d)) e (r i j d l m))
+once_rising rows r i j d l m e = grind (arith, not_before_itself, r i j d l m)
 
 -- rows that stand once, at two indices
 pub same_index : (rows : List (List ℕ)) (i j : ℕ) → AreOnce rows → i < length rows → j < length rows
     → get_or rows i [] ≡ get_or rows j [] → i ≡ j
-same_index rows i j r li lj e =
-    let first : ¬ (i < j) = λ l. r i j [] l lj e in
-    let second : ¬ (j < i) = λ l. r j i [] l li (sym e) in
-    omega (arith, first, second)
+same_index rows i j r li lj e = grind arith
 
 -- and so in another order
 pub once_permuted : (xs ys : List (List ℕ)) → IsPermutation xs ys → AreOnce xs → AreOnce ys
@@ -49,12 +45,7 @@ once_permuted xs ys p h =
 
 -- the first index where a test holds is within the list, where it holds somewhere
 pub first_within : {X : Type 0} (p : X → Bool) (xs : List X) → Any (λ x. p x ≡ true) xs → position_or_len p xs < length xs
-first_within p xs h =
-    lt_of_not-le (λ (l : length xs ≤ position_or_len p xs).
-    let fails : p (get_or xs h.0 h.1) ≡ false = fails_before_first p xs h.0 h.1 (omega (arith, h.2)) in
-    let holds : p h.1 ≡ true = h.4 in
-    let here : get_or xs h.0 h.1 ≡ h.1 = h.3 in
-    cc (fails, holds, here))
+first_within p xs h = grind (arith, lt_of_not-le, fails_before_first)
 
 -- the index of a row that stands once
 pub row_index_at : (rows : List (List ℕ)) (k : ℕ) → AreOnce rows → k < length rows → row_index rows (get_or rows k []) ≡ k

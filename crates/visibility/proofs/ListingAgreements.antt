@@ -1,6 +1,6 @@
 -- Two listings of one scene judge labels and flows alike: they have the same cells and facets, a sum does not depend on the
 -- order, and the two cells of a facet are the same.
-use Rattle.std.proofs.Common.{ℕ, ◌≡◌, refl, ap, sym, subst, ◌∙◌, List, Contains}
+use Rattle.std.proofs.Common.{ℕ, ◌≡◌, refl, ap, sym, subst, ◌∙◌, List, Contains, arith}
 use Rattle.std.specs.List.Sorted.{IsPermutation}
 use Rattle.std.proofs.lemmas.List.Sorted.{IsPermutation-sym, IsPermutation-trans, Contains-permutation, sum_by-IsPermutation}
 use Rattle.flow_net.proofs.Correspondences.{AreAlike, agree_as_networks}

@@ -2,7 +2,7 @@
 --
 -- A listing is the rising lists in another order, so it has the same members, each once. The two cells of a facet that has a
 -- capacity are the same ones, so such a facet has a capacity over both.
-use Rattle.std.proofs.Common.{ℕ, refl, ap, sym, ◌∙◌, List, Contains}
+use Rattle.std.proofs.Common.{ℕ, ap, sym, ◌∙◌, List, Contains, arith}
 use Rattle.std.proofs.lemmas.List.Sorted.{IsPermutation-refl, IsPermutation-sym, Contains-permutation}
 use Rattle.geo_sign.specs.Cells.{IsRisingCell}
 use Rattle.geo_sign.specs.Tetrahedron.{DirectedFacet, facet_at, turned}
@@ -15,14 +15,7 @@ use Rattle.visibility.proofs.Indices.{once_rising, once_permuted}
 
 -- ---- the rising lists are a listing
 pub rising_listing : (s : Scene) (complex : Complex) → IsComplexOf s complex → IsListingOf s complex
-rising_listing s complex o =
-    record {
-      complex = complex;
-      complex_is = o;
-      cells_are = IsPermutation-refl complex.cells;
-      facets_are = IsPermutation-refl complex.facets;
-      same_cell = λ f h. refl;
-    }
+rising_listing s complex o = grind (arith, IsPermutation-refl)
 
 -- ---- each once, and nothing else
 module _ (s : Scene) (listing : Complex) (h : IsListingOf s listing) where

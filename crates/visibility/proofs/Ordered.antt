@@ -1,10 +1,10 @@
 -- How facets that have a capacity are written, and that there is one list of them.
-use Rattle.std.proofs.Common.{ℕ, ◌<◌, ◌≡◌, ◌≢◌, ap, subst, ◌∙◌, arith, Bool, true, false, cond, ◌&&◌, ◌||◌, ◌⊎◌, inl, inr, ⊎_elim}
-use Rattle.std.proofs.Common.{List, [], ◌∷◌, eqb, Contains, pos, int_lt}
-use Rattle.std.proofs.lemmas.Bool.{and_parts, or_cases, eqb-true}
+use Rattle.std.proofs.Common.{ℕ, ◌<◌, ◌≡◌, ◌≢◌, ap, subst, ◌∙◌, arith, Bool, true, ◌||◌, ◌⊎◌, inl, inr, ⊎_elim, List, [], ◌∷◌}
+use Rattle.std.proofs.Common.{Contains}
+use Rattle.std.proofs.lemmas.Bool.{or_cases, eqb-true}
 use Rattle.geo_sign.proofs.CellRows.{last_below}
-use Rattle.geo_sign.specs.Tetrahedron.{Tetrahedron, DirectedFacet, tetrahedron, facet_of, facet_at, numbers_of, is_same_facet, is_among}
-use Rattle.geo_sign.specs.Vertices.{Vertices, orientation_of}
+use Rattle.geo_sign.specs.Tetrahedron.{Tetrahedron, DirectedFacet, facet_of, facet_at, numbers_of, is_same_facet, is_among}
+use Rattle.geo_sign.specs.Vertices.{Vertices}
 use Rattle.geo_sign.specs.Cells.{IsRisingCell, written}
 use Rattle.geo_sign.proofs.Rising.{rising_law, cell_list_law}
 use Rattle.visibility.specs.Scenes.{Scene}
@@ -14,10 +14,7 @@ use Rattle.visibility.specs.Laws.{IsOrdered, FacetsAreOrdered, OneComplex}
 
 -- the numbers of two facets that pass the test
 same_numbers : (f g : DirectedFacet) → is_same_facet f g ≡ true → (f.a ≡ g.a) × (f.b ≡ g.b) × (f.c ≡ g.c)
-same_numbers f g h =
-    let p = and_parts (eqb f.a g.a && eqb f.b g.b) (eqb f.c g.c) h in
-    let q = and_parts (eqb f.a g.a) (eqb f.b g.b) p.0 in
-    (eqb-true f.a g.a q.0, eqb-true f.b g.b q.1, eqb-true f.c g.c p.1)
+same_numbers f g h = grind (arith, eqb-true)
 
 -- which of the four directed facets it is
 abbrev pub OneOf : Tetrahedron → DirectedFacet → Type 0
@@ -54,64 +51,14 @@ shape v (a ∷ []) h = elim h [ ]
 shape v (a ∷ b ∷ []) h = elim h [ ]
 shape v (a ∷ b ∷ c ∷ []) h = elim h [ ]
 shape v (a ∷ b ∷ c ∷ d ∷ e ∷ rest) h = elim h [ ]
-shape v (a ∷ b ∷ c ∷ d ∷ []) h = by (int_lt (pos 0) (orientation_of v a b c d)) (last_below v a b c d h.3)
-  where
-    by : (positive : Bool) → d < v.count → IsRisingShape v.count (cond positive (tetrahedron a b c d) (tetrahedron a b d c))
-    by true l = record {
-      a_b = h.0;
-      b_c = h.1;
-      b_d = omega (arith, h.1, h.2);
-      c_d = omega (arith, h.2);
-      c_below = omega (arith, h.2);
-      d_below = l;
-    }
-    by false l = record {
-      a_b = h.0;
-      b_c = omega (arith, h.1, h.2);
-      b_d = h.1;
-      c_d = omega (arith, h.2);
-      c_below = l;
-      d_below = omega (arith, h.2);
-    }
+shape v (a ∷ b ∷ c ∷ d ∷ []) h = grind (arith, last_below)
 
 ordered_one : (n : ℕ) (t : Tetrahedron) (f : List ℕ) → f ≡ numbers_of (facet_at f) → IsRisingShape n t → OneOf t (facet_at f)
     → IsOrdered n f
-ordered_one n t f three s (inl p) =
-    record {
-      three = three;
-      first_second = omega (arith, s.b_d);
-      first_third = omega (arith, s.b_c);
-      apart = omega (arith, s.c_d);
-      second_below = omega (arith, s.d_below);
-      third_below = omega (arith, s.c_below);
-    }
-ordered_one n t f three s (inr (inl p)) =
-    record {
-      three = three;
-      first_second = omega (arith, s.a_b, s.b_c);
-      first_third = omega (arith, s.a_b, s.b_d);
-      apart = omega (arith, s.c_d);
-      second_below = omega (arith, s.c_below);
-      third_below = omega (arith, s.d_below);
-    }
-ordered_one n t f three s (inr (inr (inl p))) =
-    record {
-      three = three;
-      first_second = omega (arith, s.a_b, s.b_d);
-      first_third = omega (arith, s.a_b);
-      apart = omega (arith, s.b_d);
-      second_below = omega (arith, s.d_below);
-      third_below = omega (arith, s.b_d, s.d_below);
-    }
-ordered_one n t f three s (inr (inr (inr p))) =
-    record {
-      three = three;
-      first_second = omega (arith, s.a_b);
-      first_third = omega (arith, s.a_b, s.b_c);
-      apart = omega (arith, s.b_c);
-      second_below = omega (arith, s.b_c, s.c_below);
-      third_below = omega (arith, s.c_below);
-    }
+ordered_one n t f three s (inl p) = grind arith
+ordered_one n t f three s (inr (inl p)) = grind arith
+ordered_one n t f three s (inr (inr (inl p))) = grind arith
+ordered_one n t f three s (inr (inr (inr p))) = grind arith
 
 pub facets_are_ordered : FacetsAreOrdered
 facets_are_ordered = λ s complex o f has.

@@ -24,15 +24,10 @@ use Rattle.visibility.proofs.Amounts.{few_votes}
 -- ---- sums
 sum_plus : {X : Type 0} (f g h : X → ℕ) (xs : List X) → ((x : X) → h x ≡ f x + g x) → sum_by h xs ≡ sum_by f xs + sum_by g xs
 sum_plus f g h [] e = refl
-sum_plus f g h (x ∷ xs) e =
-    let n = sum_plus f g h xs e in
-    omega (arith, sum_by-cons h x xs, sum_by-cons f x xs, sum_by-cons g x xs, e x, n)
+sum_plus f g h (x ∷ xs) e = grind (arith, sum_by-cons, sum_plus f g h xs e, e x)
 
 times_sum : {X : Type 0} (n : ℕ) (f : X → ℕ) (xs : List X) → sum_by (λ x. n * f x) xs ≡ n * sum_by f xs
-times_sum n f [] = times_zero n
-  where
-    times_zero : (n : ℕ) → 0 ≡ n * 0
-    times_zero n = omega arith
+times_sum n f [] = grind arith
 times_sum n f (x ∷ xs) =
     let e = times_sum n f xs in
     let d : n * (f x + sum_by f xs) ≡ n * f x + n * sum_by f xs = mul-add n (f x) (sum_by f xs) in
@@ -42,10 +37,7 @@ times_sum n f (x ∷ xs) =
 -- an amount for each that passes
 amount_times : {X : Type 0} (p : X → Bool) (amount : ℕ) (xs : List X)
     → sum_by (λ x. cond (p x) amount 0) xs ≡ amount * count_by p xs
-amount_times p amount [] = none amount
-  where
-    none : (n : ℕ) → 0 ≡ n * 0
-    none n = omega arith
+amount_times p amount [] = grind arith
 amount_times p amount (x ∷ xs) =
     let e = amount_times p amount xs in
     let d : amount * (cond (p x) 1 0 + count_by p xs) ≡ amount * cond (p x) 1 0 + amount * count_by p xs =
@@ -69,8 +61,7 @@ few_pairs {X = X} p xs (y ∷ ys) h =
     let n = few_pairs p xs ys (λ z c. h z (let l = c.1 in (suc c.0, omega (arith, l), c.2))) in
     let s : sum_by (λ x. weight_where (p x) (y ∷ ys)) xs
     ≡ sum_by (λ x. cond (p x y) y.weight 0) xs + sum_by (λ x. weight_where (p x) ys) xs =
-    sum_plus (λ x. cond (p x y) y.weight 0) (λ x. weight_where (p x) ys) (λ x. weight_where (p x) (y ∷ ys)) xs
-    (λ x. weight_where-cons (p x) y ys) in
+    grind (arith, sum_plus, weight_where-cons) in
     let o = at_most_once y.weight (count_by (λ x. p x y) xs) (h y (0, omega arith, refl)) in
     omega (arith, n, s, o, amount_times (λ x. p x y) y.weight xs, sum_by-cons (λ (z : Sight). z.weight) y ys)
 
