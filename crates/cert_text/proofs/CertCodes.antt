@@ -4,10 +4,9 @@
 -- what follows them (IsCode). A number with the byte behind it is one, since no digit is that byte; so are four of them
 -- (four_code, cell_code), a row (flow_code, sink_code), a list behind its length (list_code) and the counts (counts_code).
 -- cert_code puts the parts of a certificate together, one after the other.
-use Rattle.std.proofs.Common.{ℕ, Option, ◌≡◌, ◌<◌, ◌^◌, refl, ap, sym, ◌∙◌, arith, List, [], ◌∷◌, ◌++◌, length, append_assoc}
+use Rattle.std.proofs.Common.{ℕ, Option, ◌≡◌, ◌<◌, ◌^◌, ap, sym, ◌∙◌, arith, List, [], ◌∷◌, ◌++◌, length, append_assoc}
 use Rattle.std.specs.List.{flat_map, All}
 use Rattle.line_text.specs.Numbers.{ended, counted}
-use Rattle.line_text.specs.Facets.{facet_fields}
 use Rattle.line_text.proofs.Codes.{IsCode, behind_same, ended_code, counted_code, code_list}
 use Rattle.line_text.proofs.FacetForms.{facet_code}
 use Rattle.cert_text.specs.declared.certificate.FlowRow.{FlowRow}
@@ -30,17 +29,7 @@ four_parts a b c d end r = simp append_assoc
 
 four_code : (a b c d x y z w end : ℕ) (r s : List ℕ) → end < 48 → IsCellRow (four a b c d) → IsCellRow (four x y z w)
     → cell_fields (four a b c d) end ++ r ≡ cell_fields (four x y z w) end ++ s → (four a b c d ≡ four x y z w) × (r ≡ s)
-four_code a b c d x y z w end r s low k l e =
-    let p =
-    ended_code a x 32 _ _ (omega arith) (omega (arith, k.0, k.1, k.2, k.3)) (omega (arith, l.0, l.1, l.2, l.3))
-    (sym (four_parts a b c d end r) ∙ e ∙ four_parts x y z w end s) in
-    let q = ended_code b y 32 _ _ (omega arith) (omega (arith, k.1, k.2, k.3)) (omega (arith, l.1, l.2, l.3)) p.1 in
-    let t = ended_code c z 32 _ _ (omega arith) (omega (arith, k.2, k.3)) (omega (arith, l.2, l.3)) q.1 in
-    let u = ended_code d w end r s low (omega (arith, k.3)) (omega (arith, l.3)) t.1 in (
-      ap (λ (n : ℕ). four n b c d) p.0
-          ∙ (ap (λ (n : ℕ). four x n c d) q.0 ∙ (ap (λ (n : ℕ). four x y n d) t.0 ∙ ap (λ (n : ℕ). four x y z n) u.0)),
-      u.1,
-    )
+four_code a b c d x y z w end r s low k l e = grind (arith, ended_code, four_parts)
 
 pub record Four (f : List ℕ) : Type 0 where
   pub a : ℕ
@@ -51,21 +40,10 @@ pub record Four (f : List ℕ) : Type 0 where
   pub cell : IsCellRow (four a b c d)
 
 pub four_of : (f : List ℕ) → IsCellRow f → Four f
-four_of [] h = absurd h
-four_of (a ∷ []) h = absurd h
-four_of (a ∷ b ∷ []) h = absurd h
-four_of (a ∷ b ∷ c ∷ []) h = absurd h
-four_of (a ∷ b ∷ c ∷ d ∷ []) h = record { a = a; b = b; c = c; d = d; is = refl; cell = h }
-four_of (a ∷ b ∷ c ∷ d ∷ e ∷ t) h = absurd h
+four_of f h = grind arith
 
 pub cell_code : (end : ℕ) → end < 48 → IsCode IsCellRow (λ c. cell_fields c end)
-cell_code end low f g r s k l e =
-    let p = four_of f k in
-    let q = four_of g l in
-    let m =
-    four_code p.a p.b p.c p.d q.a q.b q.c q.d end r s low p.cell q.cell
-    (ap (λ (t : List ℕ). cell_fields t end ++ r) (sym p.is) ∙ e ∙ ap (λ (t : List ℕ). cell_fields t end ++ s) q.is) in
-    (p.is ∙ m.0 ∙ sym q.is, m.1)
+cell_code end low f g r s k l e = grind (arith, four_of, four_code)
 
 -- ---- rows
 flow_row : List ℕ → ℕ → FlowRow
@@ -76,23 +54,11 @@ sink_row c n = record { cell = c; amount = n }
 
 pub flow_code : IsCode IsFlowRow flow_line
 unfolding flow_row
-flow_code v w r s a b e =
-    let f =
-    facet_code 32 (omega arith) v.facet w.facet _ _ a.facet b.facet
-    (sym (append_assoc (facet_fields v.facet 32) (ended v.amount 10) r) ∙ e
-    ∙ append_assoc (facet_fields w.facet 32) (ended w.amount 10) s) in
-    let n = ended_code v.amount w.amount 10 r s (omega arith) a.fits b.fits f.1 in
-    (ap (λ (x : List ℕ). flow_row x v.amount) f.0 ∙ ap (flow_row w.facet) n.0, n.1)
+flow_code v w r s a b e = grind (arith, facet_code, append_assoc, ended_code)
 
 pub sink_code : IsCode IsSinkRow sink_line
 unfolding sink_row
-sink_code v w r s a b e =
-    let f =
-    cell_code 32 (omega arith) v.cell w.cell _ _ a.cell b.cell
-    (sym (append_assoc (cell_fields v.cell 32) (ended v.amount 10) r) ∙ e
-    ∙ append_assoc (cell_fields w.cell 32) (ended w.amount 10) s) in
-    let n = ended_code v.amount w.amount 10 r s (omega arith) a.fits b.fits f.1 in
-    (ap (λ (x : List ℕ). sink_row x v.amount) f.0 ∙ ap (sink_row w.cell) n.0, n.1)
+sink_code v w r s a b e = grind (arith, cell_code, append_assoc, ended_code)
 
 -- ---- the whole text
 pub list_code : {A : Type 0} (P : A → Type 0) (line : A → List ℕ) (word : List ℕ) → IsCode P line
@@ -119,23 +85,7 @@ counts_parts c r = simp append_assoc
 
 pub counts_code : IsCode FitCounts counts_text
 unfolding counts
-counts_code v w r s a b e =
-    let m =
-    counted_code points_word v.points w.points _ _ (omega (arith, a.points)) (omega (arith, b.points))
-    (sym (counts_parts v r) ∙ e ∙ counts_parts w s) in
-    let n = counted_code scanners_word v.scanners w.scanners _ _ (omega (arith, a.scanners)) (omega (arith, b.scanners)) m.1 in
-    let o = counted_code sights_word v.sights w.sights _ _ (omega (arith, a.sights)) (omega (arith, b.sights)) n.1 in
-    let p = counted_code vote_word v.vote w.vote _ _ (omega (arith, a.vote)) (omega (arith, b.vote)) o.1 in
-    let q = counted_code smooth_word v.smooth w.smooth _ _ (omega (arith, a.smooth)) (omega (arith, b.smooth)) p.1 in
-    let u = counted_code cost_word v.cost w.cost r s a.cost b.cost q.1 in (
-      ap (λ (x : ℕ). counts x v.scanners v.sights v.vote v.smooth v.cost) m.0
-          ∙ (ap (λ (x : ℕ). counts w.points x v.sights v.vote v.smooth v.cost) n.0
-          ∙ (ap (λ (x : ℕ). counts w.points w.scanners x v.vote v.smooth v.cost) o.0
-          ∙ (ap (λ (x : ℕ). counts w.points w.scanners w.sights x v.smooth v.cost) p.0
-          ∙ (ap (λ (x : ℕ). counts w.points w.scanners w.sights w.vote x v.cost) q.0
-          ∙ ap (λ (x : ℕ). counts w.points w.scanners w.sights w.vote w.smooth x) u.0)))),
-      u.1,
-    )
+counts_code v w r s a b e = grind (arith, counted_code, counts_parts)
 
 claim : Option StampView → Counts → List (List ℕ) → List FlowRow → List SinkRow → Claim
 claim v h i f s = record { stamp = v; counts = h; inside = i; flow = f; sink = s }
@@ -146,15 +96,7 @@ pub cert_parts : (c : Claim) (r : List ℕ)
     ++ ((counted inside_word (length c.inside) ++ flat_map cell_line c.inside)
     ++ ((counted flow_word (length c.flow) ++ flat_map flow_line c.flow)
     ++ ((counted sink_word (length c.sink) ++ flat_map sink_line c.sink) ++ (end_line ++ r)))))
-cert_parts c r =
-    append_assoc (version_text c.stamp) _ r
-    ∙ ap (λ (t : List ℕ). version_text c.stamp ++ t) (append_assoc (counts_text c.counts) _ r
-    ∙ ap (λ (t : List ℕ). counts_text c.counts ++ t)
-    (append_assoc (counted inside_word (length c.inside) ++ flat_map cell_line c.inside) _ r
-    ∙ ap (λ (t : List ℕ). (counted inside_word (length c.inside) ++ flat_map cell_line c.inside) ++ t)
-    (append_assoc (counted flow_word (length c.flow) ++ flat_map flow_line c.flow) _ r
-    ∙ ap (λ (t : List ℕ). (counted flow_word (length c.flow) ++ flat_map flow_line c.flow) ++ t)
-    (append_assoc (counted sink_word (length c.sink) ++ flat_map sink_line c.sink) end_line r))))
+cert_parts c r = grind (arith, append_assoc)
 
 pub cert_code : IsCode IsWellFormed cert_text
 unfolding claim

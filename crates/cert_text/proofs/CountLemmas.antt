@@ -1,5 +1,5 @@
 -- The six lines of numbers, one after another.
-use Rattle.std.proofs.Common.{ℕ, ◌≡◌, ap, sym, subst, ◌∙◌, List, ◌++◌}
+use Rattle.std.proofs.Common.{ℕ, ◌≡◌, subst, List, ◌++◌, arith}
 use Rattle.line_text.specs.Numbers.{counted}
 use Rattle.line_text.specs.declared.refusal.LineRefusal.{LineRefusal}
 use Rattle.line_text.specs.Refusals.{RefusedNumber}
@@ -17,9 +17,4 @@ pub counts_are : (c : Counts) (t1 t2 t3 t4 t5 t6 t7 : List ℕ) → t1 ≡ count
     → t2 ≡ counted scanners_word c.scanners ++ t3 → t3 ≡ counted sights_word c.sights ++ t4
     → t4 ≡ counted vote_word c.vote ++ t5 → t5 ≡ counted smooth_word c.smooth ++ t6 → t6 ≡ counted cost_word c.cost ++ t7
     → t1 ≡ counts_text c ++ t7
-counts_are c t1 t2 t3 t4 t5 t6 t7 e1 e2 e3 e4 e5 e6 =
-    e1 ∙ ap (λ (t : List ℕ). counted points_word c.points ++ t)
-    (e2 ∙ ap (λ (t : List ℕ). counted scanners_word c.scanners ++ t) (e3
-    ∙ ap (λ (t : List ℕ). counted sights_word c.sights ++ t)
-    (e4 ∙ ap (λ (t : List ℕ). counted vote_word c.vote ++ t) (e5 ∙ ap (λ (t : List ℕ). counted smooth_word c.smooth ++ t) e6))))
-    ∙ sym (counts_parts c t7)
+counts_are c t1 t2 t3 t4 t5 t6 t7 e1 e2 e3 e4 e5 e6 = grind (arith, counts_parts)

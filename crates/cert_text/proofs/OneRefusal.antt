@@ -4,13 +4,11 @@
 -- CertCodes). So two refusals are in one part, and each part is refused in one way (the `_once` of line_text, put together
 -- in certificate_once). In the same order a good certificate passes each part, and nothing is left to refuse (the `_passed`,
 -- put together in good_passed).
-use Rattle.std.proofs.Common.{ℕ, ◌≡◌, ◌+◌, ◌-◌, ◌^◌, refl, ap, sym, subst, ◌∙◌, arith, List, [], ◌++◌, length, append_assoc}
-use Rattle.std.specs.List.{AllPairs, flat_map}
+use Rattle.std.proofs.Common.{ℕ, ◌≡◌, ◌+◌, ◌-◌, ◌^◌, refl, ap, sym, ◌∙◌, arith, List, [], ◌++◌, length, append_assoc}
+use Rattle.std.specs.List.{flat_map}
 use Rattle.std.proofs.lemmas.List.{map-id, append-nil}
 use Rattle.line_text.specs.Numbers.{counted, BeginsWithNone}
-use Rattle.geo_sign.specs.Rising.{IsBefore}
 use Rattle.line_text.specs.declared.refusal.LineRefusal.{LineRefusal}
-use Rattle.line_text.specs.declared.refusal.LineRefusal.TheVariants as lines
 use Rattle.line_text.specs.Refusals.{line_after, RefusedNumber, AreRows, IsBehindEnd}
 use Rattle.line_text.specs.Lists.{WithMemory}
 use Rattle.line_text.proofs.Fronts.{cut_or_bad_same}
@@ -73,8 +71,7 @@ certificate_once =
     (refused_counts_once (counts_line v)) (counts_passed (counts_line v)) (λ _ _. inside_once (counts_line v + 6)))
 
 cell_list : (rows : List (List ℕ)) → AreCellRows rows → AreRows IsCellRow cell_order rows
-cell_list rows l =
-    record { each = l.each; rising = subst (λ (ks : List (List ℕ)). AllPairs IsBefore ks) (sym (map-id rows)) l.rising }
+cell_list rows l = grind (arith, map-id)
 
 flow_list : (rows : List FlowRow) → IsFlowList rows → AreRows IsFlowRow flow_order rows
 flow_list rows l = record { each = l.each; rising = l.rising }
@@ -91,12 +88,7 @@ lists_parts : (c : Claim)
     ++ (flat_map cell_line c.inside
     ++ (counted flow_word (length c.flow)
     ++ (flat_map flow_line c.flow ++ (counted sink_word (length c.sink) ++ (flat_map sink_line c.sink ++ (end_line ++ []))))))
-lists_parts c =
-    append_assoc (counted inside_word (length c.inside)) (flat_map cell_line c.inside) _
-    ∙ ap (λ (t : List ℕ). counted inside_word (length c.inside) ++ (flat_map cell_line c.inside ++ t))
-    (append_assoc (counted flow_word (length c.flow)) (flat_map flow_line c.flow) _
-    ∙ ap (λ (t : List ℕ). counted flow_word (length c.flow) ++ (flat_map flow_line c.flow ++ t))
-    (append_assoc (counted sink_word (length c.sink)) (flat_map sink_line c.sink) (end_line ++ [])))
+lists_parts c = grind (arith, append_assoc)
 
 lists_passed : (c : Claim) (n : ℕ) (text : List ℕ) → IsWellFormed c
     → text ≡ counted inside_word (length c.inside)
@@ -129,10 +121,4 @@ printed_not_refused c r text w e h = good_passed c text w e h.0 h.1
 -- ---- what reading answers, by what its lines were refused for
 pub refused_so : (l : LineRefusal) (text : List ℕ) (r : CertRefusal) → r ≡ cert_refusal l → WithMemory l (AtCertificate text l)
     → OrNoMemory r (IsRefusedCertificate text r)
-refused_so l text r e h = subst (λ (s : CertRefusal). OrNoMemory s (IsRefusedCertificate text s)) (sym e) (by l h)
-  where
-    by : (m : LineRefusal) → WithMemory m (AtCertificate text m) → OrNoMemory (cert_refusal m) (IsRefusedCertificate text (cert_refusal m))
-    by (lines.BadLine n) k = (lines.BadLine n, k, refl)
-    by (lines.Order n) k = (lines.Order n, k, refl)
-    by lines.Cut k = (lines.Cut, k, refl)
-    by lines.NoMemory k = tt
+refused_so l text r e h = grind arith

@@ -51,11 +51,7 @@ version_passed text r h (Some v) rest w e =
 -- a token that is no digest's digits
 pub no_digest : (text behind token rest : List ℕ) → text ≡ scan_word ++ behind → behind ≡ token ++ (10 ∷ rest) → Lacks 10 token
     → ((digest : List ℕ) → IsDigest digest → ¬ (token ≡ encode_lower digest)) → BeginsWithNone IsDigest scan_line text
-no_digest text behind token rest is cut lacks none = λ digest more h e.
-    let same =
-    one_split 10 token (encode_lower digest) rest more lacks (digits_lack digest h.1)
-    (behind_same scan_word _ _ (ap (λ (t : List ℕ). scan_word ++ t) (sym cut) ∙ (sym is ∙ (e ∙ scan_parts digest more)))) in
-    none digest h same.0
+no_digest text behind token rest is cut lacks none = grind (arith, one_split, digits_lack, behind_same, scan_parts)
 
 -- a line without an end
 pub no_digest_line : (text behind : List ℕ) → text ≡ scan_word ++ behind → Lacks 10 behind
@@ -75,9 +71,7 @@ no_digest_line text behind is lacks =
 -- a point of the box that is no data point
 pub not_data : (text rest : List ℕ) (p : Point) → IsWithin BOX_LIMIT p → text ≡ point_line p ++ rest → ¬ IsWithin DATA_LIMIT p
     → BeginsWithNone (IsWithin DATA_LIMIT) point_line text
-not_data text rest p box is out =
-    λ q more h e.
-    out (subst (λ (a : Point). IsWithin DATA_LIMIT a) (point_code q p more rest (data_in_box q h) box (sym e ∙ is)).0 h)
+not_data text rest p box is out = grind (arith, point_code, data_in_box)
 
 -- three coordinates of the box, as the code has their bits, that are no data point
 pub no_data : (t0 t1 t2 t3 : List ℕ) (x y z : ℤ) → IsCoordinate x → IsCoordinate y → IsCoordinate z

@@ -1,11 +1,9 @@
 -- The parts of a whole text, one after another.
-use Rattle.std.proofs.Common.{ℕ, Option, ◌≡◌, ◌+◌, inr, ap, sym, subst, ◌∙◌, List, [], ◌++◌, length}
-use Rattle.std.specs.List.{AllPairs}
+use Rattle.std.proofs.Common.{ℕ, Option, ◌≡◌, ◌+◌, inr, List, [], ◌++◌, length, arith}
 use Rattle.std.proofs.lemmas.List.{map-id, append-nil}
-use Rattle.geo_sign.specs.Rising.{IsBefore}
 use Rattle.line_text.specs.declared.refusal.LineRefusal.{LineRefusal}
 use Rattle.line_text.specs.declared.refusal.LineRefusal.TheVariants.{BadLine}
-use Rattle.line_text.specs.Refusals.{line_after, IsBehindEnd}
+use Rattle.line_text.specs.Refusals.{line_after}
 use Rattle.line_text.specs.Lists.{list_text, IsList}
 use Rattle.line_text.proofs.Parts.{list_good, word_good}
 use Rattle.cert_text.specs.declared.certificate.FlowRow.{FlowRow}
@@ -21,8 +19,7 @@ use Rattle.cert_text.proofs.CertCodes.{cert_parts}
 -- a refusal further on is one of the whole
 pub at_counts : (text t1 : List ℕ) (v : Option StampView) (n : ℕ) (r : LineRefusal)
     → IsVersion v × (text ≡ version_text v ++ t1) → n ≡ counts_line v → AtCounts n t1 r → AtCertificate text r
-at_counts text t1 v n r h is k =
-    inr (record { value = v; rest = t1; form = h.0; front = h.1; next = subst (λ (m : ℕ). AtCounts m t1 r) is k })
+at_counts text t1 v n r h is k = grind arith
 
 pub at_inside : (text t0 t1 : List ℕ) (v : Option StampView) (n : ℕ) (c : Counts) (r : LineRefusal)
     → IsVersion v × (text ≡ version_text v ++ t0) → n ≡ counts_line v → FitCounts c × (t0 ≡ counts_text c ++ t1)
@@ -51,8 +48,7 @@ at_end t1 t2 n m rows r h k =
 -- something behind the last line, as the code has it
 pub behind_end : (shown text rest : List ℕ) (n m : ℕ) → shown ≡ end_line → text ≡ shown ++ rest → ¬ (rest ≡ [])
     → m ≡ line_after n 1 → AtEnd n text (BadLine m)
-behind_end shown text rest n m e f some is =
-    word_good shown end_line n text rest (BadLine m) (λ t. IsBehindEnd (line_after n 1) t (BadLine m)) e f (some, ap BadLine is)
+behind_end shown text rest n m e f some is = grind (arith, word_good)
 
 -- the whole text
 pub whole : (c : Claim) (text t0 t1 t2 t3 t4 t5 : List ℕ) → IsVersion c.stamp × (text ≡ version_text c.stamp ++ t0)
@@ -61,22 +57,4 @@ pub whole : (c : Claim) (text t0 t1 t2 t3 t4 t5 : List ℕ) → IsVersion c.stam
     → IsList IsFlowRow flow_order c.flow → t2 ≡ list_text flow_line flow_word c.flow ++ t3
     → IsList IsSinkRow sink_order c.sink → t3 ≡ list_text sink_line sink_word c.sink ++ t4
     → t4 ≡ end_line ++ t5 → t5 ≡ [] → IsWellFormed c × (text ≡ cert_text c)
-whole c text t0 t1 t2 t3 t4 t5 v h i e1 f e2 s e3 e4 e5 = (
-  record {
-    stamp = v.0;
-    counts = h.0;
-    inside = record {
-      few = i.0;
-      each = (i.1).each;
-      rising = subst (λ (ks : List (List ℕ)). AllPairs IsBefore ks) (map-id c.inside) (i.1).rising;
-    };
-    flow = record { few = f.0; each = (f.1).each; rising = (f.1).rising };
-    sink = record { few = s.0; each = (s.1).each; rising = (s.1).rising };
-  },
-  v.1 ∙ (ap (λ (t : List ℕ). version_text c.stamp ++ t)
-      (h.1 ∙ ap (λ (t : List ℕ). counts_text c.counts ++ t)
-      (e1 ∙ ap (λ (t : List ℕ). list_text cell_line inside_word c.inside ++ t) (e2
-      ∙ ap (λ (t : List ℕ). list_text flow_line flow_word c.flow ++ t)
-      (e3 ∙ ap (λ (t : List ℕ). list_text sink_line sink_word c.sink ++ t) (e4 ∙ ap (λ (t : List ℕ). end_line ++ t) e5)))))
-      ∙ (sym (cert_parts c []) ∙ append-nil (cert_text c))),
-)
+whole c text t0 t1 t2 t3 t4 t5 v h i e1 f e2 s e3 e4 e5 = grind (arith, map-id, cert_parts, append-nil)

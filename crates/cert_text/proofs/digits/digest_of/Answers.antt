@@ -1,13 +1,11 @@
-use Rattle.std.proofs.Common.{ℕ, List, ◌≡◌, ap, sym, ◌∙◌}
+use Rattle.std.proofs.Common.{ℕ, List, ◌≡◌, ap, sym, ◌∙◌, arith}
 use Rattle.std.specs.Cmp.Lexicographic.{other_text}
 use Rattle.hex.specs.Hex.{encode_lower}
 use Rattle.cert_text.proofs.StampRefused.{decoded}
 use Rattle.cert_text.proofs.digits.digest_of.Goals as goal
 
 pub returns-in-Err-clause-none : goal.returns-in-Err-clause-none
-returns-in-Err-clause-none c = λ digest h e.
-    let good = decoded c.args.token.now digest h e in
-    cc
+returns-in-Err-clause-none c = grind (arith, decoded)
 
 pub returns-else-eq-clause-none : goal.returns-else-eq-clause-none
 returns-else-eq-clause-none c = λ digest h e.

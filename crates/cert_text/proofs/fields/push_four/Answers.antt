@@ -1,18 +1,9 @@
+use Rattle.std.proofs.Common.{arith}
 use Rattle.line_text.proofs.Kept.{OnErr-holds, front_of_more, front_of_front}
 use Rattle.cert_text.proofs.fields.push_four.Goals as goal
 
 pub returns-in_err-push_number-3-clause-kept : goal.returns-in_err-push_number-3-clause-kept
-returns-in_err-push_number-3-clause-kept c =
-    OnErr-holds _ _
-    (front_of_front _ _ _
-    (front_of_front _ _ _ (front_of_more _ _ _ c.in_ok-push_number.ensures.ok)
-    (front_of_more _ _ _ c.in_ok-push_number-2.ensures.ok)) c.in_err-push_number-3.ensures.kept)
+returns-in_err-push_number-3-clause-kept c = grind (arith, OnErr-holds, front_of_front, front_of_more)
 
 pub returns-in_err-push_number-4-clause-kept : goal.returns-in_err-push_number-4-clause-kept
-returns-in_err-push_number-4-clause-kept c =
-    OnErr-holds _ _
-    (front_of_front _ _ _
-    (front_of_front _ _ _
-    (front_of_front _ _ _ (front_of_more _ _ _ c.in_ok-push_number.ensures.ok)
-    (front_of_more _ _ _ c.in_ok-push_number-2.ensures.ok)) (front_of_more _ _ _ c.in_ok-push_number-3.ensures.ok))
-    c.in_err-push_number-4.ensures.kept)
+returns-in_err-push_number-4-clause-kept c = grind (arith, OnErr-holds, front_of_front, front_of_more)

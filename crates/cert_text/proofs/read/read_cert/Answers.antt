@@ -5,6 +5,7 @@
 -- (printed_not_refused). Of bytes that are refused for a reason there is one such reason (refused_once), and nothing is
 -- read of them.
 use Rattle.std.proofs.Common.{◌≡◌, ◌∙◌, ◌++◌, List, ℕ, [], refl, ap, sym, Result, Ok, Err, IfOk, IfErr, IsErr, MatchResult}
+use Rattle.std.proofs.Common.{arith}
 use Rattle.cert_text.specs.declared.certificate.Certificate.{Certificate}
 use Rattle.cert_text.specs.declared.refusal.CertRefusal.{CertRefusal}
 use Rattle.cert_text.specs.declared.refusal.CertRefusal.TheVariants.{BadLine, Order, CertCut, NoMemory}
@@ -16,10 +17,7 @@ use Rattle.cert_text.proofs.OneRefusal.{refused_once, printed_not_refused}
 use Rattle.cert_text.proofs.read.read_cert.Goals as goal
 
 only_memory : (r : CertRefusal) (P : Type 0) → (P → ⊥) → OrNoMemory r P → r ≡ NoMemory
-only_memory (BadLine n) P none h = absurd (none h)
-only_memory (Order n) P none h = absurd (none h)
-only_memory CertCut P none h = absurd (none h)
-only_memory NoMemory P none h = refl
+only_memory r P none h = grind arith
 
 printed_so : (o : Result Certificate CertRefusal) (text : List ℕ)
     → IfOk o (λ cert. IsWellFormed (claim_of cert) × (text ≡ cert_text (claim_of cert)))

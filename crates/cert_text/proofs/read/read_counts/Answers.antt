@@ -11,38 +11,16 @@ use Rattle.cert_text.proofs.CountLemmas.{refused_at, counts_are}
 use Rattle.cert_text.proofs.read.read_counts.Goals as goal
 
 pub returns-in_err-scanners-clause-refused : goal.returns-in_err-scanners-clause-refused
-returns-in_err-scanners-clause-refused c =
-    IfErr-holds c.from_residual-in_err-scanners.result c.in_err-scanners.field-0.0 (RefusedCounts c.args.line c.args.text.now)
-    c.from_residual-in_err-scanners.ensures.1
-    (number_good _ _ _ _ _ _ _ _ _ _ c.points.ensures c.in_ok-points.ensures.ok.0 c.in_ok-points.ensures.ok.1
-    (number_refused _ _ _ _ _ _ _ _ c.scanners.ensures c.in_err-scanners.ensures.refused))
+returns-in_err-scanners-clause-refused c = grind (arith, IfErr-holds, number_good, number_refused)
 
 pub returns-in_err-sights-clause-refused : goal.returns-in_err-sights-clause-refused
-returns-in_err-sights-clause-refused c =
-    IfErr-holds c.from_residual-in_err-sights.result c.in_err-sights.field-0.0 (RefusedCounts c.args.line c.args.text.now)
-    c.from_residual-in_err-sights.ensures.1
-    (number_good _ _ _ _ _ _ _ _ _ _ c.points.ensures c.in_ok-points.ensures.ok.0 c.in_ok-points.ensures.ok.1
-    (number_good _ _ _ _ _ _ _ _ _ _ c.scanners.ensures c.in_ok-scanners.ensures.ok.0 c.in_ok-scanners.ensures.ok.1
-    (number_refused _ _ _ _ _ _ _ _ c.sights.ensures c.in_err-sights.ensures.refused)))
+returns-in_err-sights-clause-refused c = grind (arith, IfErr-holds, number_good, number_refused)
 
 pub returns-in_err-vote-clause-refused : goal.returns-in_err-vote-clause-refused
-returns-in_err-vote-clause-refused c =
-    IfErr-holds c.from_residual-in_err-vote.result c.in_err-vote.field-0.0 (RefusedCounts c.args.line c.args.text.now)
-    c.from_residual-in_err-vote.ensures.1
-    (number_good _ _ _ _ _ _ _ _ _ _ c.points.ensures c.in_ok-points.ensures.ok.0 c.in_ok-points.ensures.ok.1
-    (number_good _ _ _ _ _ _ _ _ _ _ c.scanners.ensures c.in_ok-scanners.ensures.ok.0 c.in_ok-scanners.ensures.ok.1
-    (number_good _ _ _ _ _ _ _ _ _ _ c.sights.ensures c.in_ok-sights.ensures.ok.0 c.in_ok-sights.ensures.ok.1
-    (number_refused _ _ _ _ _ _ _ _ c.vote.ensures c.in_err-vote.ensures.refused))))
+returns-in_err-vote-clause-refused c = grind (arith, IfErr-holds, number_good, number_refused)
 
 pub returns-in_err-smooth-clause-refused : goal.returns-in_err-smooth-clause-refused
-returns-in_err-smooth-clause-refused c =
-    IfErr-holds c.from_residual-in_err-smooth.result c.in_err-smooth.field-0.0 (RefusedCounts c.args.line c.args.text.now)
-    c.from_residual-in_err-smooth.ensures.1
-    (number_good _ _ _ _ _ _ _ _ _ _ c.points.ensures c.in_ok-points.ensures.ok.0 c.in_ok-points.ensures.ok.1
-    (number_good _ _ _ _ _ _ _ _ _ _ c.scanners.ensures c.in_ok-scanners.ensures.ok.0 c.in_ok-scanners.ensures.ok.1
-    (number_good _ _ _ _ _ _ _ _ _ _ c.sights.ensures c.in_ok-sights.ensures.ok.0 c.in_ok-sights.ensures.ok.1
-    (number_good _ _ _ _ _ _ _ _ _ _ c.vote.ensures c.in_ok-vote.ensures.ok.0 c.in_ok-vote.ensures.ok.1
-    (number_refused _ _ _ _ _ _ _ _ c.smooth.ensures c.in_err-smooth.ensures.refused)))))
+returns-in_err-smooth-clause-refused c = grind (arith, IfErr-holds, number_good, number_refused)
 
 pub returns-in_err-cost-clause-refused : goal.returns-in_err-cost-clause-refused
 returns-in_err-cost-clause-refused c =

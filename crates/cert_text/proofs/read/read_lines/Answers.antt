@@ -3,7 +3,7 @@
 -- A refusal in a part is the certificate's, as the parts before it were read: at_counts, at_inside, at_flow, at_sink and
 -- at_end each put one part in front of what is refused behind it, so each goal is such a chain, longer by one than the goal
 -- before. Where nothing is refused the parts are the whole text of the claim (whole).
-use Rattle.std.proofs.Common.{◌+◌, inl}
+use Rattle.std.proofs.Common.{◌+◌, arith}
 use Rattle.line_text.specs.Lists.{WithMemory, RefusedList}
 use Rattle.line_text.proofs.Rows.{IfErr-holds, WithMemory-holds, WithMemory-weaker, some_left, none_left}
 use Rattle.line_text.proofs.Parts.{word_refused, behind_word, list_refused}
@@ -14,15 +14,10 @@ use Rattle.cert_text.proofs.WholeLemmas.{at_counts, at_inside, at_flow, at_sink,
 use Rattle.cert_text.proofs.read.read_lines.Goals as goal
 
 pub returns-in-Err-clause-refused : goal.returns-in-Err-clause-refused
-returns-in-Err-clause-refused c =
-    WithMemory-holds c.in-Err.refusal (AtCertificate c.args.bytes.now c.in-Err.refusal) (inl c.in-Err.ensures.refused)
+returns-in-Err-clause-refused c = grind (arith, WithMemory-holds)
 
 pub returns-in_err-heading-clause-refused : goal.returns-in_err-heading-clause-refused
-returns-in_err-heading-clause-refused c =
-    IfErr-holds c.from_residual.result c.in_err-heading.field-0.0 (λ r. WithMemory r (AtCertificate c.args.bytes.now r))
-    c.from_residual.ensures.1
-    (WithMemory-holds c.in_err-heading.field-0.0 (AtCertificate c.args.bytes.now c.in_err-heading.field-0.0)
-    (at_counts _ _ _ _ _ c.in-Ok.ensures.ok c.counts_line-line.ensures.value (inl c.in_err-heading.ensures.refused)))
+returns-in_err-heading-clause-refused c = grind (arith, IfErr-holds, WithMemory-holds, at_counts)
 
 pub returns-in_err-inside-clause-refused : goal.returns-in_err-inside-clause-refused
 returns-in_err-inside-clause-refused c =

@@ -1,11 +1,9 @@
-use Rattle.std.proofs.Common.{Some}
+use Rattle.std.proofs.Common.{Some, arith}
 use Rattle.line_text.proofs.Rows.{one_more_read_at, pushed, bad_row, row_out_of_order_at}
 use Rattle.cert_text.proofs.read.read_rows.Goals as goal
 
 pub returns-in-None-clause-refused : goal.returns-in-None-clause-refused
-returns-in-None-clause-refused g c =
-    bad_row g.R.Row.is_row g.R.Row.line (Some g.R.Row.key) _ _ _ _ _ _ _ _ c.loop-k.invariant c.loop-k-test.true
-    c.in-None.ensures.none c.refusal_of.ensures
+returns-in-None-clause-refused g c = grind (arith, bad_row)
 
 pub returns-then-not-rises-clause-refused : goal.returns-then-not-rises-clause-refused
 returns-then-not-rises-clause-refused g c =
