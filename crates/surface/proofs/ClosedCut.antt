@@ -5,8 +5,7 @@
 -- list in its words (cut_list). The facets of that list have the edges of the cells' facets (counted). mesh_closed is the same of
 -- the faces, whose vertices are numbered anew.
 use Rattle.std.proofs.Common.{ℕ, ◌+◌, ◌<◌, ◌≤◌, ◌≡◌, ◌≢◌, refl, sym, ap, ap₂, subst, ◌∙◌, inl, inr, arith, Bool, true, false}
-use Rattle.std.proofs.Common.{◌||◌, nat_lt, not, zero, suc, Option, Some, List, [], ◌∷◌, length, get_or, map}
-use Rattle.std.proofs.Common.{AllPairs, Contains}
+use Rattle.std.proofs.Common.{◌||◌, nat_lt, not, Option, Some, List, [], ◌∷◌, length, get_or, map, AllPairs, Contains}
 use Rattle.std.proofs.lemmas.Bool.{ltb-false, or_parts, not-true, not-false, not_from_false}
 use Rattle.std.proofs.lemmas.List.{get_or-map, length-map}
 use Rattle.std.proofs.lemmas.List.Sums.{sum_by-cons}
@@ -15,7 +14,7 @@ use Rattle.geo_sign.specs.Tetrahedron.{Tetrahedron, DirectedFacet, facet_of, fac
 use Rattle.geo_sign.specs.Point.{Point}
 use Rattle.geo_sign.specs.Vertices.{Vertices}
 use Rattle.geo_sign.proofs.Members.{here, there}
-use Rattle.cell_laws.specs.ClosedLaws.{edges_of, edge_count, one_edge, facets_at, IsCutList}
+use Rattle.cell_laws.specs.ClosedLaws.{edges_of, edge_count, facets_at, IsCutList}
 use Rattle.cell_laws.specs.Links as laws
 use Rattle.cell_laws.specs.Lists.{IsIn}
 use Rattle.cell_laws.proofs.Closedness.{AreMatched, closed_sides as sides_are_closed}
@@ -45,16 +44,8 @@ named x = record { at = x.id; side = x.side }
 -- a rotated facet has the same edges
 edges_rotated : (u w : ℕ) (f g : DirectedFacet) → IsRotated f g → edges_of u w g ≡ edges_of u w f
 edges_rotated u w f g (inl e) = ap (edges_of u w) e
-edges_rotated u w f g (inr (inl e)) =
-    ap (edges_of u w) e ∙ round (one_edge u w f.a f.b) (one_edge u w f.b f.c) (one_edge u w f.c f.a)
-  where
-    round : (x y z : ℕ) → y + z + x ≡ x + y + z
-    round x y z = omega arith
-edges_rotated u w f g (inr (inr e)) =
-    ap (edges_of u w) e ∙ round (one_edge u w f.a f.b) (one_edge u w f.b f.c) (one_edge u w f.c f.a)
-  where
-    round : (x y z : ℕ) → z + x + y ≡ x + y + z
-    round x y z = omega arith
+edges_rotated u w f g (inr (inl e)) = grind arith
+edges_rotated u w f g (inr (inr e)) = grind arith
 
 -- four tests that all fail
 none_low : (t : Tetrahedron) (k : ℕ) → has_corner t ≡ false → k < 4 → 8 ≤ vertex_of t k
@@ -65,10 +56,7 @@ none_low t k h l =
     by k l (ltb-false t.a 8 r.0) (ltb-false t.b 8 r.1) (ltb-false t.c 8 q.1) (ltb-false t.d 8 p.1)
   where
     by : (k : ℕ) → k < 4 → 8 ≤ t.a → 8 ≤ t.b → 8 ≤ t.c → 8 ≤ t.d → 8 ≤ vertex_of t k
-    by zero l a b c d = a
-    by (suc zero) l a b c d = b
-    by (suc (suc zero)) l a b c d = c
-    by (suc (suc (suc k))) l a b c d = d
+    by k l a b c d = grind arith
 
 -- cells with no flag have no corner, where these are the cells inside
 pub none_flagged : (slots : List (Option Cell)) (inside : ℕ → Bool) (outside : List Bool) → NoneHasCorner slots inside
@@ -166,25 +154,16 @@ module _ (v : Vertices) (slots : List (Option Cell)) (linked : IsLinked v (links
 
 -- ---- faces
 face_below : (n : ℕ) (f : List ℕ) → IsFace n f → IsBelow n (facet_at f)
-face_below n [] h = elim h [ ]
-face_below n (a ∷ []) h = elim h [ ]
-face_below n (a ∷ b ∷ []) h = elim h [ ]
-face_below n (a ∷ b ∷ c ∷ []) h = let x = h.0 in let y = h.3 in record { a = omega (arith, x, y); b = h.3; c = h.4 }
-face_below n (a ∷ b ∷ c ∷ d ∷ rest) h = elim h [ ]
+face_below n f h = grind arith
 
 face_renamed : (number : ℕ → ℕ) (n : ℕ) (f : List ℕ) → IsFace n f → facet_at (map number f) ≡ renamed number (facet_at f)
-face_renamed number n [] h = elim h [ ]
-face_renamed number n (a ∷ []) h = elim h [ ]
-face_renamed number n (a ∷ b ∷ []) h = elim h [ ]
-face_renamed number n (a ∷ b ∷ c ∷ []) h = refl
-face_renamed number n (a ∷ b ∷ c ∷ d ∷ rest) h = elim h [ ]
+face_renamed number n f h = grind arith
 
 faces_renamed : (number : ℕ → ℕ) (n : ℕ) (faces : List (List ℕ)) → ((f : List ℕ) → Contains faces f → IsFace n f)
     → map facet_at (map (map number) faces) ≡ map (renamed number) (map facet_at faces)
 faces_renamed number n [] h = refl
 faces_renamed number n (f ∷ fs) h =
-    ap₂ (λ (g : DirectedFacet) (gs : List DirectedFacet). g ∷ gs) (face_renamed number n f (h f (here f fs)))
-    (faces_renamed number n fs (λ g c. h g (there f g fs c)))
+    grind (arith, face_renamed, here, there, faces_renamed number n fs (λ g c. h g (there f g fs c)), h f (here f fs))
 
 pub mesh_closed : (n : ℕ) (points : List Point) (faces : List (List ℕ)) → IsFaceList n faces → IsClosed faces
     → IsClosed (mesh_of points faces).faces

@@ -18,7 +18,7 @@ use Rattle.geo_sign.proofs.Members.{here, there}
 use Rattle.cell_laws.proofs.OneFacet.{facet_law}
 use Rattle.cell_laws.proofs.RisingRows.{list_law, is_listed}
 use Rattle.visibility.specs.Scenes.{Scene}
-use Rattle.visibility.specs.Complexes.{Complex, has_facet, HasFacet, cell_index, cell_of}
+use Rattle.visibility.specs.Complexes.{Complex, has_facet, HasFacet, cell_of}
 use Rattle.visibility.specs.Votes.{is_fixed, HasCapacity, IsComplexOf}
 use Rattle.visibility.specs.Cuts.{is_cut, cut_facets, IsAdmissible}
 use Rattle.visibility.proofs.Indices.{first_within}
@@ -37,13 +37,7 @@ use Rattle.surface.proofs.Listed as rows
 -- ---- what a filter keeps
 pub filter_in : {X : Type 0} (p : X → Bool) (xs : List X) (x : X) → Contains (filter p xs) x → Contains xs x × (p x ≡ true)
 filter_in p [] x h = absurd (omega (arith, h.1))
-filter_in {X = X} p (y ∷ xs) x h = by (p y) refl (filter_in p xs x) h
-  where
-    by : (b : Bool) → p y ≡ b → (Contains (filter p xs) x → Contains xs x × (p x ≡ true))
-        → Contains (cond b (y ∷ filter p xs) (filter p xs)) x → Contains (y ∷ xs) x × (p x ≡ true)
-    by true e rest (zero, l, i) = (subst (Contains (y ∷ xs)) i (here y xs), sym (ap p i) ∙ e)
-    by true e rest (suc k, l, i) = let q = rest (k, omega (arith, l), i) in (there y x xs q.0, q.1)
-    by false e rest g = let q = rest g in (there y x xs q.0, q.1)
+filter_in {X = X} p (y ∷ xs) x h = grind (arith, here, there, filter_in p xs x)
 
 pub in_filter : {X : Type 0} (p : X → Bool) (xs : List X) (x : X) → Contains xs x → p x ≡ true → Contains (filter p xs) x
 in_filter p [] x h t = absurd (omega (arith, h.1))
@@ -88,11 +82,7 @@ module _ (s : Scene) (slots : List (Option Cell)) (cells : AreCellsOf s slots) (
   first_in : (f : DirectedFacet) → HasFacet s.vertices complex.cells f
       → Contains complex.cells (cell_of s.vertices complex.cells f)
       × (has_facet s.vertices (cell_of s.vertices complex.cells f) f ≡ true)
-  first_in f h =
-      let l = first_within (λ row. has_facet s.vertices row f) complex.cells h in (
-        Contains-get_or complex.cells (cell_index s.vertices complex.cells f) [] l,
-        passes_at_first (λ row. has_facet s.vertices row f) complex.cells [] l,
-      )
+  first_in f h = grind (arith, first_within, Contains-get_or, passes_at_first)
 
   cell_is : (row : List ℕ) (f : DirectedFacet) → Contains complex.cells row → has_facet s.vertices row f ≡ true
       → cell_of s.vertices complex.cells f ≡ row

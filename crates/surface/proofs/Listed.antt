@@ -1,7 +1,7 @@
 -- The cells of a scene by the numbers that they have in a store. Each row of the list is that of one live cell, so numbers in the
 -- order of the rows, however these stand, are those of all live cells, each once. The label of a row is the flag at its index, and so is
 -- that of the cell's number. No cell inside has a corner where no fixed cell is inside.
-use Rattle.std.proofs.Common.{ℕ, ◌<◌, ◌≡◌, refl, sym, ap, subst, ◌∙◌, arith, Bool, true, false, true≢false, List, [], Option, length}
+use Rattle.std.proofs.Common.{ℕ, ◌<◌, ◌≡◌, refl, sym, ap, subst, ◌∙◌, arith, Bool, true, false, List, [], Option, length}
 use Rattle.std.proofs.Common.{get_or, Contains}
 use Rattle.std.specs.List.Sorted.{IsPermutation}
 use Rattle.std.proofs.lemmas.Bool.{or_parts}
@@ -90,8 +90,7 @@ module _ (s : Scene) (slots : List (Option Cell)) (cells : AreCellsOf s slots) (
       where
         by : (b : Bool) → is_fixed s.vertices s.scanners (row_of slots x) ≡ b
             → is_fixed s.vertices s.scanners (row_of slots x) ≡ false
-        by true e = absurd (true≢false (sym (sym (says x l) ∙ h) ∙ none.none_fixed (row_of slots x) (row_in x l) e))
-        by false e = e
+        by b e = grind (arith, row_in)
 
     pub none_has_corner : NoneHasCorner slots inside
     none_has_corner x l h =

@@ -1,8 +1,7 @@
 -- Labels in the order of a list of all live cells, put at the numbers that cells have in the store, are one test of live cells in two
 -- forms (agree). The cells inside are then the same, so one mesh is cut by both (cut_mesh), and what is said over each scene of the one is
 -- said over each scene of the other (over_scenes).
-use Rattle.std.proofs.Common.{ℕ, ◌≡◌, ◌<◌, ◌==◌, refl, sym, ap, ◌∙◌, Bool, List, Option, length, get_or, Contains}
-use Rattle.std.specs.List.{position_or_len}
+use Rattle.std.proofs.Common.{ℕ, ◌≡◌, ◌<◌, sym, ◌∙◌, Bool, List, Option, length, get_or, arith}
 use Rattle.std.proofs.lemmas.Bool.{eqb-true, eq-eqb}
 use Rattle.std.proofs.lemmas.List.Sums.{passes_at_first}
 use Rattle.flow_net.specs.Nets.{flag_at}
@@ -20,22 +19,7 @@ module _ (slots : List (Option Cell)) (ids : List ℕ) (labels flags : List Bool
     (each : (k : ℕ) → k < length ids → flag_at flags (get_or ids k 0) ≡ flag_at labels k) where
   -- the index of a cell is within the list, and its number stands there
   pub agree : (id : ℕ) → IsLive (links_of slots) id → flag_at flags id ≡ listed_label ids labels id
-  agree id live =
-      ap (flag_at flags) (sym stands) ∙ each place below
-    where
-      is : ℕ → Bool
-      is other = other == id
-
-      place : ℕ
-      place = position_or_len (λ other. other == id) ids
-
-      below : place < length ids
-      below =
-          let c : Contains ids id = all.all id live in
-          first_within is ids (c.0, id, c.1, c.2, eq-eqb id id refl)
-
-      stands : get_or ids place 0 ≡ id
-      stands = eqb-true (get_or ids place 0) id (passes_at_first is ids 0 below)
+  agree id live = grind (arith, first_within, eq-eqb, eqb-true, passes_at_first)
 
   pub none_has_corner : NoneHasCorner slots (listed_label ids labels) → NoneHasCorner slots (flag_at flags)
   none_has_corner none id live inside = none id live (sym (agree id live) ∙ inside)
@@ -43,12 +27,7 @@ module _ (slots : List (Option Cell)) (ids : List ℕ) (labels flags : List Bool
   -- the same scenes
   over : (s : Scene) (rising : Complex) (test : List ℕ → Bool) → AreLabelsOver s rising slots (listed_label ids labels) test
       → AreLabelsOver s rising slots (flag_at flags) test
-  over s rising test labelled = record {
-    cells = labelled.cells;
-    complex_is = labelled.complex_is;
-    says = λ id live. agree id live ∙ labelled.says id live;
-    admissible = labelled.admissible;
-  }
+  over s rising test labelled = grind (arith, agree)
 
   pub over_scenes : (claim : Scene → Complex → (List ℕ → Bool) → Type 0) → OverScenes slots (flag_at flags) claim
       → OverScenes slots (listed_label ids labels) claim
@@ -84,13 +63,4 @@ module _ (slots : List (Option Cell)) (ids : List ℕ) (labels flags : List Bool
 
     pub cut_mesh : (points : List Point) (mesh : Mesh) → IsCutMesh points slots (flag_at flags) mesh
         → IsCutMesh points slots (listed_label ids labels) mesh
-    cut_mesh points mesh cut = record {
-      facets = cut.facets;
-      are_cut = record {
-        only = λ f h. listed_cut f (cut.are_cut.only f h);
-        all = λ f h. cut.are_cut.all f (numbered_cut f h);
-        rising = cut.are_cut.rising;
-      };
-      points_are = cut.points_are;
-      faces_are = cut.faces_are;
-    }
+    cut_mesh points mesh cut = grind (arith, listed_cut, numbered_cut)

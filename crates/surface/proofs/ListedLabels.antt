@@ -17,7 +17,7 @@ use Rattle.visibility.proofs.ListingAgreements.{with_rising}
 use Rattle.visibility.proofs.Indices.{once_rising, same_index}
 use Rattle.tetra_store.specs.declared.link.Cell.{Cell}
 use Rattle.cell_net.specs.ByNumber.{SaysOfCells}
-use Rattle.cell_net.specs.Counts.{AreCellsOf, AreIdsOf, row_of}
+use Rattle.cell_net.specs.Counts.{AreCellsOf, AreIdsOf}
 use Rattle.surface.specs.Labelled.{AreAllLive, AreDistinctNumbers, AreLabelsOver, listed_label}
 use Rattle.surface.proofs.Listed.{index_of, says_by_number}
 
@@ -39,10 +39,7 @@ module _ (s : Scene) (slots : List (Option Cell)) (cells : AreCellsOf s slots) (
   same = IsPermutation-refl complex.cells
 
   once : AreDistinctNumbers ids
-  once i j li lj e =
-      let n = are.count in
-      same_index complex.cells i j (once_rising complex.cells all.cells_are.rising) (omega (arith, li, n)) (omega (arith, lj, n))
-      (are.row i li ∙ ap (row_of slots) e ∙ sym (are.row j lj))
+  once i j li lj e = grind (arith, same_index, once_rising)
 
   pub all_live : AreAllLive slots ids
   all_live = record {

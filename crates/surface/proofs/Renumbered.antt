@@ -1,8 +1,8 @@
 -- Closed facets stay closed when their vertices are renumbered, even if two get one number. What a function of two vertices
 -- gives along all edges is a sum over all pairs of vertices, each as often as there is such an edge. For closed facets the sum
 -- over all edges is thus that over all reverses. The function that counts the edges whose new numbers are i and j is one.
-use Rattle.std.proofs.Common.{ℕ, zero, suc, ◌+◌, ◌*◌, ◌<◌, ◌≤◌, ◌≡◌, ◌≢◌, refl, sym, ap, ap₂, ◌∙◌, ⊎_elim, arith, Bool, true}
-use Rattle.std.proofs.Common.{false, ◌&&◌, eqb, List, [], ◌∷◌, ◌++◌, map}
+use Rattle.std.proofs.Common.{ℕ, zero, suc, ◌+◌, ◌*◌, ◌<◌, ◌≤◌, ◌≡◌, ◌≢◌, refl, sym, ap, ap₂, ◌∙◌, ⊎_elim, arith, Bool, ◌&&◌}
+use Rattle.std.proofs.Common.{eqb, List, [], ◌∷◌, ◌++◌, map}
 use Rattle.std.specs.List.{sum_by}
 use Rattle.std.proofs.lemmas.Bool.{cases_eq, eqb-true, eq-eqb, false_from_ne_true}
 use Rattle.std.proofs.lemmas.List.Sums.{sum_by-cons}
@@ -36,12 +36,7 @@ times m h (x ∷ xs) = ap (λ (n : ℕ). m * h x + n) (times m h xs) ∙ both m 
 -- ---- the one number below n that is a
 none_number : (h : ℕ → ℕ) (a n : ℕ) → n ≤ a → total (λ u. pick (h u) (eqb a u)) (below n) ≡ 0
 none_number h a zero l = refl
-none_number h a (suc n) l =
-    let e : eqb a n ≡ false = false_from_ne_true (eqb a n) (λ t. let i = eqb-true a n t in omega (arith, l, i)) in
-    let r = none_number h a n (omega (arith, l)) in
-    let s = total_append (λ u. pick (h u) (eqb a u)) (below n) (n ∷ []) in
-    let last : pick (h n) (eqb a n) ≡ 0 = ap (pick (h n)) e in
-    s ∙ ap₂ (λ (x y : ℕ). x + (y + 0)) r last
+none_number h a (suc n) l = grind (arith, false_from_ne_true, eqb-true, total_append, none_number h a n (omega (arith, l)))
 
 one_number : (h : ℕ → ℕ) (a n : ℕ) → a < n → total (λ u. pick (h u) (eqb a u)) (below n) ≡ h a
 one_number h a zero l = absurd (omega (arith, l))
@@ -64,22 +59,15 @@ pick_total : {X : Type 0} (h : X → ℕ) (c : Bool) (xs : List X) → pick (tot
 pick_total h c [] = none c
   where
     none : (c : Bool) → pick 0 c ≡ 0
-    none true = refl
-    none false = refl
-pick_total h c (x ∷ xs) = both c (h x) (total h xs) ∙ ap (λ (n : ℕ). pick (h x) c + n) (pick_total h c xs)
-  where
-    both : (c : Bool) (m n : ℕ) → pick (m + n) c ≡ pick m c + pick n c
-    both true m n = refl
-    both false m n = omega arith
+    none c = grind arith
+pick_total h c (x ∷ xs) = grind (arith, pick_total h c xs)
 
 -- ---- what two vertices give, as a sum over all pairs
 pick_edge : (m u w a b : ℕ) → pick (pick m (eqb b w)) (eqb a u) ≡ m * one_edge u w a b
 pick_edge m u w a b = by (eqb a u) (eqb b w)
   where
     by : (c d : Bool) → pick (pick m d) c ≡ m * one_if (c && d)
-    by true true = omega arith
-    by true false = omega arith
-    by false d = omega arith
+    by c d = grind arith
 
 pair_sum : (g : ℕ → ℕ → ℕ) (n a b : ℕ) → a < n → b < n → g a b ≡ total (λ u. total (λ w. g u w * one_edge u w a b) (below n))
     (below n)
@@ -157,10 +145,7 @@ renamed number f = facet (number f.a) (number f.b) (number f.c)
 back : (number : ℕ → ℕ) (i j : ℕ) (f : DirectedFacet)
     → weight (λ a b. one_edge i j (number b) (number a)) f ≡ edges_of j i (renamed number f)
 unfolding weight
-back number i j f =
-    ap₂ (λ (x y : ℕ). x + y)
-    (ap₂ (λ (x y : ℕ). x + y) (flip i j (number f.b) (number f.a)) (flip i j (number f.c) (number f.b)))
-    (flip i j (number f.a) (number f.c))
+back number i j f = grind (arith, flip)
 
 pub renumbered : (number : ℕ → ℕ) (n : ℕ) (facets : List DirectedFacet) → ((f : DirectedFacet) → IsIn facets f → IsBelow n f)
     → ((u w : ℕ) → edge_count u w facets ≡ edge_count w u facets) → (i j : ℕ) → edge_count i j

@@ -1,8 +1,8 @@
 -- The sorted facets of the sides between cells with a flag and cells with none are those that labels cut, where the flags are the
 -- labels turned round. A facet of a positive cell has three distinct vertices, and no two sides have one facet, so the facets rise
 -- strictly and are a list of faces.
-use Rattle.std.proofs.Common.{ℕ, zero, suc, ◌<◌, ◌≤◌, ◌^◌, ◌≡◌, ◌≢◌, sym, ap, ap₂, subst, ◌∙◌, inl, inr, ⊎_elim, arith}
-use Rattle.std.proofs.Common.{Bool, not, List, length, get_or, map, Option, AllPairs, Contains}
+use Rattle.std.proofs.Common.{ℕ, ◌<◌, ◌≤◌, ◌^◌, ◌≡◌, ◌≢◌, sym, ap, ap₂, subst, ◌∙◌, ⊎_elim, arith, Bool, not, List, length}
+use Rattle.std.proofs.Common.{get_or, map, Option, AllPairs, Contains}
 use Rattle.std.proofs.lemmas.Bool.{not-true, not-false, not_from_false}
 use Rattle.std.proofs.lemmas.List.{get_or-map, length-map}
 use Rattle.std.proofs.lemmas.List.Elements.{Contains-get_or}
@@ -33,22 +33,15 @@ AreProper n f = (f.a < n) × (f.b < n) × (f.c < n) × (f.a ≢ f.b) × (f.b ≢
 
 proper_rotated : (n : ℕ) (f g : DirectedFacet) → IsRotated f g → AreProper n f → AreProper n g
 unfolding AreProper
-proper_rotated n f g (inl e) h = subst (AreProper n) (sym e) h
-proper_rotated n f g (inr (inl e)) h = subst (AreProper n) (sym e) (h.1, h.2, h.0, h.4, h.5, h.3)
-proper_rotated n f g (inr (inr e)) h = subst (AreProper n) (sym e) (h.2, h.0, h.1, h.5, h.3, h.4)
+proper_rotated n f g h e = grind arith
 
 proper_side : (n : ℕ) (t : Tetrahedron) (k : ℕ) → AreDistinct t → t.a < n → t.b < n → t.c < n → t.d < n
     → AreProper n (facet_of t k)
 unfolding AreProper
-proper_side n t zero q a b c d = (b, d, c, (λ e. q.d_b (sym e)), q.d_c, q.c_b)
-proper_side n t (suc zero) q a b c d = (a, c, d, (λ e. q.c_a (sym e)), (λ e. q.d_c (sym e)), q.d_a)
-proper_side n t (suc (suc zero)) q a b c d = (a, d, b, (λ e. q.d_a (sym e)), q.d_b, q.b_a)
-proper_side n t (suc (suc (suc k))) q a b c d = (a, b, c, (λ e. q.b_a (sym e)), (λ e. q.c_b (sym e)), q.c_a)
+proper_side n t k q a b c d = grind arith
 
 least_same : (f g : DirectedFacet) → least_first f ≡ least_first g → IsRotated f g
-least_same f g e =
-    rotated_after f (least_first g) g (subst (IsRotated f) e (least_rotated f))
-    (rotated_back g (least_first g) (least_rotated g))
+least_same f g e = grind (arith, rotated_after, least_rotated, rotated_back)
 
 module _ (v : Vertices) (slots : List (Option Cell)) (linked : IsLinked v (links_of slots)) where
   abbrev cell : ℕ → Tetrahedron
@@ -69,12 +62,7 @@ module _ (v : Vertices) (slots : List (Option Cell)) (linked : IsLinked v (links
   -- sides with one facet are one
   pub one_of_facet : (x y j k : ℕ) → IsLive (links_of slots) x → IsLive (links_of slots) y → j < 4 → k < 4
       → IsRotated (facet_of (cell x) j) (facet_of (cell y) k) → (x ≡ y) × (j ≡ k)
-  one_of_facet x y j k hx hy hj hk r =
-      let e : x ≡ y = linked.apart x y j k hx hy hj hk r in (
-        e,
-        one_side v (cell x) j k hj hk (linked.positive x hx)
-            (subst (λ (z : ℕ). IsRotated (facet_of (cell x) j) (facet_of (cell z) k)) (sym e) r),
-      )
+  one_of_facet x y j k hx hy hj hk r = grind (arith, one_side)
 
   -- ---- sorted facets
   module _ (few : v.count ≤ 2 ^ 32) (outside : List Bool) (facets : List (List ℕ))
@@ -83,9 +71,7 @@ module _ (v : Vertices) (slots : List (Option Cell)) (linked : IsLinked v (links
     side_in i l = cut.are_cut.each (get_or cut.sides i no_side) (Contains-get_or cut.sides i no_side l)
 
     small : (x k : ℕ) → IsLive (links_of slots) x → AreSmallOf (least_first (facet_of (cell x) k))
-    small x k h =
-        let p = face_at x k h in let b = p.3 in let c = p.4 in
-        record { b = omega (arith, b, few); c = omega (arith, c, few) }
+    small x k h = grind (arith, face_at)
 
     rise : AllPairs IsBefore (map facet_of_side cut.sides)
     rise i j d l m =

@@ -1,7 +1,7 @@
 -- Labels in the order of the list and the same labels by number are one test of live cells (ListedCut), so what `facets_by_number` asks
 -- follows from what is asked here, and each clause of the one is that of the other. `each` is what is known of the list by number, whatever
 -- it is called.
-use Rattle.std.proofs.Common.{ℕ, ◌≡◌, ◌<◌, sym, subst, Bool, List, IfOk, length, get_or}
+use Rattle.std.proofs.Common.{ℕ, ◌≡◌, ◌<◌, Bool, List, IfOk, length, get_or, arith}
 use Rattle.std.proofs.lemmas.Result.{IfOk-weaker}
 use Rattle.flow_net.specs.Nets.{flag_at}
 use Rattle.mesh_ply.specs.declared.mesh.Mesh.{Mesh}
@@ -13,8 +13,7 @@ use Rattle.surface.proofs.mesh.facets.Goals as goal
 each : (ids : List ℕ) (labels flags inside : List Bool) → flags ≡ inside
     → ((k : ℕ) → k < length ids → flag_at inside (get_or ids k 0) ≡ flag_at labels k) → (k : ℕ) → k < length ids
     → flag_at flags (get_or ids k 0) ≡ flag_at labels k
-each ids labels flags inside same are =
-    subst (λ (list : List Bool). (k : ℕ) → k < length ids → flag_at list (get_or ids k 0) ≡ flag_at labels k) (sym same) are
+each ids labels flags inside same are = grind arith
 
 pub facets_by_number-requires : goal.facets_by_number-requires
 facets_by_number-requires c =

@@ -4,8 +4,7 @@
 -- those that the labels cut (`are_cut_facets`), and a list of faces of the points (`are_faces`), as the mesh wants them. Over a scene
 -- they are its facets that the labels cut (`cut_in_scene`). The sides of the cut are closed (`closed_sides`), and the mesh keeps this
 -- (`mesh_closed`).
-use Rattle.std.proofs.Common.{ℕ, ◌^◌, ◌≡◌, ◌<◌, ◌≤◌, ◌∙◌, not, length, subst, sym, ap, arith, IfOk, List, Bool}
-use Rattle.std.proofs.Common.{Result, Ok, Err}
+use Rattle.std.proofs.Common.{ℕ, ◌^◌, ◌≡◌, ◌<◌, ◌≤◌, ◌∙◌, not, length, subst, sym, ap, arith, IfOk, List, Bool, Result}
 use Rattle.std.proofs.lemmas.Result.{IfOk-weaker}
 use Rattle.geo_sign.specs.Point.{Point}
 use Rattle.flow_net.specs.Nets.{flag_at}
@@ -59,8 +58,7 @@ mesh_of_facets-requires-clause-facets c =
 -- what follows of a mesh of these points and faces
 of_both : {E : Type 0} (P Q R : Mesh → Type 0) (result : Result Mesh E) → ((mesh : Mesh) → P mesh → Q mesh → R mesh)
     → IfOk result P → IfOk result Q → IfOk result R
-of_both P Q R (Ok mesh) so p q = so mesh p q
-of_both P Q R (Err e) so p q = tt
+of_both P Q R result so p q = grind arith
 
 pub returns : goal.returns
 returns c =

@@ -3,22 +3,13 @@
 -- Behind `node` nodes the list is as long as the numbers of the store, and at the number of each node so far it has that
 -- node's label. The next number is below the limit, since its cell is live. It is that of no node before, since no
 -- number stands twice: so what was written there stays (away).
-use Rattle.std.proofs.Common.{ℕ, ◌≡◌, ◌≢◌, ◌<◌, ◌∙◌, ⊎_elim, length, get_or, set, false, Bool, List, subst, sym, ap, arith}
-use Rattle.std.proofs.lemmas.Bool.{cases_eq}
+use Rattle.std.proofs.Common.{ℕ, ◌≡◌, ◌<◌, ◌∙◌, length, get_or, Bool, List, subst, sym, arith}
 use Rattle.std.proofs.lemmas.List.{get_or_default, get_or-set_same, get_or-set_other}
-use Rattle.flow_net.specs.Nets.{flag_at}
 use Rattle.tetra_store.specs.Links.{links_of, IsLive}
 use Rattle.surface.proofs.numbered.labels_by_number.Goals as goal
 
 pub index_mut-requires : goal.index_mut-requires
-index_mut-requires c =
-    let x : ℕ = c.index-ids-node.result in
-    let at : get_or c.args.ids.now c.loop-node.node 0 ≡ x =
-    get_or_default c.args.ids.now c.loop-node.node 0 x c.loop-node-test.true ∙ sym c.index-ids-node.is in
-    let below =
-    c.number_limit-limit.ensures.above x
-    (subst (IsLive (links_of c.args.t.now.slots)) at (c.requires.ids.live c.loop-node.node c.loop-node-test.true)) in
-    omega (arith, below, c.number.ensures, c.loop-node.invariant.0)
+index_mut-requires c = grind (arith, get_or_default, c.requires.ids.live c.loop-node.node c.loop-node-test.true)
 
 pub loop-node-preserved : goal.loop-node-preserved
 loop-node-preserved c =
@@ -32,24 +23,8 @@ loop-node-preserved c =
     let below =
     c.number_limit-limit.ensures.above x (subst (IsLive (links_of c.args.t.now.slots)) is (c.requires.ids.live node l)) in
     let at : get_or ids node 0 ≡ c.number.result = is ∙ sym c.number.ensures in
-    let fits : c.number.result < length inside =
-    omega (arith, below, c.number.ensures, c.loop-node.invariant.0, c.loop-node.inside.ok) in (
-      c.loop-node.invariant.0,
-      λ k h.
-          ⊎_elim
-          (λ (same : k ≡ node).
-          ap (flag_at (set inside c.number.result (get_or flags node false))) (ap (λ (i : ℕ). get_or ids i 0) same ∙ at)
-          ∙ get_or-set_same inside c.number.result (get_or flags node false) false fits ∙ ap (flag_at flags) (sym same))
-          (λ (other : k ≢ node).
-          let before : k < node = omega (arith, h, other) in
-          let away : get_or ids k 0 ≢ c.number.result =
-          λ g. other (c.requires.ids.once k node (omega (arith, before, l)) l (g ∙ sym at)) in
-          get_or-set_other inside c.number.result (get_or ids k 0) (get_or flags node false) false away
-          ∙ c.loop-node.invariant.1 k before)
-          (cases_eq k node),
-    )
+    let fits : c.number.result < length inside = grind arith in
+    grind (arith, get_or-set_same, get_or-set_other)
 
 pub returns-clause-fits : goal.returns-clause-fits
-returns-clause-fits c id h =
-    let below = c.number_limit-limit.ensures.above id h in
-    omega (arith, below, c.loop-node.invariant.0, c.loop-node.inside.ok)
+returns-clause-fits c id h = grind (arith, c.number_limit-limit.ensures.above id h)
