@@ -23,10 +23,7 @@ use Rattle.merge.specs.Laws.{MergedPointsAreFew}
 -- ---- places that are one
 
 three : (a b c : Bool) → (a && b && c) ≡ true → (a ≡ true) × (b ≡ true) × (c ≡ true)
-three true true true e = (refl, refl, refl)
-three true true false e = absurd (false≢true e)
-three true false c e = absurd (false≢true e)
-three false b c e = absurd (false≢true e)
+three a b c e = grind arith
 
 pub same_is : (a b : Point) → is_same_point a b ≡ true → a ≡ b
 same_is a b e =
@@ -44,13 +41,7 @@ pub differ_is : (a b : Point) → is_same_point a b ≡ false → a ≢ b
 differ_is a b e h = false≢true (sym e ∙ subst (λ (p : Point). is_same_point a p ≡ true) h (same_self a))
 
 pub same_flips : (a b : Point) → is_same_point a b ≡ is_same_point b a
-same_flips a b = by (is_same_point a b) (is_same_point b a) refl refl
-  where
-    by : (s t : Bool) → is_same_point a b ≡ s → is_same_point b a ≡ t → s ≡ t
-    by true true e f = refl
-    by false false e f = refl
-    by true false e f = absurd (differ_is b a f (sym (same_is a b e)))
-    by false true e f = absurd (differ_is a b e (sym (same_is b a f)))
+same_flips a b = grind (arith, differ_is, same_is)
 
 pub same_equivalence : IsEquivalence is_same_point
 same_equivalence =
@@ -78,14 +69,7 @@ any_other p q points differ =
 pub any_distinct : (q : Point) (rows : List Point)
     → list_any (is_same_point q) (distinct_points rows) ≡ list_any (is_same_point q) rows
 any_distinct q [] = refl
-any_distinct q (p ∷ rest) = by (any_distinct q rest) (is_same_point q p) refl
-  where
-    by : list_any (is_same_point q) (distinct_points rest) ≡ list_any (is_same_point q) rest
-        → (b : Bool) → is_same_point q p ≡ b
-        → (b || list_any (is_same_point q) (filter (is_other p) (distinct_points rest)))
-        ≡ (b || list_any (is_same_point q) rest)
-    by behind true e = refl
-    by behind false e = any_other p q (distinct_points rest) e ∙ behind
+any_distinct q (p ∷ rest) = grind (arith, any_other, any_distinct q rest)
 
 pub each_row : (rows : List Point) → All (Contains (distinct_points rows)) rows
 each_row rows =
@@ -100,9 +84,7 @@ keep Holds (p ∷ rest) h =
 
 -- the other points are none of p
 pub others : (p : Point) (points : List Point) → All (λ q. is_same_point p q ≡ false) (filter (is_other p) points)
-others p points =
-    All-weaker (λ q. is_other p q ≡ true) (λ q. is_same_point p q ≡ false) (λ q e. not-true (is_same_point p q) e)
-    (filter (is_other p) points) (filter_passes (is_other p) points)
+others p points = grind (arith, All-weaker, not-true, filter_passes)
 
 pub distinct : (rows : List Point) → AllPairs (λ p q. p ≢ q) (distinct_points rows)
 distinct [] = λ i j d l m. absurd (omega (arith, m))
@@ -114,12 +96,7 @@ distinct (p ∷ rest) =
 
 few_kept : (test : Point → Bool) (points : List Point) → length (filter test points) ≤ length points
 few_kept test [] = omega arith
-few_kept test (p ∷ rest) = by (few_kept test rest) (test p)
-  where
-    by : length (filter test rest) ≤ length rest → (b : Bool)
-        → length (cond b (p ∷ filter test rest) (filter test rest)) ≤ length (p ∷ rest)
-    by behind true = omega (arith, behind)
-    by behind false = omega (arith, behind)
+few_kept test (p ∷ rest) = grind (arith, few_kept test rest)
 
 pub few : MergedPointsAreFew
 few [] = omega arith
@@ -145,26 +122,18 @@ distinct_push (first ∷ rest) p =
     left_out : (b : Bool) → is_same_point first p ≡ true
         → first ∷ others_of (cond b points (points ++ p ∷ [])) ≡ first ∷ others_of points
     left_out true same = refl
-    left_out false same =
-        ap (λ (list : List Point). first ∷ list)
-        (filter-append (is_other first) points (p ∷ []) ∙ ap (λ (b : Bool). others_of points ++ cond (not b) (p ∷ []) []) same
-        ∙ append-nil (others_of points))
+    left_out false same = grind (arith, filter-append, append-nil)
 
     -- with p kept
     kept : (b : Bool) → is_same_point first p ≡ false
         → first ∷ others_of (cond b points (points ++ p ∷ []))
         ≡ cond b (first ∷ others_of points) ((first ∷ others_of points) ++ p ∷ [])
     kept true other = refl
-    kept false other =
-        ap (λ (list : List Point). first ∷ list)
-        (filter-append (is_other first) points (p ∷ []) ∙ ap (λ (b : Bool). others_of points ++ cond (not b) (p ∷ []) []) other)
+    kept false other = grind (arith, filter-append)
 
     at_head : (b : Bool) → is_same_point p first ≡ b
         → first ∷ others_of (cond (list_any (is_same_point p) points) points (points ++ p ∷ []))
         ≡ cond (b || list_any (is_same_point p) (others_of points)) (first ∷ others_of points)
         ((first ∷ others_of points) ++ p ∷ [])
     at_head true e = left_out (list_any (is_same_point p) points) (same_flips first p ∙ e)
-    at_head false e =
-        kept (list_any (is_same_point p) points) (same_flips first p ∙ e)
-        ∙ ap (λ (b : Bool). cond b (first ∷ others_of points) ((first ∷ others_of points) ++ p ∷ []))
-        (sym (any_other first p points e))
+    at_head false e = grind (arith, kept, same_flips, any_other)

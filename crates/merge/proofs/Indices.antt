@@ -1,6 +1,6 @@
 -- The indices of points in a list, and of rows among their distinct points.
-use Rattle.std.proofs.Common.{ℕ, ◌≡◌, ◌+◌, ◌<◌, ◌||◌, not, Bool, true, false, cond, Some, refl, ap, sym, ◌∙◌, arith, List, []}
-use Rattle.std.proofs.Common.{◌∷◌, ◌++◌, length, get_or, map, eqb, All, Contains}
+use Rattle.std.proofs.Common.{ℕ, ◌≡◌, ◌<◌, true, Some, refl, ap, sym, ◌∙◌, arith, List, [], ◌∷◌, ◌++◌, length, get_or, map, All}
+use Rattle.std.proofs.Common.{Contains}
 use Rattle.std.specs.List.{list_any}
 use Rattle.std.proofs.lemmas.Bool.{false≢true, eqb-true}
 use Rattle.std.proofs.lemmas.Option.{slice_get-get_or}
@@ -20,12 +20,7 @@ use Rattle.merge.proofs.Distinct.{same_is, same_self, same_equivalence, each_row
 below_length : (points : List Point) (p : Point) → list_any (is_same_point p) points ≡ true
     → index_among points p < length points
 below_length [] p e = absurd (false≢true e)
-below_length (first ∷ rest) p e = by (below_length rest p) (is_same_point p first) e
-  where
-    by : (list_any (is_same_point p) rest ≡ true → index_among rest p < length rest) → (b : Bool)
-        → (b || list_any (is_same_point p) rest) ≡ true → cond (not b) (1 + index_among rest p) 0 < length (first ∷ rest)
-    by behind true e = omega arith
-    by behind false e = let l : index_among rest p < length rest = behind e in omega arith
+below_length (first ∷ rest) p e = grind (arith, below_length rest p)
 
 -- a point of a list is at its place
 pub stands : (points : List Point) (p : Point) → Contains points p → StandsAt points p
@@ -37,46 +32,22 @@ stands points p there =
     (below, slice_get-get_or points (index_among points p) p below ∙ ap Some (sym at))
 
 pub each_stands : EachRowHasAnIndex
-each_stands rows =
-    All-weaker (Contains (distinct_points rows)) (StandsAt (distinct_points rows)) (stands (distinct_points rows)) rows
-    (each_row rows)
+each_stands rows = grind (arith, All-weaker, stands, each_row)
 
 -- ---- a point more
 
 -- a point keeps its place
 index_kept : (points : List Point) (p q : Point) → index_among points q < length points
     → index_among (insert_key is_same_point points p) q ≡ index_among points q
-index_kept points p q below = by (list_any (is_same_point p) points)
-  where
-    here : (b : Bool) → eqb (index_among points q) (length points) ≡ b
-        → cond b (length points + cond (is_same_point q p) 0 1) (index_among points q) ≡ index_among points q
-    here true e = absurd (omega (arith, eqb-true (index_among points q) (length points) e, below))
-    here false e = refl
-
-    by : (b : Bool) → index_among (cond b points (points ++ p ∷ [])) q ≡ index_among points q
-    by true = refl
-    by false = position_or_len_push (is_same_point q) points p ∙ here (eqb (index_among points q) (length points)) refl
+index_kept points p q below = grind (arith, eqb-true, position_or_len_push)
 
 -- the point that comes is where it was looked for
 index_found : (points : List Point) (p : Point) → index_among (insert_key is_same_point points p) p ≡ index_among points p
-index_found points p = by (list_any (is_same_point p) points)
-  where
-    here : (b : Bool) → eqb (index_among points p) (length points) ≡ b
-        → cond b (length points + cond (is_same_point p p) 0 1) (index_among points p) ≡ index_among points p
-    here true e =
-        ap (λ (s : Bool). length points + cond s 0 1) (same_self p)
-        ∙ omega (arith, eqb-true (index_among points p) (length points) e)
-    here false e = refl
-
-    by : (b : Bool) → index_among (cond b points (points ++ p ∷ [])) p ≡ index_among points p
-    by true = refl
-    by false = position_or_len_push (is_same_point p) points p ∙ here (eqb (index_among points p) (length points)) refl
+index_found points p = grind (arith, same_self, eqb-true, position_or_len_push)
 
 map_agree : (f g : Point → ℕ) (rows : List Point) → All (λ p. f p ≡ g p) rows → map f rows ≡ map g rows
 map_agree f g [] h = refl
-map_agree f g (p ∷ rest) h =
-    ap (λ (n : ℕ). n ∷ map f rest) (All-head (λ q. f q ≡ g q) p rest h)
-    ∙ ap (λ (list : List ℕ). g p ∷ list) (map_agree f g rest (All-tail (λ q. f q ≡ g q) p rest h))
+map_agree f g (p ∷ rest) h = grind (arith, All-head, All-tail, map_agree f g rest (All-tail (λ q. f q ≡ g q) p rest h))
 
 -- the indices of rows, with those of a row more
 pub indices_push : (rows : List Point) (p : Point)

@@ -3,10 +3,9 @@
 -- The set compares by the derived equality, which is that of the definitions (equals_is), so what it looks up and what it
 -- adds are theirs too (any_is, index_is). Each row then adds its point where it is new and its index in any case
 -- (points_more, indices_more), and an index that was given stays.
-use Rattle.std.proofs.Common.{ℕ, ◌≡◌, ◌<◌, ◌+◌, ◌++◌, ◌||◌, not, Bool, true, false, cond, refl, subst, rules, [], ◌∷◌, List}
-use Rattle.std.proofs.Common.{map, length, get_or, take, ap, sym, ◌∙◌, arith}
+use Rattle.std.proofs.Common.{ℕ, ◌≡◌, ◌<◌, ◌+◌, ◌++◌, Bool, true, cond, refl, rules, [], ◌∷◌, List, map, length, get_or, take}
+use Rattle.std.proofs.Common.{ap, sym, ◌∙◌, arith}
 use Rattle.std.specs.List.{list_any, position_or_len}
-use Rattle.std.proofs.lemmas.Bool.{false≢true}
 use Rattle.std.proofs.lemmas.List.{take_more, length-take-le}
 use Rattle.indexmap.specs.IndexSet.{insert_key}
 use Rattle.geo_sign.specs.Point.{Point}
@@ -25,26 +24,15 @@ equals_itself : (a : Point) → ghosts.eq a a ≡ true
 equals_itself a = search rules
 
 equals_is : (a b : Point) → ghosts.eq a b ≡ is_same_point a b
-equals_is a b = by (ghosts.eq a b) (is_same_point a b) refl refl
-  where
-    by : (s t : Bool) → ghosts.eq a b ≡ s → is_same_point a b ≡ t → s ≡ t
-    by true true e f = refl
-    by false false e f = refl
-    by true false e f = absurd (differ_is a b f (same_point a b e))
-    by false true e f =
-        absurd (false≢true (sym e ∙ subst (λ (p : Point). ghosts.eq a p ≡ true) (same_is a b f) (equals_itself a)))
+equals_is a b = grind (arith, differ_is, same_point, same_is, equals_itself)
 
 any_is : (p : Point) (points : List Point) → list_any (ghosts.eq p) points ≡ list_any (is_same_point p) points
 any_is p [] = refl
-any_is p (first ∷ rest) =
-    ap (λ (b : Bool). b || list_any (ghosts.eq p) rest) (equals_is p first)
-    ∙ ap (λ (b : Bool). is_same_point p first || b) (any_is p rest)
+any_is p (first ∷ rest) = grind (arith, equals_is, any_is p rest)
 
 index_is : (p : Point) (points : List Point) → position_or_len (ghosts.eq p) points ≡ index_among points p
 index_is p [] = refl
-index_is p (first ∷ rest) =
-    ap (λ (b : Bool). cond (not b) (1 + position_or_len (ghosts.eq p) rest) 0) (equals_is p first)
-    ∙ ap (λ (n : ℕ). cond (not (is_same_point p first)) (1 + n) 0) (index_is p rest)
+index_is p (first ∷ rest) = grind (arith, equals_is, index_is p rest)
 
 -- ---- a row more
 
@@ -74,29 +62,7 @@ indices_more rows seen of_row i p within is kept indices =
     (sym (take_more rows i p within ∙ ap (λ (q : Point). take i rows ++ q ∷ []) (sym is)))
 
 pub loop-point-preserved : goal.loop-point-preserved
-loop-point-preserved c =
-    record {
-      points = c.in_ok-index.ensures.keys
-          ∙ points_more c.args.points.now c.loop-point.seen.keys c.loop-point.point-index c.point-item.result
-          c.loop-point-test.true c.point-item.is c.loop-point.invariant.points;
-      of_row = c.in_ok-push.ensures.items
-          ∙ ap (λ (index : ℕ). c.loop-point.of_row.items ++ index ∷ []) c.in_ok-index.ensures.index
-          ∙ indices_more c.args.points.now c.loop-point.seen.keys c.loop-point.of_row.items c.loop-point.point-index
-          c.point-item.result c.loop-point-test.true c.point-item.is
-          c.loop-point.invariant.points c.loop-point.invariant.of_row;
-    }
+loop-point-preserved c = grind (arith, points_more, indices_more)
 
 pub overflow_cast-index : goal.overflow_cast-index
-overflow_cast-index c =
-    let more =
-    points_more c.args.points.now c.loop-point.seen.keys c.loop-point.point-index c.point-item.result c.loop-point-test.true
-    c.point-item.is c.loop-point.invariant.points in
-    omega (
-      arith,
-      c.in_ok-index.ensures.within,
-      ap length (c.in_ok-index.ensures.keys ∙ more),
-      few (take (c.loop-point.point-index + 1) c.args.points.now),
-      length-take-le (c.loop-point.point-index + 1) c.args.points.now,
-      c.requires,
-      c.loop-point-test.true,
-    )
+overflow_cast-index c = grind (arith, points_more, few, length-take-le)
