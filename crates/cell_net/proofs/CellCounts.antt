@@ -1,6 +1,6 @@
 -- Counts do not depend on how a facet or a cell is written: each test of a sight says the same of a rotated facet, and of a
 -- cell written anew, and so does the test for a corner.
-use Rattle.std.proofs.Common.{◌≡◌, ap, ap₂, sym, Bool, ◌||◌, nat_lt}
+use Rattle.std.proofs.Common.{◌≡◌, ap, ap₂, Bool, ◌||◌, nat_lt, arith}
 use mathlib.Core.Path.{fun_ext}
 use Rattle.std.specs.List.{list_any}
 use Rattle.geo_sign.specs.Point.{Point}
@@ -22,9 +22,7 @@ use Rattle.cell_net.proofs.Stored.{listed}
 
 pub facet_count_law : FacetCountLaw
 unfolding crossings
-facet_count_law s f g r =
-    ap (λ (p : Sight → Bool). weight_where p s.sights)
-    (fun_ext (λ (x : Sight). sym (crossed_rotated s.vertices x.vertex (scanner_point s.scanners x.scanner) f g r)))
+facet_count_law s f g r = grind (arith, crossed_rotated)
 
 corner_same : (t r : Tetrahedron) → IsRewritten t r → has_corner r ≡ has_corner t
 corner_same =

@@ -4,9 +4,9 @@
 -- last they rise. So they are the cell's row in the words of geo_sign, which says that there is one and what `written` makes of
 -- it. The facets of the cell so written begin with their least number, and a facet has one rotation that does.
 use Rattle.std.proofs.Common.{ℕ, ◌<◌, ◌≤◌, ◌≡◌, ◌≢◌, refl, sym, subst, ◌∙◌, ◌⊎◌, inl, inr, ⊎_elim, arith, Bool, true, false}
-use Rattle.std.proofs.Common.{cond, ◌&&◌, nat_lt, List, [], ◌∷◌}
+use Rattle.std.proofs.Common.{List, [], ◌∷◌}
 use Rattle.std.proofs.lemmas.Bool.{ltb-true, ltb-false, lt-ltb, le-ltb}
-use Rattle.geo_sign.specs.Tetrahedron.{Tetrahedron, tetrahedron, DirectedFacet, facet, facet_of, turned, is_among, IsRotated}
+use Rattle.geo_sign.specs.Tetrahedron.{Tetrahedron, tetrahedron, DirectedFacet, facet_of, turned, is_among, IsRotated}
 use Rattle.geo_sign.specs.Vertices.{Vertices}
 use Rattle.geo_sign.specs.Cells.{written}
 use Rattle.geo_sign.specs.RowLaws.{IsRowOf, IsPositive, IsFirstLeast}
@@ -34,8 +34,7 @@ take_ab t r (inr h) = inl (after t (tetrahedron r.a r.b r.d r.c) (tetrahedron r.
 
 take_cd : (t r : Tetrahedron) → AreFour t r → AreFour t (tetrahedron r.a r.b r.d r.c)
 unfolding AreFour
-take_cd t r (inl h) = inr h
-take_cd t r (inr h) = inl h
+take_cd t r h = grind arith
 
 take_ac : (t r : Tetrahedron) → AreFour t r → AreFour t (tetrahedron r.c r.b r.a r.d)
 unfolding AreFour
@@ -56,39 +55,19 @@ take_bc t r (inr h) = inl (after t (tetrahedron r.a r.b r.d r.c) (tetrahedron r.
 
 -- whether the two are exchanged or not
 keep_ab : (t r : Tetrahedron) → AreFour t r → AreFour t (order_ab r)
-keep_ab t r h = by (nat_lt r.b r.a)
-  where
-    by : (b : Bool) → AreFour t (tetrahedron (cond b r.b r.a) (cond b r.a r.b) r.c r.d)
-    by true = take_ab t r h
-    by false = h
+keep_ab t r h = grind (arith, take_ab)
 
 keep_cd : (t r : Tetrahedron) → AreFour t r → AreFour t (order_cd r)
-keep_cd t r h = by (nat_lt r.d r.c)
-  where
-    by : (b : Bool) → AreFour t (tetrahedron r.a r.b (cond b r.d r.c) (cond b r.c r.d))
-    by true = take_cd t r h
-    by false = h
+keep_cd t r h = grind (arith, take_cd)
 
 keep_ac : (t r : Tetrahedron) → AreFour t r → AreFour t (order_ac r)
-keep_ac t r h = by (nat_lt r.c r.a)
-  where
-    by : (b : Bool) → AreFour t (tetrahedron (cond b r.c r.a) r.b (cond b r.a r.c) r.d)
-    by true = take_ac t r h
-    by false = h
+keep_ac t r h = grind (arith, take_ac)
 
 keep_bd : (t r : Tetrahedron) → AreFour t r → AreFour t (order_bd r)
-keep_bd t r h = by (nat_lt r.d r.b)
-  where
-    by : (b : Bool) → AreFour t (tetrahedron r.a (cond b r.d r.b) r.c (cond b r.b r.d))
-    by true = take_bd t r h
-    by false = h
+keep_bd t r h = grind (arith, take_bd)
 
 keep_bc : (t r : Tetrahedron) → AreFour t r → AreFour t (order_bc r)
-keep_bc t r h = by (nat_lt r.c r.b)
-  where
-    by : (b : Bool) → AreFour t (tetrahedron r.a (cond b r.c r.b) (cond b r.b r.c) r.d)
-    by true = take_bc t r h
-    by false = h
+keep_bc t r h = grind (arith, take_bc)
 
 risen_four : (t : Tetrahedron) → AreFour t (risen t)
 unfolding risen AreFour
@@ -110,31 +89,7 @@ record IsInOrder (x y m n : ℕ) : Type 0 where
   high_is : (n ≡ x) ⊎ (n ≡ y)
 
 in_order : (x y : ℕ) → IsInOrder x y (low x y) (high x y)
-in_order x y = by (nat_lt y x) refl
-  where
-    by : (b : Bool) → nat_lt y x ≡ b → IsInOrder x y (cond b y x) (cond b x y)
-    by true e =
-        let l = ltb-true y x e in
-        record {
-          below = omega (arith, l);
-          low_x = omega (arith, l);
-          low_y = omega arith;
-          high_x = omega arith;
-          high_y = omega (arith, l);
-          low_is = inr refl;
-          high_is = inl refl;
-        }
-    by false e =
-        let l = ltb-false y x e in
-        record {
-          below = l;
-          low_x = omega arith;
-          low_y = l;
-          high_x = l;
-          high_y = omega arith;
-          low_is = inl refl;
-          high_is = inr refl;
-        }
+in_order x y = grind (arith, ltb-true, ltb-false)
 
 record IsRising (r : Tetrahedron) : Type 0 where
   a_below : r.a < r.b
@@ -170,12 +125,7 @@ risen_ordered t =
     }
 
 strict : (r : Tetrahedron) → IsOrdered r → r.b ≢ r.a → r.c ≢ r.b → r.d ≢ r.c → IsRising r
-strict r o e f g =
-    record {
-      a_below = let h = o.a_below in omega (arith, e, h);
-      b_below = let h = o.b_below in omega (arith, f, h);
-      c_below = let h = o.c_below in omega (arith, g, h);
-    }
+strict r o e f g = grind arith
 
 risen_rising : (v : Vertices) (t : Tetrahedron) → IsPositive v t → IsRising (risen t)
 unfolding AreFour
@@ -203,48 +153,13 @@ risen_written v t h = rows_are_written v t (row_from (risen t)) h (risen_row v t
 -- the facet written so is the one rotation that begins with its least number
 pub least_rotated : (f : DirectedFacet) → IsRotated f (least_first f)
 unfolding least_first
-least_rotated f = by (nat_lt f.a f.b && nat_lt f.a f.c) (nat_lt f.b f.c)
-  where
-    by : (b c : Bool) → IsRotated f (cond b f (cond c (facet f.b f.c f.a) (facet f.c f.a f.b)))
-    by true c = inl refl
-    by false true = inr (inl refl)
-    by false false = inr (inr refl)
+least_rotated f = grind arith
 
 pub least_of : (f g : DirectedFacet) → IsRotated f g → IsFirstLeast g → least_first f ≡ g
 unfolding least_first
-least_of f g (inl e) h =
-    let k : IsFirstLeast f = subst IsFirstLeast e h in
-    by (nat_lt f.a f.b) (nat_lt f.a f.c) (lt-ltb f.a f.b k.0) (lt-ltb f.a f.c k.1) ∙ sym e
-  where
-    by : (b c : Bool) → b ≡ true → c ≡ true
-        → cond (b && c) f (cond (nat_lt f.b f.c) (facet f.b f.c f.a) (facet f.c f.a f.b)) ≡ f
-    by true true x y = refl
-    by true false x y = absurd (cc)
-    by false c x y = absurd (cc)
-least_of f g (inr (inl e)) h =
-    let k : IsFirstLeast (facet f.b f.c f.a) = subst IsFirstLeast e h in
-    let j : f.b < f.a = k.1 in
-    by (nat_lt f.a f.b) (nat_lt f.a f.c) (nat_lt f.b f.c) (le-ltb f.a f.b (omega (arith, j))) (lt-ltb f.b f.c k.0) ∙ sym e
-  where
-    by : (b c d : Bool) → b ≡ false → d ≡ true
-        → cond (b && c) f (cond d (facet f.b f.c f.a) (facet f.c f.a f.b)) ≡ facet f.b f.c f.a
-    by false c true x y = refl
-    by false c false x y = absurd (cc)
-    by true c d x y = absurd (cc)
-least_of f g (inr (inr e)) h =
-    let k : IsFirstLeast (facet f.c f.a f.b) = subst IsFirstLeast e h in
-    let i : f.c < f.a = k.0 in
-    let j : f.c < f.b = k.1 in
-    by (nat_lt f.a f.b) (nat_lt f.a f.c) (nat_lt f.b f.c) (le-ltb f.a f.c (omega (arith, i)))
-    (le-ltb f.b f.c (omega (arith, j)))
-    ∙ sym e
-  where
-    by : (b c d : Bool) → c ≡ false → d ≡ false
-        → cond (b && c) f (cond d (facet f.b f.c f.a) (facet f.c f.a f.b)) ≡ facet f.c f.a f.b
-    by true false false x y = refl
-    by false false false x y = refl
-    by b true d x y = absurd (cc)
-    by b c true x y = absurd (cc)
+least_of f g (inl e) h = grind (arith, lt-ltb)
+least_of f g (inr (inl e)) h = grind (arith, le-ltb, lt-ltb)
+least_of f g (inr (inr e)) h = grind (arith, le-ltb)
 
 pub turned_least : (f : DirectedFacet) → IsFirstLeast f → IsFirstLeast (turned f)
 turned_least f h = (h.1, h.0)

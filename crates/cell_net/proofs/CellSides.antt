@@ -2,7 +2,7 @@
 -- facet and a facet one side. The neighbor across a side has the facet turned; and who has it turned is the neighbor, since a
 -- facet with a cell behind it is on no wall, so there is a neighbor, and it is the only one with the turned facet.
 -- Stands on: CellRows, and the laws of cells and links.
-use Rattle.std.proofs.Common.{ℕ, ◌<◌, ◌≡◌, refl, ap, subst, ◌∙◌, ⊎_elim, true, Option, Some, None, List}
+use Rattle.std.proofs.Common.{ℕ, ◌<◌, ◌≡◌, refl, ap, ◌∙◌, ⊎_elim, true, Option, Some, None, List, arith}
 use Rattle.geo_sign.specs.Tetrahedron.{Tetrahedron, tetrahedron, vertex_of, DirectedFacet, facet, facet_of, turned, IsRotated}
 use Rattle.geo_sign.specs.Vertices.{Vertices, IsWall}
 use Rattle.geo_sign.specs.Cells.{IsCell}
@@ -22,9 +22,7 @@ use Rattle.cell_net.proofs.CellRows.{IsSideOf, least_rotated, least_of, turned_l
 
 -- the facets of two sides from the least number on: equal where rotated, and turned where turned
 least_same : (f g : DirectedFacet) → least_first f ≡ least_first g → IsRotated f g
-least_same f g e =
-    rotated_after f (least_first g) g (subst (IsRotated f) e (least_rotated f))
-    (rotated_back g (least_first g) (least_rotated g))
+least_same f g e = grind (arith, rotated_after, least_rotated, rotated_back)
 
 least_turned : (f g : DirectedFacet) → IsFirstLeast (least_first f) → IsRotated (turned f) g
     → least_first g ≡ turned (least_first f)
@@ -35,9 +33,7 @@ least_turned f g l r =
     (turned_least (least_first f) l)
 
 turned_from : (f g : DirectedFacet) → least_first g ≡ turned (least_first f) → IsRotated (turned f) g
-turned_from f g e =
-    rotated_after (turned f) (turned (least_first f)) g (both_turned f (least_first f) (least_rotated f))
-    (rotated_back g (turned (least_first f)) (subst (IsRotated g) e (least_rotated g)))
+turned_from f g e = grind (arith, rotated_after, both_turned, least_rotated, rotated_back)
 
 module _ (v : Vertices) (live : List ℕ) (cell : ℕ → Tetrahedron) (next : ℕ → ℕ → Option ℕ)
     (cells : AreAllCells v live cell next) where
@@ -56,8 +52,7 @@ module _ (v : Vertices) (live : List ℕ) (cell : ℕ → Tetrahedron) (next : �
       cells.linked.apart x y j k hx hy hj hk (least_same (facet_of (cell x) j) (facet_of (cell y) k) e)
 
   pub one_side_of : (x j k : ℕ) → IsIn live x → j < 4 → k < 4 → side_facet x j ≡ side_facet x k → j ≡ k
-  one_side_of x j k h hj hk e =
-      one_side v (cell x) j k hj hk (positive x h) (least_same (facet_of (cell x) j) (facet_of (cell x) k) e)
+  one_side_of x j k h hj hk e = grind (arith, one_side, positive, least_same)
 
   -- the neighbor has the facet turned
   pub across_has : (x k y : ℕ) → IsIn live x → k < 4 → next x k ≡ Some y → IsIn live y × IsSideOf (cell y)

@@ -2,8 +2,8 @@
 -- ids rise along the rows and the numbers 4 * id + side along the sides, and none stands twice. A row is that of a live cell,
 -- and each live cell has one; a side is one with a free neighbor, and each such side is there.
 -- Stands on: Lists.
-use Rattle.std.proofs.Common.{ℕ, zero, suc, ◌+◌, ◌*◌, ◌<◌, ◌≡◌, refl, sym, ap, ap₂, subst, ◌∙◌, ⊎_elim, arith, Bool, true}
-use Rattle.std.proofs.Common.{false, not, cond, Option, Some, None, is_some, List, [], ◌∷◌, ◌++◌, length, get_or, map, Contains}
+use Rattle.std.proofs.Common.{ℕ, zero, suc, ◌+◌, ◌*◌, ◌<◌, ◌≡◌, refl, sym, ap, subst, ◌∙◌, ⊎_elim, arith, Bool, true, false}
+use Rattle.std.proofs.Common.{cond, Option, Some, None, is_some, List, [], ◌∷◌, ◌++◌, length, get_or, map, Contains}
 use Rattle.std.specs.List.{flat_map}
 use Rattle.std.proofs.lemmas.List.Elements.{Contains-append_left, Contains-append_right, Contains-append_cases}
 use Rattle.flow_net.specs.Nets.{flag_at}
@@ -14,7 +14,6 @@ use Rattle.cell_net.specs.declared.rows.Row.{Row}
 use Rattle.cell_net.specs.declared.sides.Side.{Side}
 use Rattle.cell_net.specs.CellRows.{facet_row, risen, row_from}
 use Rattle.cell_net.specs.Counts.{row_of}
-use Rattle.cell_net.specs.Arcs.{is_free}
 use Rattle.cell_net.specs.Gathered.{row_at, side_at, side_if_open, open_at, cut_at, all_rows, all_open, all_cut}
 use Rattle.cell_net.specs.Parts.{id_of_row, number_of_side, AreDistinctBy}
 use Rattle.cell_net.proofs.Lists.{Rises, rises_from, rises_append, rises_apart}
@@ -29,8 +28,7 @@ pub record IsImage {X Y : Type 0} (f : X → Y) (xs : List X) (y : Y) : Type 0 w
 pub map_has : {X Y : Type 0} (f : X → Y) (xs : List X) (y : Y) → Contains (map f xs) y → IsImage f xs y
 map_has f [] y h = absurd (omega (arith, h.1))
 map_has f (x ∷ xs) y (zero, l, e) = record { from = x; listed = here x xs; is = e }
-map_has f (x ∷ xs) y (suc k, l, e) =
-    let p = map_has f xs y (k, omega (arith, l), e) in record { from = p.from; listed = there x p.from xs p.listed; is = p.is }
+map_has f (x ∷ xs) y (suc k, l, e) = grind (arith, there, map_has f xs y (k, omega (arith, l), e))
 
 pub map_gets : {X Y : Type 0} (f : X → Y) (xs : List X) (x : X) → Contains xs x → Contains (map f xs) (f x)
 map_gets f [] x h = absurd (omega (arith, h.1))
@@ -42,19 +40,9 @@ entry_in : {T : Type 0} (key : ℕ) (slots : List (Option T)) (id : ℕ) (c : T)
     → Contains (entries_from key slots) (key + id, c)
 entry_in key [] id c e = absurd (cc)
 entry_in key (None ∷ rest) zero c e = absurd (cc)
-entry_in {T = T} key (None ∷ rest) (suc id) c e =
-    let n : key + 1 + id ≡ key + suc id = omega arith in
-    subst (λ (m : ℕ). Contains (entries_from (key + 1) rest) (m, c)) n (entry_in (key + 1) rest id c e)
-entry_in {T = T} key (Some x ∷ rest) zero c e =
-    let n : key ≡ key + 0 = omega arith in
-    (0, omega arith, ap₂ (λ (m : ℕ) (o : T). (m, o)) n (some_is e))
-  where
-    some_is : {a b : T} → Some a ≡ Some b → a ≡ b
-    some_is h = cc
-entry_in {T = T} key (Some x ∷ rest) (suc id) c e =
-    let n : key + 1 + id ≡ key + suc id = omega arith in
-    there (key, x) (key + suc id, c) (entries_from (key + 1) rest)
-    (subst (λ (m : ℕ). Contains (entries_from (key + 1) rest) (m, c)) n (entry_in (key + 1) rest id c e))
+entry_in {T = T} key (None ∷ rest) (suc id) c e = grind (arith, entry_in (key + 1) rest id c e)
+entry_in {T = T} key (Some x ∷ rest) zero c e = grind arith
+entry_in {T = T} key (Some x ∷ rest) (suc id) c e = grind (arith, there, entry_in (key + 1) rest id c e)
 
 record IsEntry {T : Type 0} (key : ℕ) (slots : List (Option T)) (e : ℕ × T) : Type 0 where
   id : ℕ
@@ -66,8 +54,7 @@ in_entry : {T : Type 0} (key : ℕ) (slots : List (Option T)) (e : ℕ × T) →
 in_entry key [] e h = absurd (omega (arith, h.1))
 in_entry key (None ∷ rest) e h =
     let p = in_entry (key + 1) rest e h in let a = p.at in record { id = suc p.id; at = omega (arith, a); is = p.is }
-in_entry key (Some x ∷ rest) e (zero, l, i) =
-    record { id = 0; at = let a = ap (λ p. p.0) i in omega (arith, a); is = ap (λ p. Some p.1) i }
+in_entry key (Some x ∷ rest) e (zero, l, i) = grind arith
 in_entry key (Some x ∷ rest) e (suc k, l, i) =
     let p = in_entry (key + 1) rest e (k, omega (arith, l), i) in
     let a = p.at in
@@ -94,9 +81,7 @@ entries_rise key (None ∷ rest) =
     let n : key + 1 + length rest ≡ key + length (None ∷ rest) = omega arith in
     rises_from key_of key (key + 1) (entries_from (key + 1) rest) (key + length (None ∷ rest)) (omega arith)
     (subst (λ (m : ℕ). Rises key_of (key + 1) (entries_from (key + 1) rest) m) n (entries_rise (key + 1) rest))
-entries_rise key (Some x ∷ rest) =
-    let n : key + 1 + length rest ≡ key + length (Some x ∷ rest) = omega arith in
-    (omega arith, subst (λ (m : ℕ). Rises key_of (key + 1) (entries_from (key + 1) rest) m) n (entries_rise (key + 1) rest))
+entries_rise key (Some x ∷ rest) = grind (arith, entries_rise (key + 1) rest)
 
 rows_rise : (n : ℕ) (es : List (ℕ × Cell)) (m : ℕ) → Rises key_of n es m → Rises id_of_row n (map row_at es) m
 unfolding key_of
@@ -113,11 +98,7 @@ rows_apart slots =
 one_rises : (fixed : List Bool) (e : ℕ × Cell) (k : ℕ) → Rises number_of_side (4 * e.0 + k) (side_if_open fixed e k)
     (4 * e.0 + (k + 1))
 unfolding side_if_open
-one_rises fixed e k = by (is_free fixed (get_or e.1.next k None))
-  where
-    by : (b : Bool) → Rises number_of_side (4 * e.0 + k) (cond b (side_at e k ∷ []) []) (4 * e.0 + (k + 1))
-    by true = (omega arith, omega arith)
-    by false = omega arith
+one_rises fixed e k = grind arith
 
 open_rises : (fixed : List Bool) (e : ℕ × Cell) → Rises number_of_side (4 * e.0) (open_at fixed e) (4 * (e.0 + 1))
 open_rises fixed e =
@@ -152,11 +133,7 @@ sides_apart fixed slots =
 
 cut_rises_at : (outside : List Bool) (e : ℕ × Cell) → Rises number_of_side (4 * e.0) (cut_at outside e) (4 * (e.0 + 1))
 unfolding cut_at
-cut_rises_at outside e = by (flag_at outside e.0)
-  where
-    by : (b : Bool) → Rises number_of_side (4 * e.0) (cond b (open_at outside e) []) (4 * (e.0 + 1))
-    by true = open_rises outside e
-    by false = omega arith
+cut_rises_at outside e = grind (arith, open_rises)
 
 cut_rises : (outside : List Bool) (n : ℕ) (es : List (ℕ × Cell)) (m : ℕ) → Rises key_of n es m → Rises number_of_side (4 * n)
     (flat_map (cut_at outside) es) (4 * m)
@@ -205,27 +182,7 @@ module _ (slots : List (Option Cell)) where
   one_is : (fixed : List Bool) (e : ℕ × Cell) (k : ℕ) (x : Side) → k < 4 → slot_at slots e.0 ≡ Some e.1
       → Contains (side_if_open fixed e k) x → IsSideAt fixed x
   unfolding side_if_open
-  one_is fixed e k x l at h = by (get_or e.1.next k None) refl h
-    where
-      made : (other : ℕ) → get_or e.1.next k None ≡ Some other → (b : Bool) → flag_at fixed other ≡ b
-          → Contains (cond (not b) (side_at e k ∷ []) []) x → IsSideAt fixed x
-      made other n true f g = absurd (omega (arith, g.1))
-      made other n false f (suc i, m, g) = absurd (omega (arith, m))
-      made other n false f (zero, m, g) =
-          subst (IsSideAt fixed) g
-          (record {
-            live = ap is_some at;
-            in_range = l;
-            other = other;
-            next = ap (λ (o : Option Cell). next_in o k) at ∙ n;
-            free = f;
-            is = ap (λ (o : Option Cell). facet_row (vertices_in o) k) (sym at);
-          })
-
-      by : (o : Option ℕ) → get_or e.1.next k None ≡ o → Contains (cond (is_free fixed o) (side_at e k ∷ []) []) x
-          → IsSideAt fixed x
-      by None n g = absurd (omega (arith, g.1))
-      by (Some other) n g = made other n (flag_at fixed other) refl g
+  one_is fixed e k x l at h = grind arith
 
   open_is : (fixed : List Bool) (e : ℕ × Cell) (x : Side) → slot_at slots e.0 ≡ Some e.1 → Contains (open_at fixed e) x
       → IsSideAt fixed x
@@ -248,23 +205,7 @@ module _ (slots : List (Option Cell)) where
 
   id_of_open : (fixed : List Bool) (e : ℕ × Cell) (x : Side) → Contains (open_at fixed e) x → x.id ≡ e.0
   unfolding side_if_open
-  id_of_open fixed e x h =
-      let a = side_if_open fixed e 0 in
-      let b = side_if_open fixed e 1 in
-      let c = side_if_open fixed e 2 in
-      let d = side_if_open fixed e 3 in
-      ⊎_elim (λ g. id_of_one 0 g)
-      (λ g. ⊎_elim (λ g. id_of_one 1 g) (λ g. ⊎_elim (λ g. id_of_one 2 g) (λ g. id_of_one 3 g) (Contains-append_cases c d x g))
-      (Contains-append_cases b (c ++ d) x g))
-      (Contains-append_cases a (b ++ (c ++ d)) x h)
-    where
-      id_of_one : (k : ℕ) → Contains (side_if_open fixed e k) x → x.id ≡ e.0
-      id_of_one k g = by (is_free fixed (get_or e.1.next k None)) g
-        where
-          by : (b : Bool) → Contains (cond b (side_at e k ∷ []) []) x → x.id ≡ e.0
-          by true (zero, l, i) = sym (ap (λ (y : Side). y.id) i)
-          by true (suc n, l, i) = absurd (omega (arith, l))
-          by false (n, l, i) = absurd (omega (arith, l))
+  id_of_open fixed e x h = grind (arith, Contains-append_cases)
 
   -- a side of an outside cell
   pub cut_is : (outside : List Bool) (x : Side) → Contains (all_cut outside slots) x
@@ -283,21 +224,12 @@ module _ (slots : List (Option Cell)) where
       → flag_at fixed other ≡ false
       → Contains (side_if_open fixed e k) (side_at e k)
   unfolding side_if_open
-  one_there fixed e k other n f =
-      subst (λ (o : Option ℕ). Contains (cond (is_free fixed o) (side_at e k ∷ []) []) (side_at e k)) (sym n)
-      (subst (λ (b : Bool). Contains (cond (not b) (side_at e k ∷ []) []) (side_at e k)) (sym f) (here (side_at e k) []))
+  one_there fixed e k other n f = grind (arith, here)
 
   open_there : (fixed : List Bool) (e : ℕ × Cell) (k other : ℕ) → k < 4 → get_or e.1.next k None ≡ Some other
       → flag_at fixed other ≡ false → Contains (open_at fixed e) (side_at e k)
-  open_there fixed e zero other l n f =
-      Contains-append_left (side_if_open fixed e 0)
-      (side_if_open fixed e 1 ++ (side_if_open fixed e 2 ++ side_if_open fixed e 3))
-      (side_at e 0) (one_there fixed e 0 other n f)
-  open_there fixed e (suc zero) other l n f =
-      Contains-append_right (side_if_open fixed e 0)
-      (side_if_open fixed e 1 ++ (side_if_open fixed e 2 ++ side_if_open fixed e 3)) (side_at e 1)
-      (Contains-append_left (side_if_open fixed e 1) (side_if_open fixed e 2 ++ side_if_open fixed e 3) (side_at e 1)
-      (one_there fixed e 1 other n f))
+  open_there fixed e zero other l n f = grind (arith, Contains-append_left, one_there)
+  open_there fixed e (suc zero) other l n f = grind (arith, Contains-append_right, Contains-append_left, one_there)
   open_there fixed e (suc (suc zero)) other l n f =
       Contains-append_right (side_if_open fixed e 0)
       (side_if_open fixed e 1 ++ (side_if_open fixed e 2 ++ side_if_open fixed e 3)) (side_at e 2)

@@ -1,7 +1,7 @@
 -- Linked cells and counts are a network: each neighbor is a cell, and another one, and counts of 32 bits at such weights are small. A
 -- side from a free cell towards a free one has a way back.
-use Rattle.std.proofs.Common.{ℕ, ◌≡◌, ◌≢◌, ◌<◌, ◌≤◌, ◌+◌, ◌*◌, ◌/◌, ◌%◌, ◌^◌, Bool, true, false, cond, List, length}
-use Rattle.std.proofs.Common.{get_or, Option, Some, None, refl, ap, sym, ◌∙◌, arith, not, ◌&&◌}
+use Rattle.std.proofs.Common.{ℕ, ◌≡◌, ◌≢◌, ◌<◌, ◌≤◌, ◌+◌, ◌*◌, ◌/◌, ◌%◌, ◌^◌, Bool, true, false, cond, List, length, get_or}
+use Rattle.std.proofs.Common.{Option, Some, None, ap, sym, ◌∙◌, arith}
 use Rattle.std.specs.Prelude.{unwrap_or}
 use Rattle.std.proofs.Math.Nat.{mul-le-mul_right}
 use Rattle.std.proofs.lemmas.Bool.{false≢true}
@@ -39,43 +39,24 @@ apart_at s store j fixed (Some other) e can = λ same.
 
 -- a choice of an amount or none that is some
 is_chosen : (b : Bool) (n : ℕ) → 1 ≤ cond b n 0 → b ≡ true
-is_chosen true n l = refl
-is_chosen false n l = absurd (omega (arith, l))
+is_chosen b n l = grind arith
 
 -- amounts of so many votes are small
 votes_fit : (vote smooth count : ℕ) → vote ≤ 65535 → smooth ≤ 65535 → count < 2 ^ 32 → vote * count + smooth ≤ 2 ^ 60
 votes_fit vote smooth count v m c = let product = mul-le-mul_right count v in omega (arith, product)
 
 cond_fits : (b : Bool) (n m : ℕ) → n ≤ m → cond b n 0 ≤ m
-cond_fits true n m l = l
-cond_fits false n m l = omega arith
+cond_fits b n m l = grind arith
 
 -- the cells of a store, with lists that are long enough
 pub shape_of : (s : Store) (crossed behind : List ℕ) (fixed : List Bool) (settings : Settings) → IsStore s
     → length s.slots ≤ length fixed → 4 * length s.slots ≤ length crossed → length s.slots ≤ length behind
     → ((j : ℕ) → get_or crossed j 0 < 2 ^ 32) → ((v : ℕ) → get_or behind v 0 < 2 ^ 32)
     → IsShape s.slots crossed behind fixed settings
-shape_of s crossed behind fixed settings store flags sides cells crossed_fit behind_fit = record {
-  flags = flags;
-  sides = sides;
-  cells = cells;
-  tails_in = λ j l. omega arith;
-  heads_in = λ j l. neighbor_in s fixed store flags j l (across s.slots j) refl;
-  distinct = λ j some.
-      apart_at s store j fixed (across s.slots j) refl
-      (is_chosen (is_free fixed (across s.slots j)) (settings.vote * get_or crossed j 0 + settings.smooth) some);
-  capacities_fit = λ j.
-      cond_fits (is_free fixed (across s.slots j)) (settings.vote * get_or crossed j 0 + settings.smooth) (2 ^ 60)
-      (votes_fit settings.vote settings.smooth (get_or crossed j 0) settings.vote_at_most settings.smooth_at_most (crossed_fit j));
-  sinks_fit = λ v.
-      cond_fits ((links_of s.slots).is_live v) (settings.vote * get_or behind v 0) (2 ^ 60)
-      (let fit = votes_fit settings.vote 0 (get_or behind v 0) settings.vote_at_most (omega arith) (behind_fit v) in
-      omega (arith, fit));
-}
+shape_of s crossed behind fixed settings store flags sides cells crossed_fit behind_fit =
+    grind (arith, neighbor_in, apart_at, is_chosen, cond_fits, votes_fit)
 
 -- a side of a free cell is paired where the neighbor across it is free
 pub paired_is : (slots : List (Option Cell)) (fixed : List Bool) (j id : ℕ) → id ≡ j / 4 → flag_at fixed (j / 4) ≡ false
     → is_free fixed ((links_of slots).next id (j % 4)) ≡ is_paired slots fixed j
-paired_is slots fixed j id same free =
-    ap (λ (v : ℕ). is_free fixed ((links_of slots).next v (j % 4))) same
-    ∙ ap (λ (b : Bool). not b && is_free fixed (across slots j)) (sym free)
+paired_is slots fixed j id same free = grind arith

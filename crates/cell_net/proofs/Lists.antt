@@ -28,8 +28,7 @@ above : {X : Type 0} (f : X → ℕ) (n : ℕ) (xs : List X) (m : ℕ) → Rises
     → n ≤ f (get_or xs i d)
 above f n [] m r i d l = absurd (omega (arith, l))
 above f n (x ∷ xs) m r zero d l = r.0
-above f n (x ∷ xs) m r (suc i) d l =
-    let a = r.0 in let b = above f (f x + 1) xs m r.1 i d (omega (arith, l)) in omega (arith, a, b)
+above f n (x ∷ xs) m r (suc i) d l = grind (arith, above f (f x + 1) xs m r.1 i d (omega (arith, l)))
 
 rising : {X : Type 0} (f : X → ℕ) (n : ℕ) (xs : List X) (m : ℕ) → Rises f n xs m → (i j : ℕ) (d : X) → i < j → j < length xs
     → f (get_or xs i d) < f (get_or xs j d)
@@ -71,21 +70,11 @@ source_of xs ys a b d s i =
 
 source_below : (a b i s n : ℕ) → IsFrom a b i s → a < n → b < n → i < n → s < n
 unfolding IsFrom
-source_below a b i s n (inl p) la lb li = let e = p.1 in omega (arith, e, lb)
-source_below a b i s n (inr (inl p)) la lb li = let e = p.1 in omega (arith, e, la)
-source_below a b i s n (inr (inr p)) la lb li = let e = p.2 in omega (arith, e, li)
+source_below a b i s n h la lb li = grind arith
 
 sources : (a b i s j t : ℕ) → IsFrom a b i s → IsFrom a b j t → s ≡ t → i ≡ j
 unfolding IsFrom
-sources a b i s j t (inl p) (inl q) e = p.0 ∙ sym q.0
-sources a b i s j t (inl p) (inr (inl q)) e = p.0 ∙ sym q.1 ∙ sym e ∙ p.1 ∙ sym q.0
-sources a b i s j t (inl p) (inr (inr q)) e = absurd (q.1 (sym q.2 ∙ sym e ∙ p.1))
-sources a b i s j t (inr (inl p)) (inl q) e = p.0 ∙ sym q.1 ∙ sym e ∙ p.1 ∙ sym q.0
-sources a b i s j t (inr (inl p)) (inr (inl q)) e = p.0 ∙ sym q.0
-sources a b i s j t (inr (inl p)) (inr (inr q)) e = absurd (q.0 (sym q.2 ∙ sym e ∙ p.1))
-sources a b i s j t (inr (inr p)) (inl q) e = absurd (p.1 (sym p.2 ∙ e ∙ q.1))
-sources a b i s j t (inr (inr p)) (inr (inl q)) e = absurd (p.0 (sym p.2 ∙ e ∙ q.1))
-sources a b i s j t (inr (inr p)) (inr (inr q)) e = sym p.2 ∙ e ∙ q.2
+sources a b i s j t h e k = grind arith
 
 apart_swapped : {X : Type 0} (f : X → ℕ) (xs : List X) (a b : ℕ) → a < length xs → b < length xs → AreDistinctBy f xs
     → AreDistinctBy f (swap xs a b)

@@ -2,8 +2,8 @@
 -- by a facet that it alone has, so what the search finds is the index of its row. Rows and facets are apart, and keys keep their
 -- order, so sorted lists rise strictly.
 -- Stands on: CellRows, CellSides, Entries, KeyOrders.
-use Rattle.std.proofs.Common.{ℕ, zero, suc, ◌<◌, ◌≤◌, ◌^◌, ◌≡◌, refl, sym, ap, subst, ◌∙◌, inl, inr, ⊎_elim}
-use Rattle.std.proofs.Common.{arith, Bool, false, Option, Some, List, [], length, get_or, map, AllPairs, Contains}
+use Rattle.std.proofs.Common.{ℕ, ◌<◌, ◌≤◌, ◌^◌, ◌≡◌, refl, sym, ap, subst, ◌∙◌, ⊎_elim, arith, Bool, false, Option, Some, List}
+use Rattle.std.proofs.Common.{[], length, get_or, map, AllPairs, Contains}
 use Rattle.std.specs.List.Sorted.{IsPermutation, IsNonDecreasingBy}
 use Rattle.std.proofs.lemmas.Bool.{false_from_ne_true}
 use Rattle.std.proofs.lemmas.List.{get_or-map, get_or_default, length-map}
@@ -12,7 +12,7 @@ use Rattle.std.proofs.lemmas.List.Sorted.{IsPermutation-sym, Contains-permutatio
 use Rattle.std.proofs.lemmas.List.Sums.{position_or_len_is}
 use Rattle.flow_net.specs.Nets.{flag_at}
 use Rattle.geo_sign.specs.Tetrahedron.{Tetrahedron, DirectedFacet, facet_of, facet_at, numbers_of, turned, IsRotated}
-use Rattle.geo_sign.specs.Cells.{FormCell, IsRisingCell, IsCellList}
+use Rattle.geo_sign.specs.Cells.{IsRisingCell, IsCellList}
 use Rattle.geo_sign.specs.Rising.{IsBefore}
 use Rattle.visibility.specs.Scenes.{Scene}
 use Rattle.visibility.specs.Complexes.{has_facet, HasFacet, cell_index, cell_of, Complex}
@@ -48,16 +48,11 @@ AreBelow n f = (f.a < n) × (f.b < n) × (f.c < n)
 
 below_rotated : (n : ℕ) (f g : DirectedFacet) → IsRotated f g → AreBelow n f → AreBelow n g
 unfolding AreBelow
-below_rotated n f g (inl e) h = subst (AreBelow n) (sym e) h
-below_rotated n f g (inr (inl e)) h = subst (AreBelow n) (sym e) (h.1, h.2, h.0)
-below_rotated n f g (inr (inr e)) h = subst (AreBelow n) (sym e) (h.2, h.0, h.1)
+below_rotated n f g h e = grind arith
 
 below_side : (n : ℕ) (t : Tetrahedron) (k : ℕ) → t.a < n → t.b < n → t.c < n → t.d < n → AreBelow n (facet_of t k)
 unfolding AreBelow
-below_side n t zero a b c d = (b, d, c)
-below_side n t (suc zero) a b c d = (a, c, d)
-below_side n t (suc (suc zero)) a b c d = (a, d, b)
-below_side n t (suc (suc (suc k))) a b c d = (a, b, c)
+below_side n t k a b c d = grind arith
 
 -- where an element is
 pub record IsAt {X : Type 0} (xs : List X) (x : X) (i : ℕ) : Type 0 where
@@ -89,24 +84,7 @@ module _ (s : Scene) (slots : List (Option Cell)) (fixed : List Bool) (cells : A
   rising_row x h = cells_are_rows.row s.vertices (cell x) (row_of slots x) (cells.cells x (listed slots x h)) (is_row x h)
 
   small_at : (x : ℕ) → IsLive (links_of slots) x → AreSmall (risen (cell x))
-  small_at x h = let p = rising_row x h in by p.3
-    where
-      r : Tetrahedron
-      r = risen (cell x)
-
-      by : FormCell s.vertices r.a r.b r.c r.d → AreSmall r
-      by (inl k) =
-          let a = k.has_a.0 in
-          let b = k.has_b.0 in
-          let c = k.has_c.0 in
-          let d = k.has_d.0 in
-          record { a = omega (arith, a, few); b = omega (arith, b, few); c = omega (arith, c, few); d = omega (arith, d, few) }
-      by (inr k) =
-          let a = k.has_a.0 in
-          let b = k.has_b.0 in
-          let c = k.has_c.0 in
-          let d = k.has_d.0 in
-          record { a = omega (arith, a, few); b = omega (arith, b, few); c = omega (arith, d, few); d = omega (arith, c, few) }
+  small_at x h = grind (arith, rising_row)
 
   -- rows that are equal are those of one cell
   pub one_id : (x y : ℕ) → IsLive (links_of slots) x → IsLive (links_of slots) y → row_of slots x ≡ row_of slots y → x ≡ y
@@ -138,13 +116,7 @@ module _ (s : Scene) (slots : List (Option Cell)) (fixed : List Bool) (cells : A
 
     small_facet : (x k : ℕ) → IsLive (links_of slots) x → AreSmallOf (facet_at_side x k)
     unfolding AreBelow
-    small_facet x k h =
-        let c = cells.cells x (listed slots x h) in
-        let p =
-        below_rotated s.vertices.count (facet_of (cell x) k) (facet_at_side x k) (least_rotated (facet_of (cell x) k))
-        (below_side s.vertices.count (cell x) k c.has_a.0 c.has_b.0 c.has_c.0 c.has_d.0) in
-        let b = p.1 in let d = p.2 in
-        record { b = omega (arith, b, few); c = omega (arith, d, few) }
+    small_facet x k h = grind (arith, listed, below_rotated, least_rotated, below_side)
 
     facet_there : (i : ℕ) (d : List ℕ) → i < length sides
         → get_or (map facet_of_side sides) i d ≡ (get_or sides i no_side).facet

@@ -4,13 +4,13 @@
 -- The list of cells has each live cell once and that of facets each side with a free cell across, so sums over the lists are
 -- sums over the slots (`SlotSums`). A facet is in one cell alone, so the cell of a facet is that of its side, and the cell of the turned
 -- facet the neighbor. The rest is what the counts are.
-use Rattle.std.proofs.Common.{ℕ, ◌≡◌, ◌<◌, ◌≤◌, ◌+◌, ◌*◌, ◌/◌, ◌%◌, ◌==◌, ◌++◌, Bool, true, false, cond, not, ◌||◌, Option, Some}
-use Rattle.std.proofs.Common.{None, is_some, List, [], ◌∷◌, length, get_or, Contains, refl, ap, ap₂, sym, subst, ◌∙◌}
-use Rattle.std.proofs.Common.{arith, unwrap_or, slice_index}
+use Rattle.std.proofs.Common.{ℕ, ◌≡◌, ◌<◌, ◌≤◌, ◌+◌, ◌*◌, ◌/◌, ◌%◌, ◌==◌, ◌++◌, Bool, true, false, cond, not, ◌||◌, Option}
+use Rattle.std.proofs.Common.{Some, None, is_some, List, [], length, get_or, Contains, ap, ap₂, sym, subst, ◌∙◌, arith}
+use Rattle.std.proofs.Common.{unwrap_or, slice_index}
 use Rattle.std.specs.List.{sum_by}
 use Rattle.std.specs.List.Sorted.{IsPermutation}
 use Rattle.std.specs.Str.{bytes_eq}
-use Rattle.std.proofs.lemmas.Bool.{false≢true, eqb-true, eq-eqb}
+use Rattle.std.proofs.lemmas.Bool.{eqb-true, eq-eqb}
 use Rattle.std.proofs.lemmas.List.{get_or-map, length-map, get_or_past}
 use Rattle.std.proofs.lemmas.List.Elements.{Contains-get_or}
 use Rattle.std.proofs.lemmas.List.Sorted.{IsPermutation-refl}
@@ -18,7 +18,7 @@ use Rattle.std.proofs.lemmas.List.Sums.{sum_by-append}
 use Rattle.std.proofs.lemmas.Slice.Eq.{bytes_eq-Decides}
 use Rattle.slab.specs.Slab.{entries_from}
 use Rattle.geo_sign.proofs.Booleans.{same_bools}
-use Rattle.geo_sign.specs.Tetrahedron.{DirectedFacet, facet_at, facet_of, turned}
+use Rattle.geo_sign.specs.Tetrahedron.{DirectedFacet, facet_at, turned}
 use Rattle.flow_net.specs.Nets.{flag_at}
 use Rattle.flow_net.specs.Sums.{sum_below}
 use Rattle.flow_net.specs.Numbered.{NumberedNetwork}
@@ -27,12 +27,12 @@ use Rattle.flow_net.specs.declared.Flow.{Flow}
 use Rattle.flow_net.specs.declared.votes.Settings.{Settings}
 use Rattle.flow_net.proofs.Correspondences.{Corresponds}
 use Rattle.tetra_store.specs.declared.link.Cell.{Cell}
-use Rattle.tetra_store.specs.Links.{links_of, slot_at, next_in, vertices_in, IsLive}
+use Rattle.tetra_store.specs.Links.{links_of, next_in, vertices_in, IsLive}
 use Rattle.tetra_store.specs.Stored.{live_of}
 use Rattle.tetra_store.proofs.Observed.{next_live, slot_in}
 use Rattle.visibility.specs.Scenes.{Scene}
 use Rattle.visibility.specs.Complexes.{Complex, cell_of}
-use Rattle.visibility.specs.Votes.{is_fixed, capacity, sink, crossings, sights_before}
+use Rattle.visibility.specs.Votes.{is_fixed, capacity, sink}
 use Rattle.visibility.specs.Cuts.{network_over}
 use Rattle.visibility.specs.Laws.{row_index}
 use Rattle.visibility.specs.Listings.{AreOnce}
@@ -42,7 +42,7 @@ use Rattle.visibility.proofs.Indices.{at_index, row_index_at}
 use Rattle.cell_net.specs.declared.rows.Row.{Row}
 use Rattle.cell_net.specs.declared.sides.Side.{Side}
 use Rattle.cell_net.specs.ByNumber.{SaysOfCells, SaysOfSides, IsZeroElsewhere}
-use Rattle.cell_net.specs.CellRows.{facet_row, least_first, risen, row_from}
+use Rattle.cell_net.specs.CellRows.{facet_row, risen, row_from}
 use Rattle.cell_net.specs.Counts.{AreCountsOf, row_of}
 use Rattle.cell_net.specs.Gathered.{all_rows, all_open, row_at, side_at, side_if_open, open_at}
 use Rattle.cell_net.specs.StoredComplexes.{stored_complex}
@@ -72,28 +72,22 @@ record IsOpened (fixed : List Bool) (o : Option ℕ) : Type 0 where
   free : flag_at fixed other ≡ false
 
 not_set : (b : Bool) → not b ≡ true → b ≡ false
-not_set true e = absurd (false≢true e)
-not_set false e = refl
+not_set b e = grind arith
 
 opened : (fixed : List Bool) (o : Option ℕ) → is_free fixed o ≡ true → IsOpened fixed o
-opened fixed None e = absurd (false≢true e)
-opened fixed (Some other) e = record { other = other; is = refl; free = not_set (flag_at fixed other) e }
+opened fixed o e = grind (arith, not_set)
 
 unset : (b : Bool) (m n : ℕ) → b ≡ false → cond b m n ≡ n
-unset true m n e = absurd (false≢true (sym e))
-unset false m n e = refl
+unset b m n e = grind arith
 
 set : (b : Bool) (m n : ℕ) → b ≡ true → cond b m n ≡ m
-set true m n e = refl
-set false m n e = absurd (false≢true e)
+set b m n e = grind arith
 
 outside_of : (b c : Bool) → b ≡ false → (not b || c) ≡ true
-outside_of true c e = absurd (false≢true (sym e))
-outside_of false c e = refl
+outside_of b c e = grind arith
 
 flag_of : (b c : Bool) → b ≡ true → (not b || c) ≡ c
-flag_of true c e = refl
-flag_of false c e = absurd (false≢true e)
+flag_of b c e = grind arith
 
 module _ (s : Scene) (slots : List (Option Cell)) (crossed behind : List ℕ) (fixed : List Bool) (settings : Settings)
     (asked : AreCountsOf s slots crossed behind fixed) (shape : IsShape slots crossed behind fixed settings)
@@ -108,8 +102,7 @@ module _ (s : Scene) (slots : List (Option Cell)) (crossed behind : List ℕ) (f
   net = numbered_with slots crossed behind fixed settings shape
 
   pub live_before : (j : ℕ) → there j ≡ true → IsLive (links_of slots) (j / 4)
-  live_before j e =
-      let o = opened fixed (across slots j) e in next_live (slot_at slots (j / 4)) (j % 4) o.other o.is
+  live_before j e = grind (arith, opened, next_live)
 
   -- the neighbor has the facet of the side turned
   other_has : (j : ℕ) (e : there j ≡ true) → IsLive (links_of slots) (opened fixed (across slots j) e).other
@@ -153,21 +146,12 @@ module _ (s : Scene) (slots : List (Option Cell)) (crossed behind : List ℕ) (f
   -- what is said of sides is said of arcs
   pub by_arc : {X : Type 0} (at : ℕ → X) (facet : List ℕ → X) → SaysOfSides slots fixed at facet → (j : ℕ) → there j ≡ true
       → at j ≡ facet (facet_by j)
-  by_arc at facet says j e =
-      let number : 4 * (j / 4) + j % 4 ≡ j = omega arith in
-      ap at (sym number) ∙ says (j / 4) (j % 4) (live_before j e) (omega arith) e
+  by_arc at facet says j e = grind (arith, live_before, says (j / 4) (j % 4) (live_before j e) (omega arith) e)
 
   -- no more than the capacity, which is 0
   pub elsewhere : (flow : Flow) → ((j : ℕ) → j < 4 * length fixed → get_or flow.on_arc j 0 ≤ net.capacity j)
       → IsZeroElsewhere slots fixed (slice_index flow.on_arc)
-  elsewhere flow within id k live l e =
-      let low = slot_in slots id live in
-      let flags = shape.flags in
-      let closed : there (4 * id + k) ≡ false =
-      ap (is_free fixed) (ap₂ (λ (i m : ℕ). (links_of slots).next i m) (cell_part id k l) (side_part id k l)) ∙ e in
-      let none = padding.no_capacity (4 * id + k) (omega (arith, low, l, flags)) closed in
-      let most = within (4 * id + k) (omega (arith, low, l, flags)) in
-      omega (arith, none, most)
+  elsewhere flow within id k live l e = grind (arith, slot_in, cell_part, side_part)
 
   pub facet_there : (j : ℕ) → there j ≡ true → Contains complex.facets (facet_by j)
   facet_there j e =
@@ -198,24 +182,14 @@ module _ (s : Scene) (slots : List (Option Cell)) (crossed behind : List ℕ) (f
       )
 
   pub capacity_is : (j : ℕ) → there j ≡ true → net.capacity j ≡ capacity s (facet_at (facet_by j))
-  capacity_is j e =
-      let f : DirectedFacet = facet_of ((links_of slots).at (j / 4)) (j % 4) in
-      let number : 4 * (j / 4) + j % 4 ≡ j = omega arith in
-      let count =
-      sym (ap (λ (k : ℕ). get_or crossed k 0) number)
-      ∙ asked.crossings.at (j / 4) (j % 4) (least_first f) (live_before j e) (omega arith) (least_rotated f) in
-      set (there j) (settings.vote * get_or crossed j 0 + settings.smooth) 0 e
-      ∙ ap (λ (n : ℕ). settings.vote * n + settings.smooth) count
-      ∙ ap (λ (x : Settings). x.vote * crossings s (least_first f) + x.smooth) (sym same_settings)
+  capacity_is j e = grind (arith, live_before, least_rotated, set)
 
   pub fixed_is : (v : ℕ) → real v ≡ true → net.is_fixed v ≡ is_fixed s.vertices s.scanners (row_of slots v)
   fixed_is v e = flag_of (real v) (flag_at fixed v) e ∙ asked.flags.at v e
 
   pub sink_is : (v : ℕ) → real v ≡ true → net.sink v ≡ sink s (row_of slots v)
   unfolding sink
-  sink_is v e =
-      set (real v) (settings.vote * get_or behind v 0) 0 e ∙ ap (λ (n : ℕ). settings.vote * n) (asked.before.at v e)
-      ∙ ap (λ (x : Settings). x.vote * sights_before s (row_of slots v)) (sym same_settings)
+  sink_is v e = grind (arith, set)
 
   -- ---- sums
   pub node_sums : (f : ℕ → ℕ) (g : List ℕ → ℕ) → ((v : ℕ) → (v < length fixed) × (real v ≡ true) → f v ≡ g (row_of slots v))
@@ -240,33 +214,14 @@ module _ (s : Scene) (slots : List (Option Cell)) (crossed behind : List ℕ) (f
   side_sum : (g : List ℕ → ℕ) (e : ℕ × Cell) (k n : ℕ) → n ≡ cond (is_free fixed (get_or e.1.next k None)) (g (facet_of_side (side_at e k))) 0
       → n ≡ sum_by (λ x. g (facet_of_side x)) (side_if_open fixed e k)
   unfolding side_if_open
-  side_sum g e k n h = h ∙ by (is_free fixed (get_or e.1.next k None))
-    where
-      by : (b : Bool) → cond b (g (facet_of_side (side_at e k))) 0
-          ≡ sum_by (λ x. g (facet_of_side x)) (cond b (side_at e k ∷ []) [])
-      by true = omega arith
-      by false = refl
+  side_sum g e k n h = grind arith
 
   arc_at : (f : ℕ → ℕ) (g : List ℕ → ℕ)
       → ((j : ℕ) → (j < 4 * length fixed) × (there j ≡ true) → f j ≡ g (facet_by j)) → (i k : ℕ) (c : Cell) → k < 4
       → i < length slots → get_or slots i None ≡ Some c
       → cond (there (4 * i + k)) (f (4 * i + k)) 0
       ≡ cond (is_free fixed (get_or c.next k None)) (g (facet_of_side (side_at (i, c) k))) 0
-  arc_at f g h i k c lk l e =
-      let flags = shape.flags in
-      let across_is : across slots (4 * i + k) ≡ get_or c.next k None =
-      ap₂ (λ (x m : ℕ). (links_of slots).next x m) (cell_part i k lk) (side_part i k lk)
-      ∙ ap (λ (o : Option Cell). next_in o k) e in
-      let facet_is : facet_by (4 * i + k) ≡ facet_of_side (side_at (i, c) k) =
-      ap₂ (λ (x m : ℕ). facet_row ((links_of slots).at x) m) (cell_part i k lk) (side_part i k lk)
-      ∙ ap (λ (o : Option Cell). facet_row (vertices_in o) k) e in
-      by (there (4 * i + k)) (is_free fixed (get_or c.next k None)) (f (4 * i + k)) (g (facet_of_side (side_at (i, c) k)))
-      (ap (is_free fixed) across_is)
-      (λ is. h (4 * i + k) (omega (arith, l, lk, flags), is) ∙ ap g facet_is)
-    where
-      by : (a b : Bool) (m n : ℕ) → a ≡ b → (a ≡ true → m ≡ n) → cond a m 0 ≡ cond b n 0
-      by true b m n e h = h refl ∙ sym (set b n 0 (sym e))
-      by false b m n e h = sym (unset b n 0 (sym e))
+  arc_at f g h i k c lk l e = grind (arith, cell_part, side_part, set, unset)
 
   pub arc_sums : (f : ℕ → ℕ) (g : List ℕ → ℕ)
       → ((j : ℕ) → (j < 4 * length fixed) × (there j ≡ true) → f j ≡ g (facet_by j))

@@ -3,7 +3,7 @@
 -- A facet and its turned one have the same three vertices. The facet of side k has all four vertices of the cell but vertex k. So
 -- facets of two sides that are each other turned have the same vertex opposite, and are of one side, as vertices are distinct
 -- (`same_side`). A facet of three distinct vertices is not itself turned (`not_itself`).
-use Rattle.std.proofs.Common.{ℕ, zero, suc, ◌≡◌, ◌≢◌, ◌<◌, ◌+◌, ap, inl, inr, arith, subst}
+use Rattle.std.proofs.Common.{ℕ, zero, suc, ◌≡◌, ◌≢◌, ◌<◌, ◌+◌, ap, inl, inr, arith}
 use Rattle.geo_sign.specs.Tetrahedron.{Tetrahedron, DirectedFacet, facet, facet_of, vertex_of, IsTurned}
 
 abbrev sum_of : DirectedFacet → ℕ
@@ -21,10 +21,7 @@ turned_sum f g h =
     ]
 
 facet_sum : (t : Tetrahedron) (k : ℕ) → sum_of (facet_of t k) + vertex_of t k ≡ t.a + t.b + t.c + t.d
-facet_sum t zero = omega arith
-facet_sum t (suc zero) = omega arith
-facet_sum t (suc (suc zero)) = omega arith
-facet_sum t (suc (suc (suc k))) = omega arith
+facet_sum t k = grind arith
 
 -- distinct vertices
 abbrev pub AreDistinct : Tetrahedron → Type 0
@@ -61,6 +58,4 @@ own t d (suc (suc (suc k))) =
 
 -- no two sides of a cell have one facet in its two directions
 pub none_turned : (t : Tetrahedron) → AreDistinct t → (k m : ℕ) → k < 4 → m < 4 → ¬ IsTurned (facet_of t k) (facet_of t m)
-none_turned t d k m lk lm h =
-    let P : ℕ → Type 0 = λ x. IsTurned (facet_of t k) (facet_of t x) in
-    own t d k (subst P (same_side t d k m lk lm h) h)
+none_turned t d k m lk lm h = grind (arith, own, same_side)
