@@ -1,25 +1,23 @@
 -- The rows that a walk over the store's cells finds are those of the stored cells and facets. What is known of cells and sides by
 -- their numbers is known of their vertices, so a cell has a row in the walk exactly where its row passes the test, and a side where its
 -- facet has an amount: over a side that is no facet of the complex nothing flows.
-use Rattle.std.proofs.Common.{ℕ, ◌≡◌, ◌<◌, ◌+◌, ◌*◌, not, refl, ap, ap₂, sym, ◌∙◌, arith, Bool, true, false}
-use Rattle.std.proofs.Common.{cond, Option, Some, None, is_some, List, [], ◌∷◌, ◌++◌, length, get_or, map, filter, Contains, eqb}
+use Rattle.std.proofs.Common.{ℕ, ◌≡◌, ◌<◌, ◌+◌, ◌*◌, not, refl, ap, arith, Bool, true, false}
+use Rattle.std.proofs.Common.{cond, Option, None, is_some, List, [], ◌∷◌, ◌++◌, length, get_or, map, filter, Contains, eqb}
 use Rattle.std.specs.List.{flat_map}
 use Rattle.std.proofs.lemmas.List.{map-append}
 use Rattle.std.proofs.lemmas.List.Elements.{filter-append}
 use Rattle.slab.specs.Slab.{entries_from}
-use Rattle.cert_text.specs.declared.certificate.FlowRow.{FlowRow}
-use Rattle.cert_text.specs.declared.certificate.SinkRow.{SinkRow}
 use Rattle.flow_net.specs.Nets.{flag_at}
-use Rattle.geo_sign.proofs.Members.{here, there}
-use Rattle.solution.specs.Solutions.{flow_row, sink_row, flow_rows, sink_rows, listed}
+use Rattle.geo_sign.proofs.Members.{there}
+use Rattle.solution.specs.Solutions.{flow_rows, sink_rows, listed}
 use Rattle.tetra_store.specs.declared.link.Cell.{Cell}
-use Rattle.tetra_store.specs.Links.{links_of, slot_at, next_in, vertices_in, tetrahedron_from}
+use Rattle.tetra_store.specs.Links.{vertices_in, tetrahedron_from}
 use Rattle.tetra_store.proofs.Observed.{slot_in}
 use Rattle.cell_net.specs.Arcs.{is_free}
 use Rattle.cell_net.specs.ByNumber.{SaysOfCells, SaysOfSides, IsZeroElsewhere}
 use Rattle.cell_net.specs.CellRows.{facet_row, risen, row_from}
 use Rattle.cell_net.specs.Counts.{row_of}
-use Rattle.cell_net.specs.Gathered.{row_at, side_at, side_if_open, open_at}
+use Rattle.cell_net.specs.Gathered.{row_at, side_if_open, open_at}
 use Rattle.cell_net.specs.StoredComplexes.{stored_cells, stored_facets}
 use Rattle.cell_net.specs.Parts.{cell_of_row, facet_of_side}
 use Rattle.cell_net.specs.declared.sides.Side.{Side}
@@ -33,21 +31,12 @@ entry_below slots e h = slot_in slots e.0 (ap is_some (entry_slot slots e h))
 -- ---- rows of a list in two pieces
 listed_append : {Row : Type 0} (make : List ℕ → ℕ → Row) (on : List ℕ → ℕ) (xs ys : List (List ℕ))
     → listed make (xs ++ ys) on ≡ listed make xs on ++ listed make ys on
-listed_append make on xs ys =
-    let test : List ℕ → Bool = λ key. not (eqb (on key) 0) in
-    let row = λ (key : List ℕ). make key (on key) in
-    ap (map row) (filter-append test xs ys) ∙ map-append row (filter test xs) (filter test ys)
+listed_append make on xs ys = grind (arith, filter-append, map-append)
 
 -- the rows of one key
 listed_one : {Row : Type 0} (make : List ℕ → ℕ → Row) (on : List ℕ → ℕ) (key : List ℕ) (amount : ℕ) → amount ≡ on key
     → listed make (key ∷ []) on ≡ cond (not (eqb amount 0)) (make key amount ∷ []) []
-listed_one {Row} make on key amount same =
-    by (not (eqb (on key) 0))
-    ∙ ap (λ (n : ℕ). cond (not (eqb n 0)) (make key n ∷ []) []) (sym same)
-  where
-    by : (b : Bool) → map (λ (k : List ℕ). make k (on k)) (cond b (key ∷ []) []) ≡ cond b (make key (on key) ∷ []) []
-    by true = refl
-    by false = refl
+listed_one {Row} make on key amount same = grind arith
 
 -- ---- cells, one row each
 rows_of : List (ℕ × Cell) → List (List ℕ)
@@ -59,17 +48,7 @@ module _ (test : List ℕ → Bool) (inside : List Bool) where
       → flat_map (row_if_inside inside) es ≡ filter test (rows_of es)
   unfolding row_if_inside rows_of
   kept [] same = refl
-  kept (e ∷ es) same =
-      by (flag_at inside e.0) (test (row_from (risen (tetrahedron_from e.1.v)))) (same e (here e es))
-      (kept es (λ d h. same d (there e d es h)))
-    where
-      by : (a b : Bool) {xs ys : List (List ℕ)} → a ≡ b → xs ≡ ys
-          → cond a (row_from (risen (tetrahedron_from e.1.v)) ∷ []) [] ++ xs
-          ≡ cond b (row_from (risen (tetrahedron_from e.1.v)) ∷ ys) ys
-      by true true s r = ap (λ (list : List (List ℕ)). row_from (risen (tetrahedron_from e.1.v)) ∷ list) r
-      by false false s r = r
-      by true false s r = cc
-      by false true s r = cc
+  kept (e ∷ es) same = grind (arith, kept es (λ d h. same d (there e d es h)))
 
 -- of a live cell as it stands in the store
 row_is : (slots : List (Option Cell)) (e : ℕ × Cell) → Contains (entries_from 0 slots) e
@@ -79,9 +58,7 @@ row_is slots e h = ap (λ (o : Option Cell). row_from (risen (vertices_in o))) (
 pub inside_found : (slots : List (Option Cell)) (inside : List Bool) (test : List ℕ → Bool)
     → SaysOfCells slots (flag_at inside) test → all_inside inside slots ≡ filter test (stored_cells slots)
 unfolding rows_of
-inside_found slots inside test says =
-    kept test inside (entries_from 0 slots)
-    (λ e h. says e.0 (ap is_some (entry_slot slots e h)) ∙ ap test (row_is slots e h))
+inside_found slots inside test says = grind (arith, kept, entry_slot, row_is)
 
 module _ (at : List ℕ → ℕ) (amounts : List ℕ) where
   sunk : (es : List (ℕ × Cell))
@@ -89,18 +66,12 @@ module _ (at : List ℕ → ℕ) (amounts : List ℕ) where
       → flat_map (sink_if_any amounts) es ≡ sink_rows (rows_of es) at
   unfolding sink_if_any rows_of
   sunk [] same = refl
-  sunk (e ∷ es) same =
-      let row : List ℕ = row_from (risen (tetrahedron_from e.1.v)) in
-      ap₂ (λ (xs ys : List SinkRow). xs ++ ys) (sym (listed_one sink_row at row (get_or amounts e.0 0) (same e (here e es))))
-      (sunk es (λ d h. same d (there e d es h)))
-      ∙ sym (listed_append sink_row at (row ∷ []) (rows_of es))
+  sunk (e ∷ es) same = grind (arith, listed_one, sunk es (λ d h. same d (there e d es h)), listed_append, rows_of)
 
 pub sinks_found : (slots : List (Option Cell)) (amounts : List ℕ) (at : List ℕ → ℕ)
     → SaysOfCells slots (λ id. get_or amounts id 0) at → all_sinks amounts slots ≡ sink_rows (stored_cells slots) at
 unfolding rows_of
-sinks_found slots amounts at says =
-    sunk at amounts (entries_from 0 slots)
-    (λ e h. says e.0 (ap is_some (entry_slot slots e h)) ∙ ap at (row_is slots e h))
+sinks_found slots amounts at says = grind (arith, sunk, entry_slot, row_is)
 
 -- ---- sides, four a cell
 module _ (fixed : List Bool) (on : List ℕ → ℕ) (amounts : List ℕ) where
@@ -115,57 +86,23 @@ module _ (fixed : List Bool) (on : List ℕ → ℕ) (amounts : List ℕ) where
   flow_found : (e : ℕ × Cell) (k : ℕ) → IsSaid e k (is_free fixed (get_or e.1.next k None))
       → flow_if_any amounts e k ≡ flow_rows (map facet_of_side (side_if_open fixed e k)) on
   unfolding flow_if_any side_if_open IsSaid
-  flow_found e k said = by (is_free fixed (get_or e.1.next k None)) said
-    where
-      by : (b : Bool) → IsSaid e k b
-          → flow_if_any amounts e k ≡ flow_rows (map facet_of_side (cond b (side_at e k ∷ []) [])) on
-      by true s = sym (listed_one flow_row on (facet_row (tetrahedron_from e.1.v) k) (get_or amounts (4 * e.0 + k) 0) s)
-      by false s =
-          ap (λ (n : ℕ). cond (not (eqb n 0)) (flow_row (facet_row (tetrahedron_from e.1.v) k) n ∷ []) []) s
+  flow_found e k said = grind (arith, listed_one)
 
   flow_pieces : (xs ys : List Side) → flow_rows (map facet_of_side (xs ++ ys)) on
       ≡ flow_rows (map facet_of_side xs) on ++ flow_rows (map facet_of_side ys) on
-  flow_pieces xs ys =
-      ap (λ (keys : List (List ℕ)). flow_rows keys on) (map-append facet_of_side xs ys)
-      ∙ listed_append flow_row on (map facet_of_side xs) (map facet_of_side ys)
+  flow_pieces xs ys = grind (arith, map-append, listed_append)
 
   flows_found : (e : ℕ × Cell) → AreSaid e → flows_if_any amounts e ≡ flow_rows (map facet_of_side (open_at fixed e)) on
   unfolding AreSaid
-  flows_found e said =
-      let side = side_if_open fixed e in
-      let joined = λ (xs ys : List FlowRow). xs ++ ys in
-      ap₂ joined (flow_found e 0 (said 0 (omega arith)))
-      (ap₂ joined (flow_found e 1 (said 1 (omega arith)))
-      (ap₂ joined (flow_found e 2 (said 2 (omega arith))) (flow_found e 3 (said 3 (omega arith)))
-      ∙ sym (flow_pieces (side 2) (side 3)))
-      ∙ sym (flow_pieces (side 1) (side 2 ++ side 3)))
-      ∙ sym (flow_pieces (side 0) (side 1 ++ (side 2 ++ side 3)))
+  flows_found e said = grind (arith, flow_found, flow_pieces)
 
   flowed : (es : List (ℕ × Cell)) → ((e : ℕ × Cell) → Contains es e → AreSaid e)
       → flat_map (flows_if_any amounts) es ≡ flow_rows (map facet_of_side (flat_map (open_at fixed) es)) on
   flowed [] said = refl
-  flowed (e ∷ es) said =
-      ap₂ (λ (xs ys : List FlowRow). xs ++ ys) (flows_found e (said e (here e es)))
-      (flowed es (λ d h. said d (there e d es h)))
-      ∙ sym (flow_pieces (open_at fixed e) (flat_map (open_at fixed) es))
+  flowed (e ∷ es) said = grind (arith, flows_found, flowed es (λ d h. said d (there e d es h)), flow_pieces)
 
 pub all_flows_found : (slots : List (Option Cell)) (fixed : List Bool) (amounts : List ℕ) (on : List ℕ → ℕ)
     → SaysOfSides slots fixed (λ j. get_or amounts j 0) on → IsZeroElsewhere slots fixed (λ j. get_or amounts j 0)
     → all_flows amounts slots ≡ flow_rows (stored_facets fixed slots) on
 unfolding AreSaid IsSaid
-all_flows_found slots fixed amounts on says none = flowed fixed on amounts (entries_from 0 slots) said
-  where
-    said : (e : ℕ × Cell) → Contains (entries_from 0 slots) e → AreSaid fixed on amounts e
-    said e h k l = by (is_free fixed (get_or e.1.next k None)) refl
-      where
-        at : slot_at slots e.0 ≡ Some e.1
-        at = entry_slot slots e h
-
-        next_is : is_free fixed ((links_of slots).next e.0 k) ≡ is_free fixed (get_or e.1.next k None)
-        next_is = ap (λ (o : Option Cell). is_free fixed (next_in o k)) at
-
-        by : (b : Bool) → is_free fixed (get_or e.1.next k None) ≡ b → IsSaid fixed on amounts e k b
-        by true f =
-            says e.0 k (ap is_some at) l (next_is ∙ f)
-            ∙ ap (λ (o : Option Cell). on (facet_row (vertices_in o) k)) at
-        by false f = none e.0 k (ap is_some at) l (next_is ∙ f)
+all_flows_found slots fixed amounts on says none = grind (arith, flowed, AreSaid, entry_slot)

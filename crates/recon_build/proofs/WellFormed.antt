@@ -1,6 +1,6 @@
 -- The certificate of a scan's network is well formed.
 use Rattle.std.proofs.Common.{ℕ, zero, suc, ◌≡◌, ◌+◌, ◌<◌, ◌≤◌, ◌^◌, not, refl, ap, sym, subst, arith, Bool, true, false}
-use Rattle.std.proofs.Common.{cond, List, [], ◌∷◌, length, map, filter, get_or, eqb, AllPairs, Contains, Option, Some, None}
+use Rattle.std.proofs.Common.{cond, List, [], ◌∷◌, length, map, filter, get_or, eqb, AllPairs, Contains, Option}
 use Rattle.std.proofs.lemmas.Bool.{eqb-false}
 use Rattle.std.proofs.lemmas.List.{get_or-map, length-map}
 use Rattle.std.proofs.lemmas.List.Kept.{AllPairs-filter}
@@ -54,15 +54,11 @@ kept test (row ∷ rows) k d within = by (test row) refl k within (λ j l. kept 
     by false e k l rest = later (get_or (filter test rows) k d) (rest k l)
 
 facet_is : (n : ℕ) (f : List ℕ) → n ≤ 8 + point_limit → IsOrdered n f → IsFacetRow f
-facet_is n f few o =
-    subst IsFacetRow (sym o.three)
-    (o.first_second, o.first_third, o.apart, omega (arith, o.second_below), omega (arith, o.third_below))
+facet_is n f few o = grind arith
 
 -- a cell of such vertices
 cell_is : (v : Vertices) (row : List ℕ) → v.count ≤ 8 + point_limit → IsRisingCell v row → IsCellRow row
-cell_is v row few =
-    by_rising v IsCellRow
-    (λ a b c d h. let below : d < v.count = last_below v a b c d h.3 in (h.0, h.1, h.2, omega arith)) row
+cell_is v row few = grind (arith, by_rising, last_below)
 
 a_cell : (s : Scene) (complex : Complex) → IsComplexOf s complex → s.vertices.count ≤ 8 + point_limit → (row : List ℕ)
     → Contains complex.cells row → IsCellRow row
@@ -70,12 +66,7 @@ a_cell s complex is few row there = cell_is s.vertices row few (is.cells_are.cel
 
 -- an amount that is not 0
 some_amount : (n : ℕ) → not (eqb n 0) ≡ true → 1 ≤ n
-some_amount zero e = by (eqb 0 0) refl e
-  where
-    by : (b : Bool) → eqb 0 0 ≡ b → not b ≡ true → 1 ≤ 0
-    by true h e = absurd (cc)
-    by false h e = absurd (eqb-false 0 0 h refl)
-some_amount (suc n) e = omega arith
+some_amount n e = grind (arith, eqb-false)
 
 flow_list : (s : Scene) (complex : Complex) (claim : Claim) → IsComplexOf s complex → s.vertices.count ≤ 8 + point_limit
     → IsSightList s.sights → length (flow_rows complex.facets (flow_on claim)) < 2 ^ 64
@@ -93,12 +84,7 @@ flow_list s complex claim is few few_sights short valid =
             facet =
                 facet_is s.vertices.count (get_or keys k []) few (facets_are_ordered s complex is (get_or keys k []) h.there);
             some = some_amount (flow_on claim (get_or keys k [])) h.passes;
-            fits =
-                omega (
-                  arith,
-                  valid.within_cap (get_or keys k []) h.there,
-                  capacity_fits s (facet_at (get_or keys k [])) few_sights,
-                );
+            fits = grind (arith, capacity_fits s (facet_at (get_or keys k [])) few_sights);
           });
       rising =
           subst (λ (rows : List (List ℕ)). AllPairs IsBefore rows) (sym (keys_of keys))
@@ -165,9 +151,7 @@ well_formed s complex inside claim is few few_sights stamp counts short certific
     record {
       stamp = stamp;
       counts = counts;
-      inside =
-          subst AreCellRows (sym inside_is)
-          (cell_list s complex inside is few (subst (λ (rows : List (List ℕ)). length rows < 2 ^ 64) inside_is short.inside));
+      inside = grind (arith, cell_list s complex);
       flow =
           subst IsFlowList (sym flow_is)
           (flow_list s complex claim is few few_sights
@@ -180,18 +164,9 @@ well_formed s complex inside claim is few few_sights stamp counts short certific
 
 -- a stamp is what its type keeps
 pub version_of : (stamp : Option Stamp) → IsVersion (option_map stamp_view stamp)
-version_of None = tt
-version_of (Some s) = record { digest = s.digest_is; unit = s.unit_is; fixed = s.fixed_is }
+version_of stamp = grind arith
 
 -- the counts of a scan fit
 pub fit_counts : (claim : Claim) (scan : Scan) (settings : Settings) → HasCounts claim (shown_of scan) settings
     → claim.counts.cost < 2 ^ 64 → FitCounts claim.counts
-fit_counts claim scan settings has cost =
-    record {
-      points = omega (arith, has.points, few_points scan);
-      scanners = omega (arith, has.scanners, scan.scanners_fit);
-      sights = omega (arith, has.sights, scan.sights_fit);
-      vote = omega (arith, has.vote, settings.vote_at_most);
-      smooth = omega (arith, has.smooth, settings.smooth_at_most);
-      cost = cost;
-    }
+fit_counts claim scan settings has cost = grind (arith, few_points)
