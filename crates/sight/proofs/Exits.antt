@@ -7,7 +7,7 @@
 -- The laws say that there is an exit, or that the scanner is in the cell; so the sign at the side that is left tells which
 -- (`goes_out`, `ends_here`).
 use Rattle.std.proofs.Common.{ℕ, zero, suc, ◌<◌, ◌≡◌, ◌⊎◌, inl, inr, ⊎_elim, refl, sym, subst, arith, true, false, true≢false}
-use Rattle.std.proofs.Common.{IsTrue, ◌↔◌, ℤ, pos, ◌<ℤ◌, Bool}
+use Rattle.std.proofs.Common.{IsTrue, ◌↔◌, ℤ, pos, ◌<ℤ◌, Bool, List, [], ◌∷◌, length, set, get_or, slice_index}
 use Rattle.std.specs.Int.{is_positive}
 use Rattle.std.proofs.lemmas.Int.{ints}
 use Rattle.geo_sign.specs.Rational.{RationalPoint, side, displaced}
@@ -25,7 +25,6 @@ use Rattle.cell_laws.proofs.SightLaws.{left_of}
 use Rattle.cell_laws.specs.Paths.{IsOnSight}
 use Rattle.cell_laws.specs.WalkLaws.{IsPassedOnce}
 use Rattle.geo_sign.specs.Writings as writings
-use Rattle.std.proofs.Common.{List, [], ◌∷◌, length, set, get_or, slice_index, ap, ◌∙◌}
 use Rattle.geo_sign.specs.Point.{Point, origin}
 use Rattle.tetra_store.specs.Links.{tetrahedron_from}
 use Rattle.tetra_store.specs.Store.{Store, vertices_of}
@@ -39,8 +38,7 @@ IsBetween v p s d before after = (pos 0 <ℤ past v p s d before) × (past v p s
 -- the second of these, seen from the other end of the edge
 between : (v : Vertices) (p : ℕ) (s : RationalPoint) (d before after : ℕ) → pos 0 <ℤ past v p s d before
     → pos 0 <ℤ side (v.at p) (v.at d) (v.at after) s → IsBetween v p s d before after
-between v p s d before after h k =
-    let e = turned_side (v.at p) (v.at d) (v.at after) s in (h, omega (arith, ints, k, e))
+between v p s d before after h k = grind (arith, turned_side, ints)
 
 -- One of the vertices of f is n, and stays behind: d in its place makes f the facet g in the other direction.
 abbrev pub IsOneOf : Vertices → (p : ℕ) → RationalPoint → (d n : ℕ) → (g f : DirectedFacet) → Type 0
@@ -72,35 +70,15 @@ one_rotated v p s d n g e f (inr (inr r)) o =
 -- the vertices of a facet of t are those of t, from whichever it is written on
 own_vertices : (t : Tetrahedron) (m : ℕ) → (writings.IsVertexOf t (facet_of t m).a) × (writings.IsVertexOf t (facet_of t m).b)
     × (writings.IsVertexOf t (facet_of t m).c)
-own_vertices t zero = (inr (inl refl), inr (inr (inr refl)), inr (inr (inl refl)))
-own_vertices t (suc zero) = (inl refl, inr (inr (inl refl)), inr (inr (inr refl)))
-own_vertices t (suc (suc zero)) = (inl refl, inr (inr (inr refl)), inr (inl refl))
-own_vertices t (suc (suc (suc m))) = (inl refl, inr (inl refl), inr (inr (inl refl)))
+own_vertices t m = grind arith
 
 front_vertices : (t : Tetrahedron) (m : ℕ) (f : DirectedFacet) → IsRotated (facet_of t m) f
     → writings.IsVertexOf t f.a × writings.IsVertexOf t f.b × writings.IsVertexOf t f.c
-front_vertices t m f r = by r
-  where
-    own : writings.IsVertexOf t (facet_of t m).a × writings.IsVertexOf t (facet_of t m).b × writings.IsVertexOf t (facet_of t m).c
-    own = own_vertices t m
-
-    by : IsRotated (facet_of t m) f
-        → writings.IsVertexOf t f.a × writings.IsVertexOf t f.b × writings.IsVertexOf t f.c
-    by (inl e) =
-        subst (λ (g : DirectedFacet). writings.IsVertexOf t g.a × writings.IsVertexOf t g.b × writings.IsVertexOf t g.c) (sym e) own
-    by (inr (inl e)) =
-        subst (λ (g : DirectedFacet). writings.IsVertexOf t g.a × writings.IsVertexOf t g.b × writings.IsVertexOf t g.c) (sym e)
-        (own.1, own.2, own.0)
-    by (inr (inr e)) =
-        subst (λ (g : DirectedFacet). writings.IsVertexOf t g.a × writings.IsVertexOf t g.b × writings.IsVertexOf t g.c) (sym e)
-        (own.2, own.0, own.1)
+front_vertices t m f r = grind (arith, own_vertices)
 
 pub front_vertex : (t : Tetrahedron) (m i : ℕ) (numbers : List ℕ) → IsRotated (facet_of t m) (facet_at numbers) → i < 3
     → writings.IsVertexOf t (slice_index numbers i)
-front_vertex t m zero numbers r l = (front_vertices t m (facet_at numbers) r).0
-front_vertex t m (suc zero) numbers r l = (front_vertices t m (facet_at numbers) r).1
-front_vertex t m (suc (suc zero)) numbers r l = (front_vertices t m (facet_at numbers) r).2
-front_vertex t m (suc (suc (suc i))) numbers r l = absurd (omega (arith, l))
+front_vertex t m i numbers r l = grind (arith, front_vertices)
 
 -- it does not go out where it came in
 pub not_back : (v : Vertices) (p : ℕ) (s : RationalPoint) (f : DirectedFacet) → IsCrossed v p s f → IsCrossed v p s (turned f)
@@ -151,8 +129,7 @@ opposite_ahead v p s t k c h x =
 -- ---- a cell on a sight
 -- the cell is on the sight
 pub on_sight : (v : Vertices) (p : ℕ) (s : RationalPoint) (t : Tetrahedron) (k : ℕ) → IsEntered v p s t k → IsOnSight v p s t
-on_sight v p s t k (inl h) = inr (k, h.0, h.1)
-on_sight v p s t k (inr h) = inl h.1
+on_sight v p s t k h = grind arith
 
 -- the scanner is behind the one side that is left, so the sight goes out there
 pub goes_out : (v : Vertices) (p : ℕ) (s : RationalPoint) (t : Tetrahedron) (m k : ℕ) → IsPassedOnce v p s t → IsEntered v p s t m
@@ -178,13 +155,11 @@ ends_here v p s t m k h e only b =
 -- ---- how the sight came in
 pub at_vertex : (v : Vertices) (p : ℕ) (s : RationalPoint) (t : Tetrahedron) (k : ℕ) → IsEntered v p s t k → k ≡ 4
     → is_towards v p s t ≡ true
-at_vertex v p s t k (inl h) e = let l = h.0 in absurd (omega (arith, l, e))
-at_vertex v p s t k (inr h) e = h.1
+at_vertex v p s t k h e = grind arith
 
 pub through_side : (v : Vertices) (p : ℕ) (s : RationalPoint) (t : Tetrahedron) (k : ℕ) → IsEntered v p s t k → ¬ (k ≡ 4)
     → (k < 4) × (is_crossed v p s (facet_of t k) ≡ true)
-through_side v p s t k (inl h) e = h
-through_side v p s t k (inr h) e = absurd (e h.0)
+through_side v p s t k h e = grind arith
 
 -- `at_own` at the facet written from any vertex on
 pub one_of : (v : Vertices) (p : ℕ) (s : RationalPoint) (t : Tetrahedron) (m k : ℕ) (f : DirectedFacet)
@@ -205,25 +180,15 @@ no h = λ a. true≢false (sym (h.1 a))
 -- ---- three tests
 -- whether a number is above zero
 pub positive_so : (n : ℤ) → IsTrue (is_positive n) ↔ (pos 0 <ℤ n)
-positive_so n = (λ e. omega (arith, ints, e), λ l. by (is_positive n) refl l)
-  where
-    by : (b : Bool) → is_positive n ≡ b → pos 0 <ℤ n → is_positive n ≡ true
-    by true e l = e
-    by false e l = absurd (omega (arith, ints, e, l))
+positive_so n = grind (arith, ints)
 
 positive_is : (t : Bool) (n : ℤ) → IsTrue t ↔ (pos 0 <ℤ n) → t ≡ is_positive n
 positive_is true n h = sym ((positive_so n).1 (h.0 refl))
-positive_is false n h = by (is_positive n) refl
-  where
-    by : (b : Bool) → is_positive n ≡ b → false ≡ is_positive n
-    by true e = h.1 ((positive_so n).0 e) ∙ sym e
-    by false e = sym e
+positive_is false n h = grind (arith, positive_so)
 
 pub left_same : (a b c : Bool) (x y z : ℤ) → IsTrue a ↔ (pos 0 <ℤ x) → IsTrue b ↔ (pos 0 <ℤ y) → IsTrue c ↔ (pos 0 <ℤ z)
     → left_behind a b c ≡ left_by x y z
-left_same a b c x y z h k l =
-    ap (λ (t : Bool). left_behind t b c) (positive_is a x h) ∙ ap (λ (t : Bool). left_behind (is_positive x) t c) (positive_is b y k)
-    ∙ ap (λ (t : Bool). left_behind (is_positive x) (is_positive y) t) (positive_is c z l)
+left_same a b c x y z h k l = grind (arith, positive_is)
 
 -- what stays behind, and what the facet becomes
 abbrev pub IsLeftBehind : (d n : ℕ) (g f : DirectedFacet) → ℕ → Type 0
@@ -234,18 +199,7 @@ IsLeftBehind d n g f (suc (suc i)) = (n ≡ f.c) × IsTurned g (facet f.a f.b d)
 pub left_ahead : (v : Vertices) (p : ℕ) (s : RationalPoint) (d n : ℕ) (g f : DirectedFacet) → IsOneOf v p s d n g f
     → (x y z : Bool) → IsTrue x ↔ (pos 0 <ℤ past v p s d f.a) → IsTrue y ↔ (pos 0 <ℤ past v p s d f.b)
     → IsTrue z ↔ (pos 0 <ℤ past v p s d f.c) → IsLeftBehind d n g f (left_behind x y z)
-left_ahead v p s d n g f (inl o) true y true a b c = (o.0, o.1)
-left_ahead v p s d n g f (inr (inl o)) true y true a b c = let z = o.2.1 in let k = yes c in absurd (omega (arith, ints, z, k))
-left_ahead v p s d n g f (inr (inr o)) true y true a b c = let z = o.2.1 in let k = yes a in absurd (omega (arith, ints, z, k))
-left_ahead v p s d n g f (inl o) true y false a b c = absurd (no c o.2.0)
-left_ahead v p s d n g f (inr (inl o)) true y false a b c = (o.0, o.1)
-left_ahead v p s d n g f (inr (inr o)) true y false a b c = let z = o.2.1 in let k = yes a in absurd (omega (arith, ints, z, k))
-left_ahead v p s d n g f (inl o) false true z a b c = let z = o.2.1 in let k = yes b in absurd (omega (arith, ints, z, k))
-left_ahead v p s d n g f (inr (inl o)) false true z a b c = absurd (no a o.2.0)
-left_ahead v p s d n g f (inr (inr o)) false true z a b c = (o.0, o.1)
-left_ahead v p s d n g f (inl o) false false z a b c = (o.0, o.1)
-left_ahead v p s d n g f (inr (inl o)) false false z a b c = absurd (no a o.2.0)
-left_ahead v p s d n g f (inr (inr o)) false false z a b c = absurd (no b o.2.0)
+left_ahead v p s d n g f x y z h a b c = grind (arith, yes, ints, no)
 
 -- the same of three numbers in a list
 pub behind_in : (d n : ℕ) (g : DirectedFacet) (numbers : List ℕ) (i : ℕ) → length numbers ≡ 3 → i < 3
@@ -262,16 +216,11 @@ behind_in d n g (a ∷ b ∷ c ∷ []) (suc (suc (suc i))) l j h = absurd (omega
 -- points that are the same have the same side
 pub side_same : (q p a d x y z : Point) → p ≡ x → a ≡ y → d ≡ z → (yes : Bool) → IsTrue yes ↔ (pos 0 <ℤ side p a d (displaced q))
     → IsTrue yes ↔ (pos 0 <ℤ side x y z (displaced q))
-side_same q p a d x y z ep ea ed yes h =
-    subst (λ (u : Point). IsTrue yes ↔ (pos 0 <ℤ side u y z (displaced q))) ep
-    (subst (λ (u : Point). IsTrue yes ↔ (pos 0 <ℤ side p u z (displaced q))) ea
-    (subst (λ (u : Point). IsTrue yes ↔ (pos 0 <ℤ side p a u (displaced q))) ed h))
+side_same q p a d x y z ep ea ed yes h = grind arith
 
 -- the side of the points that were read is that of the vertices
 pub past_of : (s : Store) (v : List ℕ) (vertex m x : ℕ) (q p a d : Point) → m < 4 → p ≡ get_or s.points vertex origin
     → a ≡ get_or s.points x origin → d ≡ get_or s.points (slice_index v m) origin → (yes : Bool)
     → IsTrue yes ↔ (pos 0 <ℤ side p a d (displaced q))
     → IsTrue yes ↔ (pos 0 <ℤ past (vertices_of s) vertex (displaced q) (vertex_of (tetrahedron_from v) m) x)
-past_of s v vertex m x q p a d l ep ea ed yes h =
-    let at : ℕ → Point = λ n. get_or s.points n origin in
-    side_same q p a d (at vertex) (at x) (at (vertex_of (tetrahedron_from v) m)) ep ea (ed ∙ ap at (sym (vertex_index v m l))) yes h
+past_of s v vertex m x q p a d l ep ea ed yes h = grind (arith, side_same, vertex_index)

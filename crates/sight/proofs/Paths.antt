@@ -5,8 +5,8 @@
 -- two cells name each other across one facet alone (`comes_in`). So the next side computed is the next one of the path
 -- (`next_is`), and by induction the lists are one (`within_is`). The list is long enough: along a path fewer and fewer live
 -- cells are higher at the scanner (`short`), so a path is no longer than there are slots (`sides_are`).
-use Rattle.std.proofs.Common.{ℕ, zero, suc, ◌<◌, ◌≤◌, ◌+◌, ◌≡◌, refl, sym, ap, subst, ◌∙◌, arith, Bool, true, false, true≢false}
-use Rattle.std.proofs.Common.{Option, Some, None, List, [], ◌∷◌, length, is_some}
+use Rattle.std.proofs.Common.{ℕ, zero, suc, ◌<◌, ◌≤◌, ◌≡◌, refl, sym, ap, subst, ◌∙◌, arith, Bool, true, false, true≢false}
+use Rattle.std.proofs.Common.{Option, Some, None, List, [], ◌∷◌, length}
 use Rattle.std.proofs.lemmas.Bool.{eqb-true, eq-eqb}
 use Rattle.std.proofs.lemmas.Option.{same_Some}
 use Rattle.geo_sign.specs.declared.point.TheConstants.{DATA_LIMIT}
@@ -17,7 +17,7 @@ use Rattle.geo_sign.specs.Tetrahedron.{facet_of}
 use Rattle.geo_sign.specs.Vertices.{Has}
 use Rattle.cell_laws.specs.Lifts.{is_higher}
 use Rattle.cell_laws.specs.Links.{Side}
-use Rattle.cell_laws.specs.Lists.{count, one_if}
+use Rattle.cell_laws.specs.Lists.{count}
 use Rattle.cell_laws.specs.Paths.{entered_facet, IsSightStep, IsSightPath}
 use Rattle.cell_laws.specs.WalkLaws.{IsPassedOnce, HasPaths, IsWalk}
 use Rattle.cell_laws.proofs.Crossings.{left_turned}
@@ -27,10 +27,10 @@ use Rattle.cell_laws.proofs.SightLaws.{sight_law, left_of}
 use Rattle.cell_laws.proofs.SightPaths.{path_law}
 use Rattle.cell_laws.proofs.SightTests.{crossed_is}
 use Rattle.tetra_store.specs.declared.link.Cell.{Cell}
-use Rattle.tetra_store.specs.Links.{links_of, slot_at, IsLive, IsBack}
+use Rattle.tetra_store.specs.Links.{links_of, IsLive, IsBack}
 use Rattle.tetra_store.specs.Store.{Store, vertices_of, IsStore}
 use Rattle.tetra_store.specs.Delaunay.{IsDelaunay}
-use Rattle.tetra_store.specs.Stored.{with_number, live_below, live_of}
+use Rattle.tetra_store.specs.Stored.{live_below, live_of}
 use Rattle.tetra_walk.proofs.Backs.{one_back}
 use Rattle.tetra_walk.proofs.Bridge.{linked, cells, listed, live}
 use Rattle.tetra_walk.proofs.Ends.{walks}
@@ -47,9 +47,7 @@ pub record IsGiven (s : Store) (p : ℕ) (o : Point) : Type 0 where
 
 pub passed : (s : Store) (p : ℕ) (o : Point) → IsGiven s p o → (x : ℕ) → IsLive (links_of s.slots) x
     → IsPassedOnce (vertices_of s) p (displaced o) ((links_of s.slots).at x)
-passed s p o g x l =
-    sight_law (vertices_of s) g.store.vertices.boxed p g.inserted o g.data_point ((links_of s.slots).at x)
-    (g.delaunay.cells x l)
+passed s p o g x l = grind (arith, sight_law, g.delaunay.cells x l)
 
 pub paths : (s : Store) (p : ℕ) (o : Point) → IsGiven s p o
     → HasPaths (vertices_of s) (live_of s.slots) (links_of s.slots).at (links_of s.slots).next p (displaced o)
@@ -66,27 +64,13 @@ IsStepOf s p o x c = IsSightStep (vertices_of s) (live_of s.slots) (links_of s.s
 
 -- ---- the first of four tests
 first_some : (f : ℕ → Bool) (k : ℕ) → first_of (f 0) (f 1) (f 2) (f 3) ≡ Some k → (k < 4) × (f k ≡ true)
-first_some f k e = by (f 0) (f 1) (f 2) (f 3) refl refl refl refl e
-  where
-    at : (n : ℕ) → n < 4 → f n ≡ true → Some n ≡ Some k → (k < 4) × (f k ≡ true)
-    at n b h e = let g : n ≡ k = cc in (subst (λ (m : ℕ). m < 4) g b, subst (λ (m : ℕ). f m ≡ true) g h)
-
-    by : (x y z u : Bool) → f 0 ≡ x → f 1 ≡ y → f 2 ≡ z → f 3 ≡ u → first_of x y z u ≡ Some k → (k < 4) × (f k ≡ true)
-    by true y z u a b c d e = at 0 (omega arith) a e
-    by false true z u a b c d e = at 1 (omega arith) b e
-    by false false true u a b c d e = at 2 (omega arith) c e
-    by false false false true a b c d e = at 3 (omega arith) d e
-    by false false false false a b c d e = cc
+first_some f k e = grind arith
 
 first_none : (f : ℕ → Bool) (k : ℕ) → first_of (f 0) (f 1) (f 2) (f 3) ≡ None → k < 4 → f k ≡ false
 first_none f k e l = by (f 0) (f 1) (f 2) (f 3) refl refl refl refl e
   where
     all : (k : ℕ) → f 0 ≡ false → f 1 ≡ false → f 2 ≡ false → f 3 ≡ false → k < 4 → f k ≡ false
-    all zero a b c d l = a
-    all (suc zero) a b c d l = b
-    all (suc (suc zero)) a b c d l = c
-    all (suc (suc (suc zero))) a b c d l = d
-    all (suc (suc (suc (suc k)))) a b c d l = absurd (omega (arith, l))
+    all k a b c d l = grind arith
 
     by : (x y z u : Bool) → f 0 ≡ x → f 1 ≡ y → f 2 ≡ z → f 3 ≡ u → first_of x y z u ≡ None → f k ≡ false
     by true y z u a b c d e = cc
@@ -125,8 +109,7 @@ exit_none s p o g x l h = by (exit_of (vertices_of s) p (displaced o) ((links_of
 
 -- ---- the side that names a cell
 is_named : (n : Option ℕ) (x : ℕ) → is_some_of n x ≡ true → n ≡ Some x
-is_named None x e = absurd (true≢false (sym e))
-is_named (Some y) x e = ap (λ (n : ℕ). Some n) (eqb-true y x e)
+is_named n x e = grind (arith, eqb-true)
 
 named_is : (n : Option ℕ) (x : ℕ) → n ≡ Some x → is_some_of n x ≡ true
 named_is n x e = ap (λ (m : Option ℕ). is_some_of m x) e ∙ eq-eqb x x refl
@@ -138,11 +121,7 @@ naming f x b l e = by (is_some_of (f 0) x) (is_some_of (f 1) x) (is_some_of (f 2
   where
     last : (b : ℕ) → b < 4 → f b ≡ Some x → is_some_of (f 0) x ≡ false → is_some_of (f 1) x ≡ false → is_some_of (f 2) x ≡ false
         → f 3 ≡ Some x
-    last zero l e i j k = absurd (true≢false (sym (named_is (f 0) x e) ∙ i))
-    last (suc zero) l e i j k = absurd (true≢false (sym (named_is (f 1) x e) ∙ j))
-    last (suc (suc zero)) l e i j k = absurd (true≢false (sym (named_is (f 2) x e) ∙ k))
-    last (suc (suc (suc zero))) l e i j k = e
-    last (suc (suc (suc (suc b)))) l e i j k = absurd (omega (arith, l))
+    last b l e i j k = grind (arith, named_is)
 
     by : (u v w : Bool) → is_some_of (f 0) x ≡ u → is_some_of (f 1) x ≡ v → is_some_of (f 2) x ≡ w
         → (number_first u v w < 4) × (f (number_first u v w) ≡ Some x)
@@ -226,19 +205,11 @@ short s p o g (c ∷ cs) x l h =
 
 counted_below : {X : Type 0} (f : X → Bool) (xs : List X) → count f xs ≤ length xs
 counted_below f [] = omega arith
-counted_below f (x ∷ xs) = let r = counted_below f xs in by (f x) r
-  where
-    by : (b : Bool) → count f xs ≤ length xs → one_if b + count f xs ≤ suc (length xs)
-    by true r = omega (arith, r)
-    by false r = omega (arith, r)
+counted_below f (x ∷ xs) = grind (arith, counted_below f xs)
 
 few_live : (slots : List (Option Cell)) (n : ℕ) → length (live_below slots n) ≤ n
 few_live slots zero = omega arith
-few_live slots (suc n) = by (is_some (slot_at slots n)) (few_live slots n)
-  where
-    by : (b : Bool) → length (live_below slots n) ≤ n → length (with_number b n (live_below slots n)) ≤ suc n
-    by true r = omega (arith, r)
-    by false r = omega (arith, r)
+few_live slots (suc n) = grind (arith, few_live slots n)
 
 pub sides_are : (s : Store) (p : ℕ) (o : Point) → IsGiven s p o → (cs : List Side) (x : ℕ) → IsLive (links_of s.slots) x
     → IsPathOf s p o x cs → sides_from s p o x ≡ cs

@@ -3,8 +3,7 @@
 --
 -- The orientation of p, b, s, a is that of p, a, b, s, which is the first digit of the side of p a b on which the displaced
 -- scanner is. So it decides where it is not zero.
-use Rattle.std.proofs.Common.{zero, suc, ◌≡◌, refl, sym, ap, ◌∙◌, arith, Bool, true, false, true≢false, IsTrue, ◌↔◌}
-use Rattle.std.proofs.Common.{ℤ, pos, negsuc, ◌<ℤ◌, []}
+use Rattle.std.proofs.Common.{◌≡◌, refl, sym, ap, ◌∙◌, arith, Bool, true, false, true≢false, IsTrue, ◌↔◌, ℤ, pos, ◌<ℤ◌, []}
 use Rattle.std.proofs.lemmas.Int.{ints}
 use Rattle.geo_sign.specs.declared.point.TheConstants.{BOX_LIMIT}
 use Rattle.geo_sign.specs.declared.sign.Sign.{Sign}
@@ -55,14 +54,10 @@ not_before_of p a b s h i j e =
 
 -- ---- the sign of a number that is not zero
 positive_sign : (n : ℤ) → pos 0 <ℤ n → Pos ≡ sign_of n
-positive_sign (pos zero) l = absurd (omega (arith, ints, l))
-positive_sign (pos (suc n)) l = refl
-positive_sign (negsuc n) l = absurd (omega (arith, ints, l))
+positive_sign n l = grind (arith, ints)
 
 negative_sign : (n : ℤ) → ¬ (n ≡ pos 0) → ¬ (pos 0 <ℤ n) → Neg ≡ sign_of n
-negative_sign (pos zero) h k = absurd (h refl)
-negative_sign (pos (suc n)) h k = absurd (k (omega (arith, ints)))
-negative_sign (negsuc n) h k = refl
+negative_sign n h k = grind (arith, ints)
 
 -- where the orientation is not zero, the scanner is on the inner side as it is positive
 pub before_by : (p a b s : Point) → IsWithin BOX_LIMIT p → IsWithin BOX_LIMIT a → IsWithin BOX_LIMIT b → (n : ℤ)

@@ -7,7 +7,7 @@
 -- turned round (walks_on, front_on). Where the walk is told its end and is not there yet, the one facet that may be the exit
 -- is it (ahead_there).
 use Rattle.std.proofs.Common.{ℕ, ◌<◌, ◌≡◌, inl, ⊎_elim, refl, sym, ap, subst, ◌∙◌, Bool, true, false, Some, None, List, [], ◌∷◌}
-use Rattle.std.proofs.Common.{slice_index, length}
+use Rattle.std.proofs.Common.{slice_index, length, arith}
 use Rattle.geo_sign.specs.Cells.{IsCell}
 use Rattle.geo_sign.specs.Point.{Point}
 use Rattle.geo_sign.specs.Rational.{RationalPoint, displaced}
@@ -57,15 +57,11 @@ distinct_at s r c h w i j l m e =
 
 pub known_at : (s : Store) (r : Ray) (c : Reached) → IsStore s → IsWalking s r c → (i : ℕ) → i < 4
     → slice_index c.vertices i < length s.points
-known_at s r c h w i l =
-    subst (λ (n : ℕ). n < length s.points) (vertex_index c.vertices i l)
-    (subst (λ (t : Tetrahedron). vertex_of t i < length s.points) w.loaded (h.linked.has c.at i w.live l).0)
+known_at s r c h w i l = grind (arith, vertex_index, h.linked.has c.at i w.live l)
 
 pub passed_at : (s : Store) (r : Ray) (c : Reached) → IsStore s → IsWalking s r c
     → IsPassedOnce (vertices_of s) r.vertex (displaced r.scanner) (tetrahedron_from c.vertices)
-passed_at s r c i w =
-    subst (λ (t : Tetrahedron). IsPassedOnce (vertices_of s) r.vertex (displaced r.scanner) t) w.loaded
-    (passed s r.vertex r.scanner (given s r c i w) c.at w.live)
+passed_at s r c i w = grind (arith, passed, given)
 
 pub goes_on : (s : Store) (r : Ray) (c : Reached) (j : ℕ) → IsStore s → IsWalking s r c → GoesOut s r c j
     → (links_of s.slots).next c.at j ≡ None → ⊥

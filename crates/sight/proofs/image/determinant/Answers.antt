@@ -1,15 +1,12 @@
 use mir.Syntax.{w64, w128}
-use Rattle.std.proofs.Common.{ℤ, ◌≡◌, ◌∙◌, ◌≤◌, ◌*◌, ◌^◌, ◌*ℤ◌, ◌-ℤ◌, unsigned_abs}
+use Rattle.std.proofs.Common.{ℤ, ◌≡◌, ◌≤◌, ◌*◌, ◌^◌, ◌*ℤ◌, ◌-ℤ◌, unsigned_abs, arith}
 use Rattle.geo_sign.proofs.Bounds.{Held, kept, held_kept, held_sub, fits_held, within_held, held_product}
 use Rattle.sight.proofs.image.determinant.Goals as goal
 
 -- a product, and the difference of two, as the code computes them
 one : (a b r : ℤ) → r ≡ kept w64 a *ℤ kept w64 b → unsigned_abs a ≤ 3 * 2 ^ 48 → unsigned_abs b ≤ 3 * 2 ^ 48
     → Held (9 * 2 ^ 96) (kept w128 r) (a *ℤ b)
-one a b r e h k =
-    let read : Held (9 * 2 ^ 96) (kept w64 a *ℤ kept w64 b) (a *ℤ b) = held_product w64 a b h k tt tt in
-    let widened : Held (9 * 2 ^ 96) r (a *ℤ b) = record { is = e ∙ read.is; within = read.within } in
-    held_kept w128 widened tt
+one a b r e h k = grind (arith, held_product, held_kept)
 
 both : (a b c d r s : ℤ) → r ≡ kept w64 a *ℤ kept w64 b → s ≡ kept w64 c *ℤ kept w64 d → unsigned_abs a ≤ 3 * 2 ^ 48
     → unsigned_abs b ≤ 3 * 2 ^ 48 → unsigned_abs c ≤ 3 * 2 ^ 48 → unsigned_abs d ≤ 3 * 2 ^ 48

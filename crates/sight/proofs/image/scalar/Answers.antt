@@ -1,4 +1,4 @@
-use Rattle.std.proofs.Common.{◌^◌, ◌*◌, ◌+ℤ◌, ◌*ℤ◌}
+use Rattle.std.proofs.Common.{◌^◌, ◌*◌, ◌+ℤ◌, ◌*ℤ◌, arith}
 use mir.Syntax.{w64}
 use Rattle.geo_sign.specs.Point.{Point, IsWithin, dot}
 use Rattle.geo_sign.proofs.Bounds.{Held, kept, held_kept, held_add, fits_held, within_held, held_product}
@@ -18,8 +18,7 @@ three u v h k =
     (held_kept w64 (held_product w64 u.z v.z h.z_within k.z_within tt tt) tt)
 
 pub overflow_mul-result-3 : goal.overflow_mul-result-3
-overflow_mul-result-3 c =
-    fits_held w64 (held_product w64 c.args.d.z c.args.e.z c.requires.first.z_within c.requires.second.z_within tt tt) tt
+overflow_mul-result-3 c = grind (arith, fits_held, held_product)
 
 pub overflow_add-result : goal.overflow_add-result
 overflow_add-result c =
