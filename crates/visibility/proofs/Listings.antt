@@ -2,13 +2,13 @@
 --
 -- A listing is the rising lists in another order, so it has the same members, each once. The two cells of a facet that has a
 -- capacity are the same ones, so such a facet has a capacity over both.
-use Rattle.std.proofs.Common.{ℕ, ap, sym, ◌∙◌, List, Contains, arith}
+use Rattle.std.proofs.Common.{ℕ, List, Contains, arith}
 use Rattle.std.proofs.lemmas.List.Sorted.{IsPermutation-refl, IsPermutation-sym, Contains-permutation}
 use Rattle.geo_sign.specs.Cells.{IsRisingCell}
 use Rattle.geo_sign.specs.Tetrahedron.{DirectedFacet, facet_at, turned}
 use Rattle.visibility.specs.Scenes.{Scene}
 use Rattle.visibility.specs.Complexes.{Complex, HasFacet}
-use Rattle.visibility.specs.Votes.{is_fixed, HasCapacity, IsComplexOf}
+use Rattle.visibility.specs.Votes.{HasCapacity, IsComplexOf}
 use Rattle.visibility.specs.Listings.{AreOnce, IsListingOf}
 use Rattle.visibility.specs.ListingLaws.{EachOnce}
 use Rattle.visibility.proofs.Indices.{once_rising, once_permuted}
@@ -39,9 +39,7 @@ module _ (s : Scene) (listing : Complex) (h : IsListingOf s listing) where
   rising_cell row i = h.complex_is.cells_are.cells row (cell_back row i)
 
   has_to : (f : DirectedFacet) → HasFacet s.vertices h.complex.cells f → HasFacet s.vertices listing.cells f
-  has_to f i =
-      let c = Contains-permutation h.complex.cells listing.cells i.1 h.cells_are (i.0, i.2, i.3) in
-      (c.0, i.1, c.1, c.2, i.4)
+  has_to f i = grind (arith, Contains-permutation h.complex.cells listing.cells i.1 h.cells_are (i.0, i.2, i.3))
 
   has_back : (f : DirectedFacet) → HasFacet s.vertices listing.cells f → HasFacet s.vertices h.complex.cells f
   has_back f i = let c = cell_back i.1 (i.0, i.2, i.3) in (c.0, i.1, c.1, c.2, i.4)
@@ -49,24 +47,14 @@ module _ (s : Scene) (listing : Complex) (h : IsListingOf s listing) where
   pub has_capacity : (f : List ℕ) → Contains listing.facets f → HasCapacity s listing.cells f
   has_capacity f i =
       let k : HasCapacity s h.complex.cells f = h.complex_is.facets_are.only f (facet_back f i) in
-      record {
-        three = k.three;
-        own = has_to (facet_at f) k.own;
-        across = has_to (turned (facet_at f)) k.across;
-        free = ap (is_fixed s.vertices s.scanners) (h.same_cell (turned (facet_at f)) k.across) ∙ k.free;
-      }
+      let across = has_to (turned (facet_at f)) k.across in
+      grind (arith, has_to (facet_at f) k.own, h.same_cell (turned (facet_at f)) k.across)
 
   pub facet_listed : (f : List ℕ) → HasCapacity s listing.cells f → Contains listing.facets f
   facet_listed f k =
-      let across : HasFacet s.vertices h.complex.cells (turned (facet_at f)) = has_back (turned (facet_at f)) k.across in
-      Contains-permutation h.complex.facets listing.facets f h.facets_are
-      (h.complex_is.facets_are.all f
-      (record {
-        three = k.three;
-        own = has_back (facet_at f) k.own;
-        across = across;
-        free = sym (ap (is_fixed s.vertices s.scanners) (h.same_cell (turned (facet_at f)) across)) ∙ k.free;
-      }))
+      let own = has_back (facet_at f) k.own in let across = has_back (turned (facet_at f)) k.across in
+      let c : HasCapacity s h.complex.cells f = grind (arith, h.same_cell (turned (facet_at f)) across) in
+      Contains-permutation h.complex.facets listing.facets f h.facets_are (h.complex_is.facets_are.all f c)
 
   pub each_once : EachOnce s listing
   each_once =

@@ -2,8 +2,7 @@
 -- all cells outside is admissible and costs their sinks alone. A sink is a vote for each unit of weight of the sights that the
 -- cell is behind, so in all sinks together each sight's weight stands as often as it has a cell behind it, which is at most
 -- once.
-use Rattle.std.proofs.Common.{ℕ, suc, ◌+◌, ◌*◌, ◌≤◌, ◌≡◌, refl, ap, arith, Bool, true, false, cond, List, [], ◌∷◌, Contains}
-use Rattle.std.proofs.Common.{count_by}
+use Rattle.std.proofs.Common.{ℕ, suc, ◌+◌, ◌*◌, ◌≤◌, ◌≡◌, refl, arith, Bool, false, cond, List, [], ◌∷◌, Contains, count_by}
 use Rattle.std.specs.List.{sum_by}
 use Rattle.std.proofs.Math.Nat.{mul-add, mul-le-mul_left}
 use Rattle.std.proofs.lemmas.List.Sums.{sum_by-cons, sum_by-le}
@@ -29,25 +28,20 @@ sum_plus f g h (x ∷ xs) e = grind (arith, sum_by-cons, sum_plus f g h xs e, e 
 times_sum : {X : Type 0} (n : ℕ) (f : X → ℕ) (xs : List X) → sum_by (λ x. n * f x) xs ≡ n * sum_by f xs
 times_sum n f [] = grind arith
 times_sum n f (x ∷ xs) =
-    let e = times_sum n f xs in
-    let d : n * (f x + sum_by f xs) ≡ n * f x + n * sum_by f xs = mul-add n (f x) (sum_by f xs) in
-    let s = ap (λ (k : ℕ). n * k) (sum_by-cons f x xs) in
-    omega (arith, sum_by-cons (λ y. n * f y) x xs, e, d, s)
+    grind (arith, times_sum n f xs, mul-add n (f x) (sum_by f xs), sum_by-cons f x xs, sum_by-cons (λ y. n * f y) x xs)
 
 -- an amount for each that passes
 amount_times : {X : Type 0} (p : X → Bool) (amount : ℕ) (xs : List X)
     → sum_by (λ x. cond (p x) amount 0) xs ≡ amount * count_by p xs
 amount_times p amount [] = grind arith
 amount_times p amount (x ∷ xs) =
-    let e = amount_times p amount xs in
-    let d : amount * (cond (p x) 1 0 + count_by p xs) ≡ amount * cond (p x) 1 0 + amount * count_by p xs =
-    mul-add amount (cond (p x) 1 0) (count_by p xs) in
-    let s = ap (λ (k : ℕ). amount * k) (sum_by-cons (λ y. cond (p y) 1 0) x xs) in
-    omega (arith, sum_by-cons (λ y. cond (p y) amount 0) x xs, e, d, s, one (p x))
-  where
-    one : (passes : Bool) → cond passes amount 0 ≡ amount * cond passes 1 0
-    one true = omega arith
-    one false = omega arith
+    grind (
+      arith,
+      amount_times p amount xs,
+      mul-add amount (cond (p x) 1 0) (count_by p xs),
+      sum_by-cons (λ y. cond (p y) 1 0) x xs,
+      sum_by-cons (λ y. cond (p y) amount 0) x xs,
+    )
 
 at_most_once : (amount n : ℕ) → n ≤ 1 → amount * n ≤ amount
 at_most_once amount n h = let m : amount * n ≤ amount * 1 = mul-le-mul_left amount h in omega (arith, m)
@@ -67,8 +61,7 @@ few_pairs {X = X} p xs (y ∷ ys) h =
 
 all_weights : (sights : List Sight) → IsSightList sights → sum_by (λ sight. sight.weight) sights ≤ 2139095040
 all_weights sights h =
-    let n = sum_by-le (λ (sight : Sight). sight.weight) SIGHT_WEIGHT_LIMIT sights (λ k d l. (h.weighed k d l).at_most) in
-    omega (arith, n, h.few)
+    grind (arith, sum_by-le (λ (sight : Sight). sight.weight) SIGHT_WEIGHT_LIMIT sights (λ k d l. (h.weighed k d l).at_most))
 
 -- ---- all cells outside
 all_outside : (s : Scene) (complex : Complex) → HasOneBehind s complex.cells → IsSightList s.sights
