@@ -43,7 +43,7 @@ import numpy as np
 from recon.library import rows_at
 from recon.mesh_program import Wanted, Whole, finish_mesh
 from recon.meshes import Mesh, mean_angle, unseen_faces
-from recon.toolbox.mesh_files import Column, Finished, form_of, read_mesh, write_mesh
+from recon.toolbox.mesh_files import Column, Finished, form_of, read_mesh, rounding_of, write_mesh
 from recon.toolbox.ply_text import IS_NUMBER, Refusal
 from recon.toolbox.scan_rows import columns_of
 from recon.toolbox.tool import Report, number_of, run, three, whole, yes
@@ -130,11 +130,14 @@ class FinishReport(Report):
     out: str = ''
     written: Tuple[int, int] = (0, 0)
     seen_part: int = 0
+    rounding: float = 0.0
 
     def __str__(self) -> str:
         wrote = f'wrote {self.written[0]} vertices and {number_of(self.written[1], "face")} to {self.out}'
         if self.seen_part:
             wrote += f', and the {number_of(self.seen_part, "face")} that were seen to {seen_path(self.out)}, which is open'
+        if self.rounding:
+            wrote += f'; {coarse(self.out, self.rounding)}'
         return '; '.join([*self.sentences(), wrote])
 
     def sentences(self) -> list[str]:
@@ -249,6 +252,11 @@ def seen_part(mesh: Finished) -> Finished:
                     vertex_of=mesh.vertex_of[used])
 
 
+def coarse(path: str, away: float) -> str:
+    """The warning that a format rounds coordinates."""
+    return f'{path}: STL stores 24 bits of a coordinate, so vertices moved by up to {away:.2g}: write PLY, GLB or OBJ, or subtract an origin'
+
+
 def seen_path(path: str) -> str:
     """mesh-seen.glb for mesh.glb."""
     stem, ending = os.path.splitext(path)
@@ -292,6 +300,7 @@ def work(names: Sequence[str], options: Any) -> FinishReport:
         report.stamp = stamp[1] if stamp else None
         write_mesh(names[1], mesh)
         report.out, report.written = names[1], (len(mesh.places), len(mesh.faces))
+        report.rounding = rounding_of(names[1], mesh)
         report.seen_part = write_seen(names[1], mesh) if wishes.seen else 0
     finally:
         progress.end()

@@ -18,12 +18,12 @@ import numpy as np
 from recon.beside import Beside
 from recon.choices import Choices
 from recon.clouds import Spacing
-from recon.finish import FinishReport, seen_path, write_seen
+from recon.finish import FinishReport, coarse, seen_path, write_seen
 from recon.inputs import Cloud
 from recon.library import Surface
 from recon.meshes import Mesh, areas
 from recon.page import PageMesh, write_page
-from recon.toolbox.mesh_files import Finished, write_mesh
+from recon.toolbox.mesh_files import Finished, rounding_of, write_mesh
 
 SIGHTS = 400
 HERE = os.path.dirname(os.path.abspath(__file__))
@@ -70,6 +70,9 @@ def write_outputs(made: Made, beside: Beside) -> None:
                         sights=some_sights(made.cloud), figures=figures, choices=[(name, it.value, it.why) for name, it in choices.chosen.items()],
                         digests=digests, commands=verifying(made), title=made.out.stem)
     write_mesh(os.fspath(next(iter(files))), made.mesh)
+    rounding = rounding_of(os.fspath(made.out), made.mesh)
+    if rounding:
+        choices.warn(coarse(made.out.name, rounding))
     if write_seen(os.fspath(next(iter(files))), made.mesh):
         files[made.folder / ('out-seen' + made.out.suffix)] = Path(seen_path(os.fspath(made.out)))
     else:

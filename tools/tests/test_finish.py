@@ -193,6 +193,23 @@ class Finish(InFolder):
         with open('out.glb', 'rb') as file:
             equal(bytes((1, 2, 3, 255, 4, 2, 3, 255, 7, 2, 3, 255)) in file.read(), True)
 
+    @unittest.skipUnless(RECON_MESH, 'recon-mesh is not built here')
+    def test_coordinates_far_from_0(self) -> None:
+        write('in.ply', mesh_text(SCAN_ROWS, [(0, 1, 2), (0, 2, 3), (0, 3, 1), (1, 3, 2)]))
+        far = ('unit=1000', 'origin=600000.125,5000000,0')
+        status, said, error = call('finish', 'in.ply', 'out.glb', *far)
+        equal((status, error, 'STL' in said), (0, '', False))
+        with open('out.glb', 'rb') as file:
+            data = file.read()
+        size, = struct.unpack_from('<I', data, 12)
+        scene = json.loads(data[20:20 + size])
+        middle = scene['nodes'][0]['translation']
+        places = np.frombuffer(data, '<f4', 12, 28 + size + scene['bufferViews'][1]['byteOffset']).reshape(4, 3) + np.array(middle)
+        equal(middle, [600000, 5000000, 0])
+        equal(np.abs(places - np.array(SCAN_ROWS) / 1000 - [600000.125, 5000000, 0]).max() < 1e-7, True)
+        status, said, error = call('finish', 'in.ply', 'out.stl', *far)
+        equal((status, error, 'so vertices moved by up to 0.1: write PLY, GLB or OBJ' in said), (0, '', True))
+
     def test_what_nobody_saw_is_a_mesh_of_its_own(self) -> None:
         places, faces = ball(10, 1000)
         write('in.ply', mesh_text(places, faces))

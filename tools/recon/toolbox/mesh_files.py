@@ -137,6 +137,22 @@ def ply_parts(mesh: Finished) -> Iterator[bytes]:
     yield table_of([('count', 'u1', threes), ('corners', '<i4', mesh.faces), *column_parts(mesh.face_columns)]).tobytes()
 
 
+def far_middle(places: np.ndarray) -> np.ndarray:
+    """The middle of coordinates that lie farther from 0 than 16 times their extent, in whole numbers; else 0."""
+    low, high = places.min(axis=0), places.max(axis=0)
+    is_far = max(np.abs(low).max(), np.abs(high).max()) > 16 * (high - low).max()
+    return np.round((low + high) / 2) if is_far else np.zeros(3)
+
+
+def rounding_of(path: str, mesh: Finished) -> float:
+    """How far a format that stores 24 bits of a coordinate moves a vertex at most, where that is over 1/100,000 of the mesh's extent; else 0.
+    Only STL does: a GLB adds the middle of far coordinates by its node."""
+    if os.path.splitext(path)[1].lower() != '.stl' or not len(mesh.places):
+        return 0.0
+    away = float(np.abs(mesh.places - mesh.places.astype('<f4')).max())
+    return away if away > 1e-5 * float(np.ptp(mesh.places, axis=0).max()) else 0.0
+
+
 def stl_parts(mesh: Finished) -> Iterator[bytes]:
     """Yields a binary STL, in pieces."""
     yield b'made by finish'.ljust(80) + struct.pack('<I', len(mesh.faces))
@@ -146,8 +162,11 @@ def stl_parts(mesh: Finished) -> Iterator[bytes]:
 
 
 def glb_parts(mesh: Finished) -> Iterator[bytes]:
-    """Yields a binary glTF, in pieces: the mesh with its colors, if it has any."""
-    places, colors = mesh.places.astype('<f4'), mesh.colors()
+    """Yields a binary glTF, in pieces: the mesh with its colors, if it has any. The node adds the middle of coordinates that are far from 0, which
+    would lose digits in 24 bits."""
+    middle = far_middle(mesh.places)
+    places, colors = (mesh.places - middle).astype('<f4'), mesh.colors()
+    node: dict[str, Any] = {'mesh': 0, 'translation': middle.tolist()} if middle.any() else {'mesh': 0}
     data = [mesh.faces.astype('<u4').tobytes(), places.tobytes()]
     accessors: list[dict[str, Any]] = [
         {'bufferView': 0, 'componentType': 5125, 'count': 3 * len(mesh.faces), 'type': 'SCALAR'},
@@ -163,7 +182,7 @@ def glb_parts(mesh: Finished) -> Iterator[bytes]:
         views.append({'buffer': 0, 'byteOffset': at, 'byteLength': len(part), 'target': 34962 if number else 34963})
         at += len(part)
     scene = {'asset': {'version': '2.0', 'generator': 'recon-finish'}, 'scene': 0, 'scenes': [{'nodes': [0]}],
-             'nodes': [{'mesh': 0}], 'meshes': [{'primitives': [{'attributes': attributes, 'indices': 0}]}],
+             'nodes': [node], 'meshes': [{'primitives': [{'attributes': attributes, 'indices': 0}]}],
              'buffers': [{'byteLength': at}], 'bufferViews': views, 'accessors': accessors}
     text = json.dumps(scene).encode('ascii')
     text += b' ' * (-len(text) % 4)
