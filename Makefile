@@ -51,7 +51,7 @@ attack:
 
 # Tries to make the built program and the Python tools fail, beside the model of dev/model and the reference program (ten minutes, or MINUTES;
 # another SEED makes other cases). The smallest case of each failure is kept in fuzz_failures/, and printed as a command.
-fuzz: recon reference
+fuzz: recon recon-mesh reference
 	$(PYTHON) dev/fuzz seed=$(or $(SEED),1) minutes=$(or $(MINUTES),10)
 
 # Builds the unverified reference program of dev/reference, where there is cargo (less than a minute the first time).
@@ -84,7 +84,7 @@ bench: recon reference
 
 # Seconds, memory, open edges and distance to the object of other programs on the same scans: CGAL, COLMAP and Open3D, where they are installed
 # (Debian: libcgal-dev, colmap, python3-open3d); a missing one is named and left out.
-bench-others: recon
+bench-others: recon recon-mesh
 	$(PYTHON) dev/others.py ./recon bench_scans
 
 # Times build alone on the three worst shapes and on a cube, a room and a torus of a million points, three runs each (ten minutes; BESIDE as

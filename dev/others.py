@@ -227,6 +227,8 @@ def main() -> int:
     objects = options['objects'].split(',') if options['objects'] else [os.path.join(folder, 'room.off')]
     if not options['objects']:
         subprocess.run([PYTHON, MEASURE, 'room', objects[0]], check=True, stdout=subprocess.DEVNULL)
+    # recon-finish runs the recon-mesh that is measured
+    os.environ['RECON_MESH'] = os.path.join(os.path.dirname(os.path.abspath(recon)), 'recon-mesh')
     print('| scan | program | s | peak MB | to the object | from the object | open edges | non-manifold edges, vertices | crossing pairs | angle |\n|' + '---|' * 10,
           flush=True)
     for path in objects:
