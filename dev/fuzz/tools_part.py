@@ -137,9 +137,9 @@ def other_words(draw: random.Random, job: Job) -> list[str]:
 
 def wrong_in(job: Job, done: Done, before: Files, after: Files) -> Optional[tuple[str, str]]:
     """Returns the kind of a failure and what is wrong."""
-    # argparse takes no argument with a minus as the value of an option
-    is_value = job.tool == 'surface' and done.status == 2 and b'expected one argument' in done.err
-    if any(word in ('--help', '-h') for word in job.words) and not is_value:
+    # argparse takes no argument with a minus as the value of an option, and rejects an invalid value that is before --help
+    is_rejected = job.tool == 'surface' and done.status == 2 and b': error: argument -' in done.err
+    if any(word in ('--help', '-h') for word in job.words) and not is_rejected:
         return None if done.status == 0 and done.out and after == before else ('help', str(done))
     if done.status in (OUT_OF_MEMORY, None, -signal.SIGXCPU) or done.seconds > MOST_SECONDS:
         return 'memory' if done.status == OUT_OF_MEMORY else 'time', f'{done}; {sum(map(len, before.values()))} bytes of files, {done.seconds:.1f} s'
