@@ -245,7 +245,7 @@ class Changes:
             self.add('a row of nothing', Sheet.insert, name, row)
 
     def words(self) -> None:
-        """A word of a row that is spelled otherwise or is no number."""
+        """A word of a row that is spelled otherwise or is not a number."""
         for name, word in itertools.product(self.base.lists, ('x', '', '-1', '01', '+1', '1e1', str(2 ** 64), '0')):
             def put(s: Sheet, name: str = name, word: str = word) -> None:
                 if s.lists[name]:

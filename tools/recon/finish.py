@@ -284,7 +284,7 @@ def stamped_unit(mesh: str, named: str | None) -> tuple[str, str] | None:
     except (EOFError, gzip.BadGzipFile):
         stamp = None
     if stamp is None and named:
-        raise Refusal(f'{named} is no certificate that states its unit')
+        raise Refusal(f'{named} is not a certificate that states its unit')
     return (stamp[1].decode('ascii'), os.path.basename(found[0])) if stamp else None
 
 

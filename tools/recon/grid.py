@@ -84,7 +84,7 @@ def answer_of(lines: Lines) -> int:
     """1 or 0, by the next line."""
     line = lines.next_line()
     if line is None:
-        raise Refusal(f'cut: an answer is missing behind line {lines.number}')
+        raise Refusal(f'truncated: an answer is missing after line {lines.number}')
     if line not in ANSWERS:
         raise Refusal(f'line {lines.number} is not `inside` or `outside`')
     return ANSWERS[line]
@@ -96,11 +96,11 @@ def read_answers(path: str) -> tuple[int, int]:
     try:
         head = IS_HEAD(lines.next_line() or '')
         if not head:
-            raise Refusal('line 1 is not `answers N`: the file is no answer of recon ask')
+            raise Refusal('line 1 is not `answers N`: the file is not an answer of recon ask')
         count = int(head.group(1))
         inside = sum(answer_of(lines) for _ in range(count))
         if lines.next_line() is not None:
-            raise Refusal(f'line {lines.number} stands behind the last answer')
+            raise Refusal(f'line {lines.number} follows the last answer')
         return count, inside
     finally:
         lines.close()
@@ -116,7 +116,7 @@ def work(names: Sequence[str], options: Any) -> Report:
     if command == 'points':
         return write_points(path, options.from_, options.to, side)
     if options.from_ is not None or options.to is not None:
-        raise Refusal('from= and to= are no options of volume')
+        raise Refusal('from= and to= are not options of volume')
     count, inside = read_answers(path)
     volume = text(WIDE.multiply(Decimal(inside), WIDE.power(side, 3)))
     return Volume(path, count, inside, volume)

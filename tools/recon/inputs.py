@@ -106,7 +106,7 @@ def load_scan(path: str) -> Table:
         values = np.fromstring(body, float, sep=' ')
     if len(values) < vertex.count * len(names) + 3 * scanner_count:
         row, column = divmod(len(values), len(names))
-        raise Refusal(f'{names[column]} of point {row} is no number' if row < vertex.count else 'a position of a scanner is no number')
+        raise Refusal(f'{names[column]} of point {row} is not a number' if row < vertex.count else 'a position of a scanner is not a number')
     rows = values[:vertex.count * len(names)].reshape(vertex.count, len(names))
     columns = {name: rows[:, k] for k, name in enumerate(names)}
     scanners = values[rows.size:].reshape(scanner_count, 3) if element is not None else None
@@ -131,7 +131,7 @@ def number(word: str) -> float:
     try:
         return float(word)
     except ValueError:
-        raise Refusal(f'{word[:40]} is no number') from None
+        raise Refusal(f'{word[:40]} is not a number') from None
 
 
 def plain_table(names: Sequence[str]) -> Table | None:

@@ -29,15 +29,15 @@ def pass_mesh(reader: Reader, file: TextIO, unit: Decimal, origin: list[Decimal]
     vertex, face = reader.element('vertex'), reader.element('face')
     if (vertex is None or face is None or reader.elements != [vertex, face] or vertex.has_lists() or len(face.properties) != 1
             or not face.has_lists()):
-        raise Refusal('this is no mesh of recon: vertices and then faces, each with a list')
+        raise Refusal('this is not a mesh of recon: vertices and then faces, each with a list')
     x, y, z = vertex.point_columns()
     if any(vertex.properties[k].kind.startswith(('float', 'double')) for k in (x, y, z)):
-        raise Refusal('its coordinates are floating point already: it is no mesh as recon wrote it')
+        raise Refusal('its coordinates are floating point already: it is not a mesh as recon wrote it')
     file.write(head(vertex, face))
     for row, words in enumerate(reader.rows(vertex)):
         point = [words[x], words[y], words[z]]
         if not ARE_THREE(' '.join(point)):
-            raise Refusal(f'vertex row {row}: {" ".join(point)[:80]} is no place')
+            raise Refusal(f'vertex row {row}: {" ".join(point)[:80]} is not a position')
         file.write(' '.join(quotients(point, unit, origin)) + '\n')
     for words in reader.rows(face):
         file.write(' '.join(words) + '\n')

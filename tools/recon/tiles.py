@@ -47,7 +47,7 @@ def length(text: str, key: str) -> float:
 def refuse_others(options: Any, mine: tuple[str, ...], others: tuple[str, ...], command: str) -> None:
     for key in others:
         if key not in mine and getattr(options, key) is not None:
-            raise Refusal(f'{key}= is no option of {command}')
+            raise Refusal(f'{key}= is not an option of {command}')
 
 
 def wanted_of(options: Any) -> tuple[Wanted, list[str]]:

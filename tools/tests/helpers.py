@@ -79,7 +79,7 @@ def refuses(program: str, part: str, *words: str, out: str = 'out.ply') -> None:
     """The program refuses with a line that has this part, and leaves what was there."""
     write(out, 'before')
     status, said, error = call(program, *words)
-    if status != 1 or said or part not in error or not error.startswith(f'{spoken(program)}: refused: ') or error.count('\n') != 1:
+    if status != 1 or said or part not in error or not error.startswith(f'{spoken(program)}: error: ') or error.count('\n') != 1:
         raise AssertionError(f'\n  got    {(status, said, error)!r}\n  wanted a refusal with {part!r}')
     equal((read(out), os.path.exists(out + '.part')), ('before', False))
 

@@ -43,9 +43,9 @@ class All(InFolder):
               '500033.333333333333333333333333 -32.8333333333333333333333333333 -34.3333333333333333333333333333')
         refuses('mesh_to_floats', 'unit= is a whole number', 'in.ply', 'out.ply', 'unit=0')
         write('in.ply', MESH[:-4])
-        refuses('mesh_to_floats', 'cut: the file ends in row 3 of the 4 of face', 'in.ply', 'out.ply')
+        refuses('mesh_to_floats', 'truncated: the file ends in row 3 of the 4 of face', 'in.ply', 'out.ply')
         write('in.ply', head(1, SCAN, 1) + '0 0 0 0\n0 0 9\n')
-        refuses('mesh_to_floats', 'no mesh', 'in.ply', 'out.ply')
+        refuses('mesh_to_floats', 'not a mesh', 'in.ply', 'out.ply')
         write('in.ply', MESH.replace('property int', 'property double'))
         refuses('mesh_to_floats', 'floating point already', 'in.ply', 'out.ply', 'unit=1000')
         write('in.ply', MESH)
@@ -65,9 +65,9 @@ class All(InFolder):
         write('in.txt', 'loops 0\n')
         says('contours', 'wrote 0 loops of 0 points of in.txt to out.csv', 'in.txt', 'out.csv')
         refuses('contours', 'nothing to draw', 'in.txt', 'out.svg', out='out.svg')
-        spoiled = ((SLICE[:-18], 'cut: `A X Y D` is missing behind line 5'), (SLICE[:-1], 'cut: line 6'), (MESH, 'line 1 is not'),
-                   (SLICE + '\n', 'line 7 stands behind'), (SLICE.replace(' 400\n2', ' 0\n2'), 'line 3 is not'),
-                   ('loops 1\n', 'cut: `loop N` is missing'))
+        spoiled = ((SLICE[:-18], 'truncated: `A X Y D` is missing after line 5'), (SLICE[:-1], 'truncated: line 6'), (MESH, 'line 1 is not'),
+                   (SLICE + '\n', 'line 7 follows'), (SLICE.replace(' 400\n2', ' 0\n2'), 'line 3 is not'),
+                   ('loops 1\n', 'truncated: `loop N` is missing'))
         for text, why in spoiled:
             write('in.txt', text)
             refuses('contours', why, 'in.txt', 'out.csv', out='out.csv')
@@ -90,8 +90,8 @@ class All(InFolder):
         equal(call('grid', 'volume', 'in.txt', 'side=0.1'), (0, 'recon-grid: read 3 answers of in.txt; inside 2, volume 0.002\n', ''))
         write('in.txt', 'answers 0\n')
         says('grid', 'read 0 answers of in.txt; inside 0, volume 0', 'volume', 'in.txt', 'side=2')
-        spoiled = (('', 'line 1'), ('answers\n', 'line 1'), ('answers 1\n', 'missing behind line 1'), ('answers 1\ninside', 'cut: line 2'),
-                   ('answers 1\nInside\n', 'line 2 is not'), ('answers 1\ninside\noutside\n', 'line 3 stands behind'), (MESH, 'line 1'))
+        spoiled = (('', 'line 1'), ('answers\n', 'line 1'), ('answers 1\n', 'missing after line 1'), ('answers 1\ninside', 'truncated: line 2'),
+                   ('answers 1\nInside\n', 'line 2 is not'), ('answers 1\ninside\noutside\n', 'line 3 follows'), (MESH, 'line 1'))
         for text, why in spoiled:
             write('in.txt', text)
             refuses('grid', why, 'volume', 'in.txt', 'side=1')

@@ -240,7 +240,7 @@ class Scans(InFolder):
             (ONE, ['0', '1', '2', '3'], outside), (WEIGHED, ['0 2', '1 1', '2 1', '3 1'], FOUR_BUILT),
             (WEIGHED, ['0 1', '1 1', '2 1', '3 1'], outside), (WEIGHED, ['0 255', '1 255', '2 255', '3 255'], FOUR_BUILT),
             ('property short weight\nproperty char scanner\n', ['2 0', '1 1', '1 2', '1 3'], FOUR_BUILT),
-            # A weight that is no whole number, or several, is skipped.
+            # A weight that is not a whole number, or several, is skipped.
             (ONE + 'property float weight\n', ['0 2.5', '1 0', '2 x', '3 1'], outside),
             (ONE + 'property list uchar int weight\n', ['0 1 2', '1 0', '2 2 0 x', '3 0'], outside),
             # A point is seen by each scanner of its list.

@@ -349,12 +349,12 @@ class Finish(InFolder):
         for words, part in ((('smooth=3',), 'stand together'), (('within=1',), 'stand together'),
                             (('smooth=1', 'within=0'), 'within='), (('smooth=101', 'within=1'), 'smooth='),
                             (('smooth=1', 'within=0.01', 'unit=99'), 'within=0.01 is under one unit of the mesh'), (('pieces=0',), 'pieces='),
-                            (('unit=0',), 'unit='), (('scan=scan.ply',), '3 of 4 vertices are no points of scan.ply at unit=1')):
+                            (('unit=0',), 'unit='), (('scan=scan.ply',), '3 of 4 vertices are not points of scan.ply at unit=1')):
             refuses('finish', part, 'in.ply', 'out.ply', *words)
         refuses('finish', 'ends in none of .ply, .stl, .glb, .obj', 'in.ply', 'out.off', out='out.off')
-        spoiled = ((tetrahedron.replace('int x', 'double x'), 'floating point already'), (tetrahedron[:-1], 'it is cut'),
+        spoiled = ((tetrahedron.replace('int x', 'double x'), 'floating point already'), (tetrahedron[:-1], 'it is truncated'),
                    (tetrahedron[:-8], 'it has 24 numbers where its header says 28'),
-                   (tetrahedron.replace('3 0 1 2', '3 0 1 4'), 'a face is no triangle'),
+                   (tetrahedron.replace('3 0 1 2', '3 0 1 4'), 'a face is not a triangle'),
                    (tetrahedron.replace('3 0 1 2', '3 0 1 3'), 'not closed'), (tetrahedron.replace('3 1 3 2\n', ''), 'numbers where'),
                    (mesh_text([], []), 'no faces'))
         for text, part in spoiled:

@@ -26,7 +26,7 @@ def error_of(program: str, *words: str) -> str:
     before = {name: os.stat(name).st_mtime_ns for name in os.listdir()}
     environment = {**os.environ, 'OPENBLAS_NUM_THREADS': '1'}
     done = subprocess.run([*command(program), *words], capture_output=True, text=True, preexec_fn=limit, env=environment)
-    start = f'{spoken(program)}: refused: '
+    start = f'{spoken(program)}: error: '
     if done.returncode != 1 or done.stdout or done.stderr.count('\n') != 1 or not done.stderr.startswith(start):
         raise AssertionError(f'{program} {words}: {done.returncode} {done.stdout!r} {done.stderr[-600:]!r}')
     equal({name: os.stat(name).st_mtime_ns for name in os.listdir()}, before)
@@ -60,7 +60,7 @@ class Hostile(InFolder):
             write('in.pcd', small.format(count))
             is_error('of the PCD', 'scan', 'in.pcd', 'out.ply')
         write('in.pcd', PCD.replace('POINTS 3', 'POINTS ' + '9' * 5000))
-        is_error('the line POINTS of the PCD is no count', 'scan', 'in.pcd', 'out.ply')
+        is_error('the line POINTS of the PCD is not a count', 'scan', 'in.pcd', 'out.ply')
         write('in.pcd', PCD.replace('rgb normal', 'rgb ' + 'n' * 70000))
         is_error('the header of the PCD is too long', 'scan', 'in.pcd', 'out.ply')
         write('in.pcd', PCD.replace('HEIGHT', '# a remark\n' * 2000 + 'HEIGHT'))
@@ -83,7 +83,7 @@ class Hostile(InFolder):
             write('in.e57', e57_of(flat(0), [b''] * 3, stated))
             is_error(f'a station of the E57 has {stated} points', 'scan', 'in.e57', 'out.ply')
         write('in.e57', e57_of(flat(1), [b'\1'] * 3, 10 ** 9))
-        is_error('cut', 'scan', 'in.e57', 'out.ply')
+        is_error('truncated', 'scan', 'in.e57', 'out.ply')
         write('in.e57', e57_of(flat(0), [b''] * 3, 1))
         equal(call('scan', 'in.e57', 'one.ply')[0], 0)
 
@@ -94,7 +94,7 @@ class Hostile(InFolder):
         write('in.e57', e57_of(flat(65), [b'\0' * 9] * 3, 1))
         is_error('over 64 bits', 'scan', 'in.e57', 'out.ply')
         write('in.e57', e57(6, lambda text: text.replace('maximum="1000"', f'maximum="{"9" * 5000}"')))
-        is_error('the description in the E57 is not understood', 'scan', 'in.e57', 'out.ply')
+        is_error('the description in the E57 is invalid', 'scan', 'in.e57', 'out.ply')
 
     def test_packets_of_an_e57_that_are_too_short(self) -> None:
         good = e57_of(flat(8), [b'\1\2'] * 3, 2)
@@ -121,7 +121,7 @@ class Hostile(InFolder):
         plain = 'VERSION 0.7\nFIELDS x y z\nSIZE 4 4 4\nTYPE F F F\nCOUNT 1 1 1\nVIEWPOINT {} 1 0 0 0\nPOINTS 1\nDATA ascii\n1 2 3\n'
         for place in ('nan 0 0', '0 inf 0', '1 2 x'):
             write('a.pcd', plain.format(place))
-            is_error('is no place', 'scan', 'a.pcd', 'out.ply')
+            is_error('is not a position', 'scan', 'a.pcd', 'out.ply')
             is_error('as the position of its scanner, which is none', 'scan', 'a.pcd', 'a.pcd', 'out.ply')
         pose = struct.pack('<I7dI', 4, 1, 0, 0, 0, 0, float('nan'), 0, 1)
         write('images.bin', struct.pack('<Q', 1) + pose + b'a\0' + struct.pack('<Q', 0))
@@ -148,10 +148,10 @@ class Hostile(InFolder):
                             ('float', '1e300'), ('double', '1' * 5000 + 'x')):
             write('scan.ply', head.format(kind) + ''.join(f'{row} {value}\n' for row in rows))
             for out in ('out.ply', 'out.glb', 'out.stl'):
-                is_error(f'in a row of the scan, which is no {kind}', 'finish', 'mesh.ply', out, 'scan=scan.ply')
+                is_error(f'in a row of the scan, which is not a {kind}', 'finish', 'mesh.ply', out, 'scan=scan.ply')
         for word in ('1' * 5000, '1e900000', '0.' + '1' * 5000):
             write('scan.ply', head.format('uchar') + ''.join(f'{row} 7\n' for row in [f'{word} 0 0', *rows[1:]]))
-            is_error('are no points of scan.ply', 'finish', 'mesh.ply', 'out.ply', 'scan=scan.ply')
+            is_error('are not points of scan.ply', 'finish', 'mesh.ply', 'out.ply', 'scan=scan.ply')
         write('scan.ply', head.format('uchar') + ''.join(f'{row} 7\n' for row in rows))
         equal(call('finish', 'mesh.ply', 'mesh.glb', 'scan=scan.ply')[0], 0)
 
@@ -190,10 +190,10 @@ class Hostile(InFolder):
         for columns, row in (('int x, int y, int z, uchar weight, list uchar int scanner', '1 2 3 - 1 0'),
                              ('int x, int y, int z, uchar weight, int scanner', '1 2 3 - 0')):
             write('in', head(1, columns, 1) + f'{row}\n0 0 9\n')
-            equal(call('scan', 'in', 'out.ply'), (1, '', 'recon-scan: refused: vertex row 0: the weight - is no number\n'))
+            equal(call('scan', 'in', 'out.ply'), (1, '', 'recon-scan: error: vertex row 0: the weight - is not a number\n'))
             for weight in ('1e999999', '1.5', '1e2', '2.'):
                 write('in', head(1, columns, 1) + f'{row}\n0 0 9\n'.replace('-', weight))
-                equal(call('scan', 'in', 'out.ply'), (1, '', f'recon-scan: refused: vertex row 0: the weight {weight} is no whole number\n'))
+                equal(call('scan', 'in', 'out.ply'), (1, '', f'recon-scan: error: vertex row 0: the weight {weight} is not a whole number\n'))
 
     def test_names_of_columns_beyond_ascii(self) -> None:
         write('mesh', MESH)

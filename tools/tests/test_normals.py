@@ -71,7 +71,7 @@ class Normals(InFolder):
         write('in.xyz', '1 2 3 0 0 1\n1 2 3 0 0 1 5\n')
         refuses('scan', 'line 2 has 7 values where the first has 6', 'in.xyz', 'out.ply', 'normals=yes')
         write('in.xyz', '1 2 3 0 0 x\n')
-        refuses('scan', 'point 0: x is no number', 'in.xyz', 'out.ply', 'normals=yes')
+        refuses('scan', 'point 0: x is not a number', 'in.xyz', 'out.ply', 'normals=yes')
         write('in.xyz', '1 2 3 0 0 0\n')
         refuses('scan', 'no point has a normal', 'in.xyz', 'out.ply', 'normals=yes')
         write('in.xyz', '1 2 3 0 0 1\n')

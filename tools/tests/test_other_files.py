@@ -154,9 +154,9 @@ class OtherFiles(InFolder):
              'more.xyz=4,4,4', 'out.ply')
         equal(read('out.ply').endswith('7 8 9 1\n1 2 3.5\n4 4 4\n'), True)
         spoiled = ((PCD.replace('ascii', 'zipped'), 'zipped is not read'),
-                   (PCD[:-30], 'cut: line 13, the last one, has no end'), (PCD.replace(' 5 6', ' 5'), 'point 2 has 5 values'),
-                   (PCD.replace('POINTS 3', 'POINTS 4'), 'cut: the file ends in point 3 of 4'),
-                   (PCD[:150], 'cut: the file ends in the header'), (PCD + '1 2 3 4 5 6\n', 'something follows'),
+                   (PCD[:-30], 'truncated: line 13, the last one, has no newline'), (PCD.replace(' 5 6', ' 5'), 'point 2 has 5 values'),
+                   (PCD.replace('POINTS 3', 'POINTS 4'), 'truncated: the file ends in point 3 of 4'),
+                   (PCD[:150], 'truncated: the file ends in the header'), (PCD + '1 2 3 4 5 6\n', 'something follows'),
                    (PCD.replace('SIZE 4', 'SIZE 3'), 'the field x of the PCD has a type'),
                    (PCD.replace('POINTS 3\n', ''), 'no line POINTS'))
         for text, part in spoiled:
@@ -175,8 +175,8 @@ class OtherFiles(InFolder):
         write('in.pcd', head + struct.pack('<II', len(packed), len(body)) + packed)
         status, said, error = call('scan', 'in.pcd', 'out.ply')
         equal((status, 'left out 1 not finite' in said, error), (0, True, ''))
-        spoiled = ((PACKED[:-1], 'cut: the file ends in the compressed body'), (PACKED[:4], 'has not the bytes of 10 points'),
-                   (PACKED[:8] + b'\xff' + PACKED[9:], 'not understood'), (PACKED[:8] + b'\0' + PACKED[9:], 'compressed body'))
+        spoiled = ((PACKED[:-1], 'truncated: the file ends in the compressed body'), (PACKED[:4], 'has not the bytes of 10 points'),
+                   (PACKED[:8] + b'\xff' + PACKED[9:], 'is invalid'), (PACKED[:8] + b'\0' + PACKED[9:], 'compressed body'))
         for data, part in spoiled:
             write('in.pcd', COMPRESSED + data)
             refuses('scan', part, 'in.pcd', 'out.ply')
@@ -197,7 +197,7 @@ class OtherFiles(InFolder):
         equal(call('scan', 'in.las', 'out.ply')[0], 0)
         equal(read('out.ply').splitlines()[-1], '500001 4000000.5 -7 9 2 3 1.5')
         write('in.las', las(4, 6, new)[:-1])
-        refuses('scan', 'cut: the file ends in point 0 of 1', 'in.las', 'out.ply')
+        refuses('scan', 'truncated: the file ends in point 0 of 1', 'in.las', 'out.ply')
         write('in.las', las(2, 131, old))
         refuses('scan', 'this is LAZ', 'in.las', 'out.ply')
         write('in.las', las(2, 11, old))
@@ -219,13 +219,13 @@ class OtherFiles(InFolder):
         x, y = map(float, read('out.ply').split('end_header\n')[1].splitlines()[-2].split()[:2])
         equal((x, y), (100 - 899, -899 / 4))
         write('in.e57', e57(900)[:-1024])
-        refuses('scan', 'cut: the header of the E57 says', 'in.e57', 'out.ply')
+        refuses('scan', 'truncated: the header of the E57 states', 'in.e57', 'out.ply')
         write('in.e57', e57(900, lambda text: text.replace('cartesianX', 'sphericalRange')))
         refuses('scan', 'spherical ones are not read', 'in.e57', 'out.ply')
         write('in.e57', e57(900, lambda text: text.replace('recordCount="900"', 'recordCount="901"')))
         refuses('scan', 'station 0 has 900 of its 901 points', 'in.e57', 'out.ply')
         write('in.e57', e57(900, lambda text: text.replace('<data3D', '<data3D<')))
-        refuses('scan', 'is not understood', 'in.e57', 'out.ply')
+        refuses('scan', 'is invalid', 'in.e57', 'out.ply')
 
     def test_files_that_pdal_wrote(self) -> None:
         for name, data, dropped in (('in.las', PDAL_LAS, (4, 5, 6)), ('in.e57', PDAL_E57, (7,))):
@@ -259,13 +259,13 @@ class OtherFiles(InFolder):
             equal(rows[:2], ['0.5 1.0 2.0 9 2 1 0', '3.0 4.0 5.0 8 0'])
             equal([list(map(float, row.split())) for row in rows[2:]], [[0, 0, 10], [-2, -3, -1]])
         write('short.bin', IMAGES_BIN[:-1])
-        refuses('scan', 'cut: the images end in the points of picture 1', 'in.ply', 'out.ply', 'images=short.bin')
+        refuses('scan', 'truncated: the images end in the points of picture 1', 'in.ply', 'out.ply', 'images=short.bin')
         write('short.bin', IMAGES_BIN[:100])
-        refuses('scan', 'cut: the images end in picture 1', 'in.ply', 'out.ply', 'images=short.bin')
+        refuses('scan', 'truncated: the images end in picture 1', 'in.ply', 'out.ply', 'images=short.bin')
         write('in.ply.vis', struct.pack('<QIIIIII', 3, 2, 1, 2, 0, 1, 1))
         refuses('scan', 'point 0 is seen by picture 2, and there are 2', 'in.ply', 'out.ply', 'images=images.txt')
         write('in.ply.vis', struct.pack('<QIII', 3, 2, 1, 0))
-        refuses('scan', 'cut: fused.ply.vis ends in point 1 of 3', 'in.ply', 'out.ply', 'images=images.txt')
+        refuses('scan', 'truncated: fused.ply.vis ends in point 1 of 3', 'in.ply', 'out.ply', 'images=images.txt')
         write('in.ply.vis', struct.pack('<Q', 2))
         refuses('scan', 'not of the 3 points', 'in.ply', 'out.ply', 'images=images.txt')
 
@@ -278,9 +278,9 @@ class OtherFiles(InFolder):
         write('in.xyz', '1,5;2,5;3,5\n')
         refuses('scan', 'line 1 has decimal commas', 'in.xyz=0,0,0', 'out.ply')
         write('in.xyz', '1 2 3\n')
-        refuses('scan', 'is no PLY, PCD, LAS, E57 or PTX', 'in.xyz', 'out.ply')
+        refuses('scan', 'is not a PLY, PCD, LAS, E57 or PTX', 'in.xyz', 'out.ply')
         refuses('scan', 'in.xyz does not say where its scanner stood', 'in.xyz', 'in.xyz=0,0,0', 'out.ply')
-        refuses('scan', 'a=b is no option', 'a=b', 'out.ply')
+        refuses('scan', 'a=b is not an option', 'a=b', 'out.ply')
         refuses('scan', 'index= does not go with files of stations', 'in.xyz=0,0,0', 'out.ply', 'index=a')
         refuses('scan', 'far= goes with normals=yes', 'in.xyz', 'out.ply', 'far=1')
         write('in.ply', binary('<', '\n', [(1, 2, 3, 4)]))

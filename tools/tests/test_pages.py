@@ -66,7 +66,7 @@ class Faults(InFolder):
         equal(pages.written(self.page, pages.Programs('', '', '')), PAGE.partition('`recon-scan')[0])
 
     def test_a_status_is_0_or_the_one_shown(self) -> None:
-        equal(self.came_of(PAGE)[0], ['page.md line 22: recon-scan a.ply b.ply\n  ends with 1 and not with 0\n  prints recon-scan: refused: '
+        equal(self.came_of(PAGE)[0], ['page.md line 22: recon-scan a.ply b.ply\n  ends with 1 and not with 0\n  prints recon-scan: error: '
                                       'No such file or directory: a.ply'])
         block = '```console\n$ echo refused 7; exit {}\nrefused 7\n```\n'
         equal([len(self.came_of(block.format(status))[0]) for status in (3, 0, 1)], [0, 1, 1])

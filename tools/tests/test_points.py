@@ -97,7 +97,7 @@ class Points(InFolder):
         write('table', '0 0 0\n')
         refuses('scan', 'positions= is one too many', 'in.ply', 'out.ply', 'positions=table')
         write('in.ply', read('in.ply').replace('500000.5 ', 'nan '))
-        refuses('scan', 'scanner row 1: nan 4000001 -1 is no place', 'in.ply', 'out.ply')
+        refuses('scan', 'scanner row 1: nan 4000001 -1 is not a position', 'in.ply', 'out.ply')
 
     def test_names_that_no_reader_takes_are_made_plain(self) -> None:
         names = ('x', 'y', 'z', 'H\u00f6he', 'twice', 'twice', 'scanner', 'scalar_s')
@@ -109,7 +109,7 @@ class Points(InFolder):
 
     def test_headers_that_are_refused(self) -> None:
         whole = head(1, 'float x, float y, float z') + '1 2 3\n'
-        for old, new, part in (('ply\n', 'plt\n', 'is no PLY'), ('format ascii 1.0', 'format ascii 2.0', 'line 2'),
+        for old, new, part in (('ply\n', 'plt\n', 'is not a PLY'), ('format ascii 1.0', 'format ascii 2.0', 'line 2'),
                                ('format ascii 1.0\n', '', 'line 2'), ('float y', 'half y', 'line 5'),
                                ('vertex 1', 'vertex one', 'line 3'),
                                ('element vertex 1', 'element vertex 4294967296', 'line 3'), ('float y', 'list float int y', 'line 5'),
@@ -118,8 +118,8 @@ class Points(InFolder):
                                ('end_header', 'comment\n' * 1000 + 'end_header', 'over 1000 lines')):
             write('in.ply', whole.replace(old, new, 1))
             refuses('scan', part, 'in.ply', 'out.ply')
-        for old, new, part in (('1 2 3', '1 two 3', 'vertex row 0: two is no number'), ('3\n', '3\n4\n', 'after the last row'),
-                               ('1 2 3', '1 \xe9 3', 'no text')):
+        for old, new, part in (('1 2 3', '1 two 3', 'vertex row 0: two is not a number'), ('3\n', '3\n4\n', 'after the last row'),
+                               ('1 2 3', '1 \xe9 3', 'not text')):
             write('in.ply', whole.replace(old, new, 1).encode('latin-1'))
             refuses('scan', part, 'in.ply', 'out.ply')
 
@@ -134,7 +134,7 @@ class Points(InFolder):
               + '9' * 9000 + ' 1\n')
         refuses('scan', 'row 0 of face has the count 9999', 'in.ply', 'out.ply')
         write('in.ply', head(1, SCAN, 1) + '1 2 3 ' + '9' * 9000 + '\n0 0 9\n')
-        refuses('scan', 'no number of a scanner', 'in.ply', 'out.ply')
+        refuses('scan', 'not a number of a scanner', 'in.ply', 'out.ply')
 
     def test_what_follows_the_last_row_is_refused(self) -> None:
         write('in.ply', binary('<', '\n', POINTS[:1], extra=b'x'))

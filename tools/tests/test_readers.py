@@ -116,7 +116,7 @@ class Viewpoints(InFolder):
         says('scan', 'read 1 point of b.pcd; left out nothing; wrote 1 point and 1 scanner to out.ply', 'b.pcd=7,7,7', 'out.ply')
         holds('out.ply', head(1, 'double x, double y, double z, int scanner', 1) + '5 5 5 0\n7 7 7\n')
         write('a.pcd', viewed('ascii').replace(b'\n1 2 ', b'\nx 2 '))
-        refuses('scan', 'a.pcd: vertex row 0: x is no number', 'a.pcd', 'c.pcd', 'out.ply')
+        refuses('scan', 'a.pcd: vertex row 0: x is not a number', 'a.pcd', 'c.pcd', 'out.ply')
 
     def test_too_many_places(self) -> None:
         write('in.pcd', viewed('binary', [(k, 0, 0, k, 0, 0, 0) for k in range(65537)]))
@@ -217,7 +217,7 @@ class Packages(InFolder):
         equal((call('scan', 'in.las=1,1,1', 'a.ply')[0], call('scan', 'in.laz=1,1,1', 'b.ply')[0]), (0, 0))
         equal((read('a.ply') == read('b.ply'), read('b.ply').count('\n')), (True, 19))
         write('in.laz', self.packed[:-20])
-        refuses('scan', 'cut: the LAZ ends in point 4 of 5', 'in.laz=1,1,1', 'out.ply')
+        refuses('scan', 'truncated: the LAZ ends in point 4 of 5', 'in.laz=1,1,1', 'out.ply')
         write('in.laz', self.packed[:-3])
         refuses('scan', 'laspy cannot unpack the LAZ', 'in.laz=1,1,1', 'out.ply')
         write('in.laz', self.packed[:227] + b'bad')

@@ -89,7 +89,7 @@ class Stations(InFolder):
     def test_ptx_files_that_are_refused(self) -> None:
         for old, new, part in (('1\n1\n0 0 5', '1\n0 0 5', 'line 16 is not the number'), ('1\n1\n0 0 5', 'x\n1\n0 0 5', 'line 15 is not'),
                                ('1 2 3\n', '1 2\n', 'line 3'),
-                               ('0 1 0 0', '0 1 0 1', 'last column'), ('0.5 0.25 0.125', '0.5 a 0.125', 'line 11: a is no number'),
+                               ('0 1 0 0', '0 1 0 1', 'last column'), ('0.5 0.25 0.125', '0.5 a 0.125', 'line 11: a is not a number'),
                                ('0.5 0.25 0.125 0.5 255 0 0', '0.5', 'line 11')):
             write('in.ptx', PTX.replace(old, new, 1))
             refuses('scan', part, 'in.ptx', 'out.ply')
@@ -115,9 +115,9 @@ class Stations(InFolder):
     def test_files_of_stations_that_are_refused(self) -> None:
         for text, part in (('1 2\n', 'line 1 has 2 values, and a point has three'),
                            ('1 2 3\n4 5\n', 'line 2 has 2 values where the first row has 3'), ('1 2 3\n4 5 6 7\n', 'line 2 has 4'),
-                           ('1 2 3\nx y z\n', 'line 2: x is no number'), ('1;2,5;3\n', '2,5 is no number'),
+                           ('1 2 3\nx y z\n', 'line 2: x is not a number'), ('1;2,5;3\n', '2,5 is not a number'),
                            ('2\n1 2 3\n', 'row 1 of 2'), ('1\n1 2 3\n4 5 6\n', 'line 3'), ('2\n2\n0 0 0\n', 'this is a PTX'),
-                           ('x y z\na b c\n', 'line 2: a is no number'), ('1 2 3\n' + '4' * 5000, 'too long')):
+                           ('x y z\na b c\n', 'line 2: a is not a number'), ('1 2 3\n' + '4' * 5000, 'too long')):
             write('a.xyz', text)
             refuses('scan', 'a.xyz: ', 'a.xyz=0,0,0', 'out.ply')
             refuses('scan', part, 'a.xyz=0,0,0', 'out.ply')

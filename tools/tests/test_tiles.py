@@ -89,7 +89,7 @@ def listed(folder: str, tile: dict[Any, Any]) -> list[Any]:
 def refuses_split(part: str, *words: str) -> None:
     """The split is refused with a line that has this part, and no folder is left."""
     status, said, error = call('tiles', 'split', *words)
-    equal((status, said, part in error or error, error.startswith('recon-tiles: refused: ')), (1, '', True, True))
+    equal((status, said, part in error or error, error.startswith('recon-tiles: error: ')), (1, '', True, True))
     equal((os.path.exists('none'), os.path.exists('none.part')), (False, False))
 
 
@@ -344,12 +344,12 @@ class Tiles(InFolder):
         refuses_split('points= is a whole number', 'in.ply', 'none', 'points=2000000')
         refuses_split('overlap= is a number', 'in.ply', 'none', 'overlap=-1')
         refuses_split('say the same thing', 'in.ply', 'none', 'overlap=1', 'spacings=1')
-        refuses_split('report= is no option of split', 'in.ply', 'none', 'report=a')
+        refuses_split('report= is not an option of split', 'in.ply', 'none', 'report=a')
         refuses_split('beyond 2097151', 'in.ply', 'none', 'unit=10000')
         refuses_split('no box parts them', 'in.ply', 'none', 'points=40', 'overlap=900')
         refuses_split('No such file', 'missing.ply', 'none')
         write('cut.ply', read('in.ply')[:-9])
-        refuses_split('cut', 'cut.ply', 'none')
+        refuses_split('truncated', 'cut.ply', 'none')
         write('bare.ply', head(1, 'double x, double y, double z') + '1 2 3\n')
         refuses_split('names no scanners', 'bare.ply', 'none')
         write('in.txt', '1 2 3\n')
@@ -451,7 +451,7 @@ class Tiles(InFolder):
         prepared()
         refuses('tiles', 'not done yet: 000', 'join', 'tiles', 'out.ply')
         equal(shell('make -s')[0], 0)
-        refuses('tiles', 'unit= is no option of join', 'join', 'tiles', 'out.ply', 'unit=1')
+        refuses('tiles', 'unit= is not an option of join', 'join', 'tiles', 'out.ply', 'unit=1')
         refuses('tiles', 'No such file', 'join', 'none', 'out.ply')
         mesh = read('tiles/001.mesh.ply')
         for spoiled in (mesh[:-1], mesh[:-8], mesh + '3 0 1 2\n', '\n4'.join(mesh.rsplit('\n3', 1)), mesh + 'x',

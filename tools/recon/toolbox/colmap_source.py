@@ -66,14 +66,14 @@ def binary_pictures(file: BinaryIO) -> Iterator[Picture]:
             while not name.endswith(b'\0'):
                 byte = file.read(1)
                 if not byte or len(name) > LONGEST:
-                    raise Refusal('cut: the images end in the name of a picture')
+                    raise Refusal('truncated: the images end in the name of a picture')
                 name += byte
             count, = struct.unpack('<Q', file.read(8))
             if file.tell() + 24 * count > length:
-                raise Refusal(f'cut: the images end in the points of picture {row}')
+                raise Refusal(f'truncated: the images end in the points of picture {row}')
             file.seek(24 * count, os.SEEK_CUR)
     except struct.error:
-        raise Refusal(f'cut: the images end in picture {row}') from None
+        raise Refusal(f'truncated: the images end in picture {row}') from None
 
 
 def read_pictures(path: str) -> list[Picture]:
@@ -95,7 +95,7 @@ def seen_by(file: BinaryIO, count: int, limit: int) -> Iterator[tuple[int, ...]]
         size = struct.unpack('<I', head)[0] if len(head) == 4 else 0
         data = file.read(4 * size) if size <= SCANNER_LIMIT else b''
         if len(head) < 4 or len(data) < 4 * size:
-            raise Refusal(f'cut: fused.ply.vis ends in point {row} of {count}')
+            raise Refusal(f'truncated: fused.ply.vis ends in point {row} of {count}')
         numbers = struct.unpack(f'<{size}I', data)
         if any(number >= limit for number in numbers):
             raise Refusal(f'point {row} is seen by picture {max(numbers)}, and there are {limit}: are these its images?')
@@ -112,7 +112,7 @@ class Colmap(Source):
         self.reader, self.path = Reader(path, yes(options.open_end, 'open_end')), path
         vertex = self.reader.element('vertex')
         if vertex is None or self.reader.elements != [vertex] or vertex.has_lists():
-            raise Refusal(f'{path} is no fused.ply')
+            raise Refusal(f'{path} is not a fused.ply')
         self.vertex = vertex
         super().__init__(self.vertex.properties + [Property('scanner', 'ushort', 'ushort')], path)
         self.point, self.scanner, self.count = self.vertex.point_columns(), len(self.vertex.properties), self.vertex.count
@@ -164,10 +164,10 @@ def binary_tracks(file: BinaryIO) -> Iterator[Track]:
         for row in range(struct.unpack('<Q', file.read(8))[0]):
             _, x, y, z, red, green, blue, _, count = struct.unpack('<Q3d3BdQ', file.read(51))
             if count > TRACK_LIMIT or file.tell() + 8 * count > length:
-                raise Refusal(f'cut: the points end in the track of point {row}')
+                raise Refusal(f'truncated: the points end in the track of point {row}')
             yield list(map(repr, (x, y, z, red, green, blue))), list(struct.unpack(f'<{2 * count}I', file.read(8 * count))[::2])
     except struct.error:
-        raise Refusal(f'cut: the points end in point {row}') from None
+        raise Refusal(f'truncated: the points end in point {row}') from None
     if file.read(1):
         raise Refusal('after the last point something follows')
 

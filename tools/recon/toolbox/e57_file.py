@@ -119,16 +119,16 @@ class E57Reader(FileReader):
     def begin(self) -> None:
         head = self.file.read(48)
         if len(head) < 48:
-            raise Refusal('cut: the file ends in the header of an E57')
+            raise Refusal('truncated: the file ends in the header of an E57')
         length, offset, xml_length, self.page = struct.unpack_from('<4Q', head, 16)
         if not 64 <= self.page <= 1 << 20 or xml_length > XML_LIMIT:
-            raise Refusal('the header of the E57 is not understood')
+            raise Refusal('the header of the E57 is invalid')
         if self.file.seek(0, 2) < max(length, xml_length):
-            raise Refusal(f'cut: the header of the E57 says {max(length, xml_length)} bytes, and there are fewer')
+            raise Refusal(f'truncated: the header of the E57 states {max(length, xml_length)} bytes, and there are fewer')
         try:
             self.stations = self.stations_of(self.read(self.logical(offset), xml_length))
         except (ElementTree.ParseError, AttributeError, TypeError, ValueError) as error:
-            raise Refusal(f'the description in the E57 is not understood: {error}') from None
+            raise Refusal(f'the description in the E57 is invalid: {error}') from None
         if len(self.stations) > SCANNER_LIMIT:
             raise Refusal(f'there are over {SCANNER_LIMIT} stations')
         more = [name for name in MORE if self.stations and all(name in station.names for station in self.stations)]
@@ -160,7 +160,7 @@ class E57Reader(FileReader):
         data = self.file.read((start + count + whole - 1) // whole * self.page - first * self.page)
         plain = b''.join(data[at:at + whole] for at in range(0, len(data), self.page))[start - first * whole:][:count]
         if len(plain) < count:
-            raise Refusal('cut: the file ends within the data of an E57')
+            raise Refusal('truncated: the file ends within the data of an E57')
         return plain
 
     def rows(self, element: Element) -> Iterator[list[str]]:
@@ -188,7 +188,7 @@ class E57Reader(FileReader):
                     yield [*point, *(repr(row[k]) for k in more), number]
             done += ready
         if done < station.count:
-            raise Refusal(f'cut: station {number} has {done} of its {station.count} points')
+            raise Refusal(f'truncated: station {number} has {done} of its {station.count} points')
 
     def packets(self, station: Station) -> Iterator[list[bytes]]:
         """Yields the bytes of each column in each packet of a station."""

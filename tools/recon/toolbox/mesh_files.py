@@ -24,7 +24,7 @@ HEAD = re.compile(rb'ply\nformat ascii 1\.0\n(?:comment(?: [^\n]{0,998})?\n){0,1
                   rb'element vertex ([0-9]{1,10})\nproperty int x\nproperty int y\nproperty int z\n'
                   rb'element face ([0-9]{1,10})\nproperty list uchar int vertex_indices\nend_header\n')
 WHOLE = ('char', 'uchar', 'short', 'ushort', 'int', 'uint', 'int8', 'uint8', 'int16', 'uint16', 'int32', 'uint32')
-NOT_OURS = 'this is no mesh as `recon build` wrote it: '
+NOT_OURS = 'this is not a mesh as `recon build` wrote it: '
 LIMIT = 2097151
 COLORS = ('red', 'green', 'blue')
 LINES = 10_000
@@ -45,7 +45,7 @@ def read_mesh(path: str, most: int = LIMIT) -> tuple[np.ndarray, np.ndarray]:
     places, rows = values[:3 * count].reshape(-1, 3), values[3 * count:].reshape(-1, 4)
     corners = rows[:, 1:].ravel()
     if (rows[:, 0] != 3).any() or corners.min(initial=0) < 0 or corners.max(initial=-1) >= count:
-        refuse('a face is no triangle of its vertices')
+        refuse('a face is not a triangle of its vertices')
     if places.min(initial=0) < -most or places.max(initial=0) > most:
         refuse(f'a coordinate is over {most:,}')
     return places, corners
@@ -68,12 +68,12 @@ def numbers_of(data: bytes, begin: int, count: int) -> np.ndarray:
 def other_numbers(data: bytes) -> np.ndarray:
     """The same of a text whose words are long, or no whole numbers."""
     if data.translate(None, b'-0123456789 \n') or data and not data.endswith(b'\n'):
-        refuse('it is cut or has words that are no whole numbers')
+        refuse('it is truncated or has words that are not whole numbers')
     # a sign at the start is after the last letter, which is an end of a line
     letters = np.frombuffer(data, np.uint8)
     signs = np.flatnonzero(letters == ord('-'))
     if (letters[signs - 1] > ord(' ')).any() or (letters[signs + 1] < ord('0')).any():
-        refuse('a word is no whole number')
+        refuse('a word is not a whole number')
     with warnings.catch_warnings():
         warnings.simplefilter('ignore')
         return np.zeros(0, np.int64) if not data or data.isspace() else np.fromstring(data, np.int64, sep=' ')

@@ -89,7 +89,7 @@ def numbers_of(row: int, words: Sequence[str]) -> list[float] | None:
         if not IS_NUMBER(word):
             if IS_NOT_FINITE(word):
                 return None
-            raise Refusal(f'point {row}: {word[:40]} is no number')
+            raise Refusal(f'point {row}: {word[:40]} is not a number')
     values = list(map(float, words))
     return values if all(map(isfinite, values)) else None
 

@@ -27,7 +27,7 @@ class PlainPly(NamedTuple):
 
 
 def numbers_in(body: bytes) -> np.ndarray | None:
-    """Returns the numbers of a text as floating point, or None if a word of it is no finite number. Whole numbers are read as such first, which takes
+    """Returns the numbers of a text as floating point, or None if a word of it is not a finite number. Whole numbers are read as such first, which takes
     a fraction of the time."""
     whole = whole_numbers(body, blanks=BLANKS)
     if whole is not None:
@@ -43,7 +43,7 @@ def numbers_in(body: bytes) -> np.ndarray | None:
 
 
 def plain_ply(path: str) -> PlainPly | None:
-    """Reads a PLY whose first element is `vertex`, followed by `scanner` or nothing, of properties that are no lists."""
+    """Reads a PLY whose first element is `vertex`, followed by `scanner` or nothing, of properties that are not lists."""
     with open(path, 'rb') as file:
         try:
             kind, elements = read_head(file)

@@ -111,7 +111,7 @@ def head_lines(file: BinaryIO) -> Iterator[tuple[int, list[str]]]:
         if not line.endswith(b'\n'):
             if len(line) == LINE_LIMIT + 2:
                 raise Refusal(f'line {number} of the header is too long' if number > 1 else 'not a PLY file')
-            raise Refusal('not a PLY file' if number == 1 else f'cut: the file ends in line {number} of the header')
+            raise Refusal('not a PLY file' if number == 1 else f'truncated: the file ends in line {number} of the header')
         try:
             words = line.decode('utf-8').split()
         except UnicodeDecodeError:
@@ -127,7 +127,7 @@ def read_head(file: BinaryIO) -> tuple[str, list[Element]]:
     kind = None
     elements: list[Element] = []
     for number, words in head_lines(file):
-        bad = Refusal(f'line {number} of the header is not understood: {" ".join(words)[:80]}')
+        bad = Refusal(f'line {number} of the header is invalid: {" ".join(words)[:80]}')
         if number == 1:
             if words != ['ply']:
                 raise Refusal('not a PLY file')
@@ -172,14 +172,14 @@ class TextBody:
         data = self.tail + chunk
         cut = max(data.rfind(b'\n'), data.rfind(b' ')) + 1 if chunk else len(data)
         if not chunk and not self.open_end and not data.endswith(b'\n'):
-            raise Refusal('cut: the last line has no end (open_end=yes takes it as it is)')
+            raise Refusal('truncated: the last line has no newline (open_end=yes accepts it)')
         self.tail = data[cut:]
         if len(self.tail) > CHUNK:
-            raise Refusal('the body is no text')
+            raise Refusal('the body is not text')
         try:
             self.words = self.words[self.at:] + data[:cut].decode('ascii').split()
         except UnicodeDecodeError:
-            raise Refusal('the body has bytes that are no text') from None
+            raise Refusal('the body has bytes that are not text') from None
         self.at = 0
         return True
 
@@ -187,7 +187,7 @@ class TextBody:
         """Sees to it that this many words are there."""
         while len(self.words) - self.at < count:
             if not self.fill():
-                raise Refusal(f'cut: the file ends in row {row} of the {element.count} of {element.name}')
+                raise Refusal(f'truncated: the file ends in row {row} of the {element.count} of {element.name}')
 
     def rows(self, element: Element) -> Iterator[list[str]]:
         if element.has_lists():
@@ -246,7 +246,7 @@ class BinaryBody:
             data = self.file.read(taken * row_struct.size)
             if len(data) < taken * row_struct.size:
                 row += len(data) // row_struct.size
-                raise Refusal(f'cut: the file ends in row {row} of the {element.count} of {element.name}')
+                raise Refusal(f'truncated: the file ends in row {row} of the {element.count} of {element.name}')
             for values in row_struct.iter_unpack(data):
                 yield list(map(repr, values))
             row += taken
@@ -266,7 +266,7 @@ class BinaryBody:
         size = count * struct.calcsize(self.order + FORMATS[kind])
         data = self.file.read(size) if size <= self.length else b''
         if len(data) < size:
-            raise Refusal(f'cut: the file ends in row {row} of the {element.count} of {element.name}')
+            raise Refusal(f'truncated: the file ends in row {row} of the {element.count} of {element.name}')
         return list(map(repr, struct.unpack(f'{self.order}{count}{FORMATS[kind]}', data)))
 
     def finish(self) -> None:
@@ -299,7 +299,7 @@ class Reader:
                 return
             size = struct.calcsize(order + element.row_format())
             if size * element.count > left:
-                raise Refusal(f'cut: the file ends in row {left // size} of the {element.count} of {element.name}')
+                raise Refusal(f'truncated: the file ends in row {left // size} of the {element.count} of {element.name}')
             left -= size * element.count
         if left:
             raise Refusal('after the last row something follows')
@@ -390,12 +390,12 @@ class Writer:
 
 
 def decimals(x: str, y: str, z: str, place: Callable[[], str]) -> bool:
-    """True where the three words are a point, False where one of them is no finite number; refused where it is no number."""
+    """True where the three words are a point, False where one of them is not a finite number; refused where it is not a number."""
     if ARE_THREE(f'{x} {y} {z}'):
         return True
     for word in (x, y, z):
         if not IS_NUMBER(word) and not IS_NOT_FINITE(word):
-            raise Refusal(f'{place()}: {word[:40]} is no number')
+            raise Refusal(f'{place()}: {word[:40]} is not a number')
     return False
 
 
@@ -406,7 +406,7 @@ def index_text(word: str, place: Callable[[], str]) -> str | None:
     if IS_NOT_FINITE(word):
         return None
     if not IS_NUMBER(word) or abs(float(word)) > ROW_LIMIT or float(word) != int(float(word)):
-        raise Refusal(f'{place()}: {word[:40]} is no number of a scanner')
+        raise Refusal(f'{place()}: {word[:40]} is not a number of a scanner')
     return str(int(float(word)))
 
 

@@ -86,7 +86,7 @@ class FileReader:
         """Yields the rows of a binary body."""
         left, done = self.left(), 0
         if left < row.size * count:
-            raise Refusal(f'cut: the file ends in point {left // row.size} of {count}')
+            raise Refusal(f'truncated: the file ends in point {left // row.size} of {count}')
         while done < count:
             taken = min(max(1, CHUNK // row.size), count - done)
             yield from row.iter_unpack(self.file.read(taken * row.size))
@@ -140,7 +140,7 @@ class PcdReader(FileReader):
             if self.head_lines > LINE_LIMIT or len(line) == PCD_LINE:
                 raise Refusal('the header of the PCD is too long')
             if not line.endswith(b'\n'):
-                raise Refusal('cut: the file ends in the header of a PCD')
+                raise Refusal('truncated: the file ends in the header of a PCD')
             words = line.decode('latin-1').split()
             if words and not words[0].startswith('#'):
                 head[words[0]] = words[1:]
@@ -150,7 +150,7 @@ class PcdReader(FileReader):
         words = self.head[key]
         count = count_in(words[0], ROW_LIMIT) if len(words) == 1 else None
         if count is None:
-            raise Refusal(f'the line {key} of the PCD is no count')
+            raise Refusal(f'the line {key} of the PCD is not a count')
         return count
 
     def columns(self) -> tuple[list[tuple[str, str]], list[Property]]:
@@ -207,7 +207,7 @@ class PcdReader(FileReader):
         try:
             bits = struct.unpack('<I', struct.pack('<f', float(word)))[0] if kind == 'float' else int(word) & 0xFFFFFFFF
         except (ValueError, OverflowError):
-            raise Refusal(f'{word[:40]} is no color of a PCD') from None
+            raise Refusal(f'{word[:40]} is not a color of a PCD') from None
         return [str(bits >> shift & 255) for shift in (16, 8, 0)]
 
     def binary_rows(self, count: int) -> Iterator[list[str]]:
@@ -223,7 +223,7 @@ class PcdReader(FileReader):
         if size != count * struct.calcsize('<' + ''.join(codes)):
             raise Refusal(f'the compressed body of the PCD has not the bytes of {count} points')
         if packed > self.left() or size > LZF_GROWTH * packed:
-            raise Refusal('cut: the file ends in the compressed body of a PCD')
+            raise Refusal('truncated: the file ends in the compressed body of a PCD')
         data, columns, at = unpacked(self.file.read(packed), size), [], 0
         for code in codes:
             columns.append(np.frombuffer(data, '<' + code, count, at))
@@ -242,9 +242,9 @@ class PcdReader(FileReader):
             for row in range(count):
                 words = lines.next_words()
                 if words is None:
-                    raise Refusal(f'cut: the file ends in point {row} of {count}')
+                    raise Refusal(f'truncated: the file ends in point {row} of {count}')
                 if not all(map(str.isascii, words)):
-                    raise Refusal(f'point {row} has bytes that are no text')
+                    raise Refusal(f'point {row} has bytes that are not text')
                 if len(words) != len(self.kinds):
                     raise Refusal(f'point {row} has {len(words)} values where the header has {len(self.kinds)}')
                 yield words
@@ -272,7 +272,7 @@ def unpacked(data: bytes, size: int) -> bytearray:
             out += (start * ((length + 2) // len(start) + 1))[:length + 2]
             at += 1
     except (IndexError, ZeroDivisionError):
-        raise Refusal('the compressed body of the PCD is not understood') from None
+        raise Refusal('the compressed body of the PCD is invalid') from None
     if len(out) != size:
         raise Refusal('the compressed body of the PCD has another length than it says')
     return out
@@ -305,7 +305,7 @@ class LasReader(FileReader):
     def begin(self) -> None:
         head = self.file.read(375)
         if len(head) < 227:
-            raise Refusal('cut: the file ends in the header of a LAS')
+            raise Refusal('truncated: the file ends in the header of a LAS')
         offset, = struct.unpack_from('<I', head, 96)
         kind, size, count = struct.unpack_from('<BHI', head, 104)
         if head[25] >= 4 and len(head) >= 255:
@@ -353,4 +353,4 @@ class LasReader(FileReader):
         except Exception as error:
             raise Refusal(f'laspy cannot unpack the LAZ: {" ".join(str(error).split())[:200]}') from None
         if done < count:
-            raise Refusal(f'cut: the LAZ ends in point {done} of {count}')
+            raise Refusal(f'truncated: the LAZ ends in point {done} of {count}')

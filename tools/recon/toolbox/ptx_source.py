@@ -41,7 +41,7 @@ class Station:
 
 def read_count(lines: Lines, words: Sequence[str] | None) -> int:
     if words is None:
-        raise Refusal(f'cut: the file ends within the header of a station, after line {lines.number}')
+        raise Refusal(f'truncated: the file ends within the header of a station, after line {lines.number}')
     if len(words) != 1 or not words[0].isdecimal():
         raise Refusal(f'line {lines.number} is not the number of columns or rows of a station')
     return int(words[0])
@@ -50,7 +50,7 @@ def read_count(lines: Lines, words: Sequence[str] | None) -> int:
 def read_numbers(lines: Lines, width: int) -> list[str]:
     words = lines.next_words()
     if words is None:
-        raise Refusal(f'cut: the file ends within the header of a station, after line {lines.number}')
+        raise Refusal(f'truncated: the file ends within the header of a station, after line {lines.number}')
     if len(words) != width or not all(map(IS_NUMBER, words)):
         raise Refusal(f'line {lines.number} is not {width} numbers')
     return words
@@ -95,7 +95,7 @@ class Ptx(Source):
         for row in range(station.count):
             words = lines.next_words()
             if words is None:
-                raise Refusal(f'cut: the file ends in row {row} of the {station.count} of station {index}')
+                raise Refusal(f'truncated: the file ends in row {row} of the {station.count} of station {index}')
             if len(words) < 3:
                 raise Refusal(f'line {lines.number} is not a row X Y Z ...')
             point = words[:3]

@@ -76,10 +76,10 @@ class OfReader(Source):
         raise NotImplementedError
 
     def refuse_weight(self, word: str, place: Callable[[], str]) -> None:
-        """Refuses a weight that is no whole number. Those that occurred before are known."""
+        """Refuses a weight that is not a whole number. Those that occurred before are known."""
         if word not in self.weights:
             if not IS_WHOLE(word):
-                raise Refusal(f'{place()}: the weight {word[:40]} is no {"whole " if IS_NUMBER(word) else ""}number')
+                raise Refusal(f'{place()}: the weight {word[:40]} is not a {"whole " if IS_NUMBER(word) else ""}number')
             if len(self.weights) < MOST_WEIGHTS:
                 self.weights.add(word)
 
@@ -89,12 +89,12 @@ class OfReader(Source):
         for row, words in enumerate(self.reader.rows(self.scanners)):
             position = [words[x], words[y], words[z]]
             if not ARE_THREE(' '.join(position)):
-                raise Refusal(f'scanner row {row}: {" ".join(position)[:80]} is no place')
+                raise Refusal(f'scanner row {row}: {" ".join(position)[:80]} is not a position')
             self.positions.append(position)
 
 
 class Rows(OfReader):
-    """Points whose properties are no lists. All are kept."""
+    """Points whose properties are not lists. All are kept."""
 
     def __init__(self, reader: Any, path: str, options: Any) -> None:
         refuse_others(options, ('index', 'positions', 'open_end'), 'a file of rows')

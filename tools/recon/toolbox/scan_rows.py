@@ -21,7 +21,7 @@ def scaled(word: str, unit: int) -> int:
     plain = PLAIN(word)
     if plain is None or len(word) > LONG:
         if not IS_NUMBER(word):
-            raise Refusal(f'{word[:40]} is no number')
+            raise Refusal(f'{word[:40]} is not a number')
         product = Decimal(word) * unit
         return OUTSIDE if product.adjusted() > LONG else int(product.to_integral_value(ROUND_HALF_UP))
     sign, before, behind = plain.groups()
@@ -37,11 +37,11 @@ def value_of(word: str, name: str, kind: str) -> float:
         struct.pack('<' + FORMATS[kind], value)
         return value
     except (ValueError, OverflowError, struct.error):
-        raise Refusal(f'{name[:40]} is {word[:40]} in a row of the scan, which is no {kind}') from None
+        raise Refusal(f'{name[:40]} is {word[:40]} in a row of the scan, which is not a {kind}') from None
 
 
 def columns_of(path: str, unit: int, array: np.ndarray) -> list[Column]:
-    """Returns the columns of a scan beside x, y and z that are no lists, each as a name, a type and the values at these places: those of
+    """Returns the columns of a scan beside x, y and z that are not lists, each as a name, a type and the values at these places: those of
     the first row at each. Refused where a place is that of no row."""
     places: list[tuple[int, int, int]] = [(x, y, z) for x, y, z in array.tolist()]
     reader = Reader(path, True)
@@ -56,7 +56,7 @@ def columns_of(path: str, unit: int, array: np.ndarray) -> list[Column]:
         reader.close()
     missing = sum(rows[place] is None for place in places)
     if missing:
-        raise Refusal(f'{missing} of {len(places)} vertices are no points of {path} at unit={unit}: is it the scan of this '
+        raise Refusal(f'{missing} of {len(places)} vertices are not points of {path} at unit={unit}: is it the scan of this '
                       'mesh?')
     columns = [(p.name, p.kind) for p in plain_names([vertex.properties[k] for k in kept])]
     return [(name, kind, np.array([value_of(rows[place][at], name, kind) for place in places], float if kind not in WHOLE else np.int64))

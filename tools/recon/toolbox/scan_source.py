@@ -69,7 +69,7 @@ def one_file(path: str, options: Any) -> Source:
         raise Refusal('the file is empty')
     if is_ptx(path):
         return Ptx(path, options)
-    raise Refusal(f'{path} is no PLY, PCD, LAS, E57 or PTX; a list of numbers is named with the place that its points were seen '
+    raise Refusal(f'{path} is not a PLY, PCD, LAS, E57 or PTX; a list of numbers is named with the place that its points were seen '
                   f'from: {path}=X,Y,Z')
 
 

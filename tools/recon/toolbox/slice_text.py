@@ -19,7 +19,7 @@ def wanted(lines: Lines, form: Any, what: str) -> re.Match:
     """Returns the parts of the next line, which is of this form."""
     line = lines.next_line()
     if line is None:
-        raise Refusal(f'cut: {what} is missing behind line {lines.number}')
+        raise Refusal(f'truncated: {what} is missing after line {lines.number}')
     found = form(line)
     if not found:
         raise Refusal(f'line {lines.number} is not {what}')
@@ -38,7 +38,7 @@ def read_loops(path: str) -> Iterator[list[tuple[str, ...]]]:
             steps = range(count_of(lines, 'loop'))
             yield [wanted(lines, ARE_FOUR, '`A X Y D`').groups() for _ in steps]
         if lines.next_line() is not None:
-            raise Refusal(f'line {lines.number} stands behind the last loop')
+            raise Refusal(f'line {lines.number} follows the last loop')
     finally:
         lines.close()
 

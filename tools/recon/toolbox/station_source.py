@@ -55,7 +55,7 @@ def pts_points(lines: Lines) -> Iterator[Point]:
         for row in range(count):
             words = lines.next_words()
             if words is None:
-                raise Refusal(f'cut: the file ends in row {row} of {count}')
+                raise Refusal(f'truncated: the file ends in row {row} of {count}')
             if row == 0 and is_count(words):
                 raise Refusal('this is a PTX, which says itself where its stations stood: name it alone, without a position')
             if len(words) < 3:
@@ -113,7 +113,7 @@ def station_of(name: str) -> Station:
     path, equals, position = name.rpartition('=')
     if equals and path and not os.path.exists(name):
         if ',' not in position and not os.path.exists(path):
-            raise Refusal(f'{name} is no option, and no file with its position, FILE=X,Y,Z')
+            raise Refusal(f'{name} is not an option, and no file with its position, FILE=X,Y,Z')
         return path, three(position, f'the position of {path}')
     if not has_rows(name):
         raise Refusal(f'{name} does not say where its scanner stood: {name}=X,Y,Z does')

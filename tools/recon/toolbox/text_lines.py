@@ -21,7 +21,7 @@ class Lines:
         for magic, kind in OTHER_KINDS.items():
             if start.startswith(magic):
                 self.file.close()
-                raise Refusal(f'this is no text of numbers but {kind}')
+                raise Refusal(f'this is not a text of numbers but {kind}')
 
     def next_line(self) -> str | None:
         """Returns the next line without its end, or None at the end of the file."""
@@ -33,7 +33,7 @@ class Lines:
             if len(line) == LONGEST:
                 raise Refusal(f'line {self.number} is too long for a list of numbers')
             if not self.open_end:
-                raise Refusal(f'cut: line {self.number}, the last one, has no end (open_end=yes takes it as it is)')
+                raise Refusal(f'truncated: line {self.number}, the last one, has no newline (open_end=yes accepts it)')
         if self.number == 1:
             line = line[3:] if line.startswith(b'\xef\xbb\xbf') else line
         return line.decode('latin-1').rstrip('\r\n')

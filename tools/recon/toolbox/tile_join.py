@@ -142,12 +142,12 @@ def read_mesh(path: str) -> Mesh:
             vertex, face = elements
             numbers = whole_numbers(file)
         except (ValueError, OverflowError):
-            raise Refusal(f'{path} is no mesh of recon, or cut') from None
+            raise Refusal(f'{path} is not a mesh of recon, or is truncated') from None
     points, corners = numbers[:3 * vertex.count], numbers[3 * vertex.count:]
     if kind != 'ascii' or len(corners) != 4 * face.count or corners[0::4].count(3) != face.count:
-        raise Refusal(f'{path} is no mesh of recon, or cut')
+        raise Refusal(f'{path} is not a mesh of recon, or is truncated')
     if len(corners) and not 0 <= min(corners) <= max(max(corners[k::4]) for k in (1, 2, 3)) < vertex.count:
-        raise Refusal(f'{path} is no mesh of recon')
+        raise Refusal(f'{path} is not a mesh of recon')
     return Mesh(points, corners)
 
 

@@ -104,18 +104,18 @@ def run(work: Callable[..., Any], doc: str, name_count: int | None, keys: tuple[
         print(f'{name}: {report}', flush=True)
         sys.exit(3 if isinstance(report, Report) and report.is_empty else 0)
     except NotUnderstood:
-        sys.exit(told(2, f'{name}: the words are not understood; {name} --help says which are'))
+        sys.exit(told(2, f'{name}: invalid arguments: see {name} --help'))
     except Refusal as refusal:
-        sys.exit(told(1, f'{name}: refused: {refusal}'))
+        sys.exit(told(1, f'{name}: error: {refusal}'))
     except ArithmeticError:
-        sys.exit(told(1, f'{name}: refused: a number is far out of range'))
+        sys.exit(told(1, f'{name}: error: a number is far out of range'))
     except MemoryError:
-        sys.exit(told(1, f'{name}: refused: out of memory'))
+        sys.exit(told(1, f'{name}: error: out of memory'))
     except BrokenPipeError:
         os.dup2(os.open(os.devnull, os.O_WRONLY), sys.stdout.fileno())
         sys.exit(0 if '--help' in words or '-h' in words else 1)
     except OSError as error:
-        sys.exit(told(1, f'{name}: refused: {error.strerror}: {error.filename or "writing"}'))
+        sys.exit(told(1, f'{name}: error: {error.strerror}: {error.filename or "writing"}'))
 
 
 def told(status: int, line: str) -> int:
