@@ -158,4 +158,5 @@ def main(names: Sequence[str], options: Any) -> str:
     return f'{len(scans)} scans'
 
 
-run(main, __doc__, 2, ('beside', 'sizes', 'shapes', 'scans', 'check', 'runs'))
+if __name__ == '__main__':
+    run(main, __doc__, 2, ('beside', 'sizes', 'shapes', 'scans', 'check', 'runs'))

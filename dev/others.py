@@ -1,21 +1,29 @@
 #!/usr/bin/env python3
 """Times what users would use in the place of `recon` on the same scans, and measures how far each surface is from the object.
 
-usage: dev/others.py RECON FOLDER [objects=PATH,..] [points=N] [noise=F]
+usage: dev/others.py RECON FOLDER [objects=PATH,..] [points=N] [noise=F,F,..]
 
-  RECON        the built program
+  RECON        the built program; recon-mesh is beside it
   FOLDER       where scans and meshes are kept; a scan that is there is not made again
-  objects      meshes of triangles, OFF or PLY (default: the room of dev/measure_surface.py)
+  objects      triangle meshes, OFF or PLY (default: bunny00, armadillo and refined_elephant of CGAL's package, if it is
+               installed, and the furnished room of recon-make-scan)
   points       how many points a scan has (default: 42000)
-  noise        the error along the sights, as a part of the object's diagonal (default: 0.0005)
+  noise        standard deviations of the error along the lines of sight, in diagonals of the object (default: 0.0005,0.002)
 
-CGAL makes the Delaunay tetrahedra alone, COLMAP a surface from the same lines of sight (delaunay_mesher, visibility_sigma 0.3, no thinning),
-Open3D surfaces from points with normals of 16 neighbors that are turned to the true scanner: screened Poisson at depth 9, whose hundredth
-part with the least density is cut off, and ball pivoting with radii of 2, 4 and 8 spacings. What is not installed is named and left out (Debian:
-libcgal-dev, colmap, python3-open3d). Seconds are of the processor, the peak is the largest resident memory. Distances, mean / 95 of 100 /
-greatest, open edges and the mean angle between faces in degrees are those of `dev/measure_surface.py compare`, in thousandths of the object's
-diagonal. Smoothed is in three steps, within twice the noise. Non-manifold edges and vertices and pairs of faces that cross are those of
-`recon-mesh inspect`, exact, and so only for meshes of whole numbers: those of recon. Needs numpy, and recon-mesh beside RECON.
+An object is scanned from 12 positions around it, the room from 4 positions in it, without outliers; coordinates are in thousandths of the
+object's diagonal.
+
+- recon: `build unit=1000 smooth=1`. Then `recon-mesh finish pieces=1`: edge flips; with smooth=3 and smooth=6, no vertex farther than twice the
+  noise; and flips with manifold=yes, which moves no vertex.
+- CGAL: the advancing front, with its default parameters; and its Delaunay tetrahedralization alone.
+- COLMAP: delaunay_mesher with visibility_sigma 0.3 and no thinning.
+- Open3D: normals of 16 neighbors that are turned to the true scanner; screened Poisson at depth 9, without the hundredth with the least density;
+  ball pivoting with radii of 2, 4 and 8 spacings.
+
+What is not installed is named and left out (Debian: libcgal-dev and g++, libcgal-demo for the objects, colmap, python3-open3d). Seconds are of
+the processor, the peak is the largest resident memory, both with what comes before (flips with `build`). Distances, mean / 95 of 100 / greatest,
+open edges, angles in degrees and faces are those of `dev/measure_surface.py compare`. Non-manifold edges and pairs of faces that cross are exact for
+`recon` (by `recon-mesh inspect`, with non-manifold vertices), else as `compare` counts them. Needs numpy.
 """
 from __future__ import annotations
 
@@ -24,15 +32,23 @@ import shutil
 import struct
 import subprocess
 import sys
+import tarfile
 import tempfile
-from typing import NamedTuple, Optional, Sequence
+from concurrent.futures import ThreadPoolExecutor
+from dataclasses import dataclass
+from typing import Dict, List, Optional, Sequence
 
 from report import begun
+from tools_path import PACKAGE
 
 HERE = os.path.dirname(os.path.abspath(__file__))
-TOOLS = os.path.join(os.path.dirname(HERE), 'tools')
 MEASURE = os.path.join(HERE, 'measure_surface.py')
-OPTIONS = {'objects': '', 'points': '42000', 'noise': '0.0005'}
+OPTIONS = {'objects': '', 'points': '42000', 'noise': '0.0005,0.002'}
+ARCHIVE, MESHES = '/usr/share/doc/libcgal-dev/data.tar.gz', ('bunny00', 'armadillo', 'refined_elephant')
+# the diagonal of the room of recon-make-scan
+ROOM_DIAGONAL = (2 ** 2 + 1.6 ** 2 + 1) ** 0.5
+HEAD = ('| Scan, noise | Program | s | MB | To the object | From the object | Open | Non-manifold | Crossing pairs | Angle | Faces |\n|'
+        + '---|' * 11)
 OPEN3D = '''
 import sys
 import numpy as np
@@ -64,11 +80,29 @@ def python_with(module: str) -> str:
 PYTHON = python_with('numpy')
 
 
-class Cost(NamedTuple):
-    """Processor seconds and the peak of memory in MB of a run, and what it printed."""
+@dataclass
+class Cost:
+    """Processor seconds and the peak of memory in MB of runs, and what the last one printed."""
     seconds: float
     megabytes: int
     line: str
+
+    def plus(self, more: Cost) -> Cost:
+        return Cost(self.seconds + more.seconds, max(self.megabytes, more.megabytes), more.line)
+
+
+@dataclass
+class Row:
+    """A line of the table: the program, what it cost, the mesh that it made, if any, and exact counts of it, where they are known."""
+    program: str
+    cost: Cost
+    mesh: Optional[str] = None
+    non_manifold: str = ''
+    crossing: str = ''
+
+
+def left_out(what: str, why: str) -> None:
+    print(f'others.py: {what} is left out: {why}', file=sys.stderr)
 
 
 def ran(*words: str) -> Optional[Cost]:
@@ -81,28 +115,37 @@ def ran(*words: str) -> Optional[Cost]:
         err.seek(0)
         if child.returncode != 0:
             tail = (err.read() or out.read()).decode('utf-8', 'replace').strip().split('\n')[-1]
-            print(f'{os.path.basename(words[0])} ended with {child.returncode}: {tail[:200]}', file=sys.stderr)
+            print(f'others.py: {os.path.basename(words[0])} ended with {child.returncode}: {tail[:200]}', file=sys.stderr)
             return None
         return Cost(usage.ru_utime + usage.ru_stime, usage.ru_maxrss // 1024, out.read().decode('utf-8', 'replace').strip())
 
 
-def tool(name: str) -> list[str]:
-    """Returns how a program of tools/ is run."""
-    path = os.path.join(TOOLS, name + '.py')
-    return [PYTHON, path] if os.path.exists(path) else [PYTHON, os.path.join(TOOLS, 'recon'), name.replace('_', '-')]
+def make_scan(path: str, points: str, noise: str, out: str) -> None:
+    """Scans an object into a file, in thousandths of its diagonal."""
+    if os.path.basename(path) != 'room.off':
+        subprocess.run([PYTHON, MEASURE, 'scan', path, out, f'points={points}', f'noise={noise}'], check=True, stdout=subprocess.DEVNULL)
+        return
+    subprocess.run([PYTHON, PACKAGE, 'make-scan', 'room', points, '1', out + '.whole', f'scale={1e6 / ROOM_DIAGONAL}', 'stray=0',
+                    f'noise={float(noise) * ROOM_DIAGONAL}'], check=True, stdout=subprocess.DEVNULL)
+    with open(out + '.whole', encoding='ascii') as file:
+        head, body = file.read().split('end_header\n')
+    rows = (line.split() for line in body.splitlines())
+    with open(out, 'w', encoding='ascii') as file:
+        file.write(head.replace(' int x', ' double x').replace(' int y', ' double y').replace(' int z', ' double z') + 'end_header\n')
+        file.writelines(' '.join([f'{int(word) / 1000:.3f}' for word in row[:3]] + row[3:]) + '\n' for row in rows)
 
 
 class Scan:
     """A scan of an object, and its points and scanners in files of their own."""
 
     def __init__(self, folder: str, path: str, points: str, noise: str) -> None:
-        self.name = os.path.splitext(os.path.basename(path))[0]
-        self.object = path
-        self.base = os.path.join(folder, f'{self.name}.{points}.{noise}')
+        self.object, self.noise = path, float(noise)
+        name = os.path.splitext(os.path.basename(path))[0]
+        self.name = f'{name}, {1000 * self.noise:g}'
+        self.base = os.path.join(folder, f'{name}.{points}.{noise}')
         self.scan, self.points, self.seen = self.base + '.ply', self.base + '.points', self.base + '.seen'
         if not os.path.exists(self.scan):
-            subprocess.run([PYTHON, MEASURE, 'scan', path, self.scan, f'points={points}', f'noise={noise}'], check=True,
-                           stdout=subprocess.DEVNULL)
+            make_scan(path, points, noise, self.scan)
         with open(self.scan, encoding='ascii') as file:
             head, body = file.read().split('end_header\n')
         rows = [line.split() for line in body.splitlines()]
@@ -114,60 +157,56 @@ class Scan:
                 out.writelines('%r %r %r\n' % tuple(p) for p in places)
 
 
-class Row(NamedTuple):
-    """A line of the table: the program, what it cost, the mesh that it made, if any, and what `recon-mesh inspect` counts of it."""
-    program: str
-    cost: Cost
-    mesh: Optional[str]
-    counts: Sequence[str] = ('', '')
+def numbers_in(line: str) -> Dict[str, str]:
+    """Returns the numbers of a line such as `finished points 4 faces 4`, by the words before them."""
+    words = line.split()[1:]
+    return dict(zip(words[::2], words[1::2]))
 
 
-def inspected(program: str, mesh: str) -> Sequence[str]:
-    """Returns the numbers of non-manifold edges and vertices, and of pairs of faces that cross, with undecided ones if there are any."""
+def of_mesh(name: str, cost: Cost, program: str, mesh: str) -> Row:
+    """Returns the row of a mesh of `recon`, in whole units, with what `recon-mesh inspect` counts of it. The scale of a smoothed mesh is finer by what
+    `recon-mesh finish` printed."""
+    floats, fine = mesh + '.floats.ply', int(numbers_in(cost.line).get('fine', 1))
     said = ran(program, 'inspect', mesh)
-    if said is None:
-        return Row._field_defaults['counts']
-    count = dict(zip(said.line.split()[1::2], said.line.split()[2::2]))
-    undecided = count['undecided_pairs']
-    pairs = count['crossing_pairs'] + (f' ({undecided} undecided)' if undecided != '0' else '')
-    return f'{count["nonmanifold_edges"]}, {count["nonmanifold_vertices"]}', pairs
+    if said is None or ran(PYTHON, PACKAGE, 'mesh-to-floats', mesh, floats, f'unit={1000 * fine}') is None:
+        return Row(name, cost)
+    count = numbers_in(said.line)
+    undecided = f' ({count["undecided_pairs"]} undecided)' if count['undecided_pairs'] != '0' else ''
+    return Row(name, cost, floats, f'{count["nonmanifold_edges"]}, {count["nonmanifold_vertices"]} vertices', count['crossing_pairs'] + undecided)
 
 
-def of_recon(recon: str, scan: Scan, noise: float) -> list[Row]:
+def of_recon(recon: str, scan: Scan) -> List[Row]:
     mesh, cert = scan.base + '.recon', scan.base + '.cert'
-    cost = ran(recon, 'build', scan.scan, mesh, cert, 'unit=1000')
+    cost = ran(recon, 'build', scan.scan, mesh, cert, 'unit=1000', 'smooth=1')
     if cost is None:
         return []
     program = os.path.join(os.path.dirname(recon), 'recon-mesh')
-    built, whole = scan.base + '.built.ply', scan.base + '.whole.ply'
-    ran(*tool('mesh_to_floats'), mesh, built, 'unit=1000')
-    rows = [Row('recon, as built', cost, built, inspected(program, mesh))]
-    for name, smooth, within in (('finished', [], ''), ('smoothed', ['smooth=3'], f'{2000 * noise:g}')):
-        path = f'{scan.base}.{name}.ply'
-        finish = ran(*tool('finish'), mesh, path, 'unit=1000', 'pieces=1', *smooth, *([f'within={within}'] if within else []))
-        if finish is None:
-            continue
-        ran(program, 'finish', mesh, whole, 'pieces=1', *smooth, *([f'within={round(1000 * float(within))}'] if within else []))
-        total = Cost(cost.seconds + finish.seconds, max(cost.megabytes, finish.megabytes), '')
-        rows.append(Row(f'recon, {name}', total, path, inspected(program, whole)))
+    rows = [of_mesh('recon, as built', cost, program, mesh)]
+    within = f'within={round(2 * scan.noise * 1e6)}'
+    for name, options in (('flips', []), ('3 steps', ['smooth=3', within]), ('6 steps', ['smooth=6', within]), ('flips, manifold=yes', ['manifold=yes'])):
+        path = f'{scan.base}.{name.replace(" ", "_")}'
+        finish = ran(program, 'finish', mesh, path, 'pieces=1', 'comments=no', *options)
+        rows += [] if finish is None else [of_mesh(f'recon, {name}', cost.plus(finish), program, path)]
     return rows
 
 
-def of_cgal(folder: str, scan: Scan) -> list[Row]:
-    program = os.path.join(folder, 'cgal_delaunay')
+def of_cgal(folder: str, scan: Scan) -> List[Row]:
+    program = os.path.join(folder, 'cgal')
     if not os.path.exists(program):
         compiler = shutil.which('c++') or shutil.which('g++')
-        if compiler is None or ran(compiler, '-O2', os.path.join(HERE, 'cgal_delaunay.cpp'), '-o', program, '-lgmp') is None:
-            print('CGAL is left out: no C++ compiler or no CGAL is here (Debian: g++ libcgal-dev)', file=sys.stderr)
+        if compiler is None or ran(compiler, '-O2', os.path.join(HERE, 'cgal.cpp'), '-o', program, '-lmpfr', '-lgmp') is None:
+            left_out('CGAL', 'no C++ compiler or no CGAL is here (Debian: g++ libcgal-dev)')
             return []
-    cost = ran(program, scan.points)
-    return [] if cost is None else [Row('CGAL, Delaunay alone', cost, None)]
+    mesh = scan.base + '.front.off'
+    front, cells = ran(program, 'front', scan.points, mesh), ran(program, 'delaunay', scan.points)
+    rows = [] if front is None else [Row('CGAL, advancing front', front, mesh)]
+    return rows + ([] if cells is None else [Row('CGAL, Delaunay alone', cells)])
 
 
-def of_colmap(scan: Scan) -> list[Row]:
-    """Returns a workspace as COLMAP's dense reconstruction leaves it, with a picture for each scanner."""
+def of_colmap(scan: Scan) -> List[Row]:
+    """Runs COLMAP's mesher on a workspace as its dense reconstruction leaves it, with a picture for each scanner."""
     if shutil.which('colmap') is None:
-        print('COLMAP is left out: it is not here (Debian: colmap)', file=sys.stderr)
+        left_out('COLMAP', 'it is not here (Debian: colmap)')
         return []
     with tempfile.TemporaryDirectory() as place:
         sparse = os.path.join(place, 'sparse')
@@ -186,15 +225,15 @@ def of_colmap(scan: Scan) -> list[Row]:
         cost = ran('colmap', 'delaunay_mesher', '--input_path', place, '--input_type', 'dense', '--output_path', mesh,
                    '--DelaunayMeshing.visibility_sigma', '0.3', '--DelaunayMeshing.max_proj_dist', '0', '--DelaunayMeshing.num_threads', '1')
     if cost is None or not os.path.exists(mesh):
-        print('COLMAP is left out: this one is built without CGAL, or failed', file=sys.stderr)
+        left_out('COLMAP', 'this one is built without CGAL, or failed')
         return []
     return [Row('COLMAP, Delaunay', cost, mesh)]
 
 
-def of_open3d(scan: Scan) -> list[Row]:
+def of_open3d(scan: Scan) -> List[Row]:
     python = python_with('open3d')
     if not python:
-        print('Open3D is left out: no Python here has it (Debian: python3-open3d)', file=sys.stderr)
+        left_out('Open3D', 'no Python here has it (Debian: python3-open3d)')
         return []
     found = []
     for kind, name in (('poisson', 'Open3D, Poisson'), ('pivoting', 'Open3D, ball pivoting')):
@@ -204,42 +243,59 @@ def of_open3d(scan: Scan) -> list[Row]:
     return found
 
 
-def measured(scan: Scan, rows: Sequence[Row]) -> dict[str, list[str]]:
-    """Returns what measure_surface.py says of each mesh, by its path: distances there and back, open edges, and the angle."""
-    meshes = [row.mesh for row in rows if row.mesh]
-    said = subprocess.run([PYTHON, MEASURE, 'compare', scan.object, *meshes], capture_output=True, text=True)
-    if said.returncode != 0:
-        print(said.stderr.strip(), file=sys.stderr)
-    cells = [line.split(' | ') for line in said.stdout.splitlines() if line.count(' | ') >= 8]
-    return {mesh: [*cell[1:4], cell[6]] for mesh, cell in zip(meshes, cells[-len(meshes):])}
+def line_of(scan: Scan, row: Row) -> str:
+    """Returns a line of the table. The mesh is compared with the object here."""
+    cells = [''] * 9
+    if row.mesh is not None:
+        said = subprocess.run([PYTHON, MEASURE, 'compare', scan.object, row.mesh], capture_output=True, text=True)
+        if said.returncode != 0:
+            print(said.stderr.strip(), file=sys.stderr)
+        cells = (next((line.split(' | ')[1:] for line in said.stdout.splitlines() if line.startswith(row.mesh)), []) + cells)[:9]
+    there, back, is_open, edges, _, angle, crossing, faces, *_ = cells
+    faces = f'{int(faces):,}' if faces else ''
+    cells = [scan.name, row.program, f'{row.cost.seconds:.1f}', str(row.cost.megabytes), there, back, is_open, row.non_manifold or edges,
+             row.crossing or crossing, angle, faces]
+    return f'| {" | ".join(cells)} |'
+
+
+def all_objects(folder: str) -> List[str]:
+    """Returns the objects that are measured by default, unpacked or made in the folder."""
+    found = []
+    if os.path.exists(ARCHIVE):
+        with tarfile.open(ARCHIVE) as packed:
+            for name in MESHES:
+                data = packed.extractfile(f'data/meshes/{name}.off')
+                assert data is not None
+                found.append(os.path.join(folder, name + '.off'))
+                with open(found[-1], 'wb') as file:
+                    file.write(data.read())
+    else:
+        left_out(', '.join(MESHES), 'CGAL\'s meshes are not here (Debian: libcgal-demo)')
+    room = os.path.join(folder, 'room.off')
+    subprocess.run([PYTHON, MEASURE, 'room', room], check=True, stdout=subprocess.DEVNULL)
+    return [*found, room]
 
 
 def main() -> int:
-    words = [word for word in sys.argv[1:] if '=' not in word]
+    words: Sequence[str] = [word for word in sys.argv[1:] if '=' not in word]
     given = dict(word.split('=', 1) for word in sys.argv[1:] if '=' in word)
     if len(words) != 2 or not given.keys() <= OPTIONS.keys():
-        print(__doc__.strip(), file=sys.stderr)
+        print((__doc__ or '').strip(), file=sys.stderr)
         return 2
     if not PYTHON:
         sys.exit('others.py: no Python with numpy is here (Debian: python3-numpy)')
-    options, (recon, folder) = {**OPTIONS, **given}, words
+    options, recon, folder = {**OPTIONS, **given}, os.path.abspath(words[0]), words[1]
     os.makedirs(folder, exist_ok=True)
-    objects = options['objects'].split(',') if options['objects'] else [os.path.join(folder, 'room.off')]
-    if not options['objects']:
-        subprocess.run([PYTHON, MEASURE, 'room', objects[0]], check=True, stdout=subprocess.DEVNULL)
-    # recon-finish runs the recon-mesh that is measured
-    os.environ['RECON_MESH'] = os.path.join(os.path.dirname(os.path.abspath(recon)), 'recon-mesh')
-    print('| scan | program | s | peak MB | to the object | from the object | open edges | non-manifold edges, vertices | crossing pairs | angle |\n|' + '---|' * 10,
-          flush=True)
-    for path in objects:
-        scan = Scan(folder, path, options['points'], options['noise'])
-        rows = of_recon(os.path.abspath(recon), scan, float(options['noise'])) + of_cgal(folder, scan) + of_colmap(scan) + of_open3d(scan)
-        figures = measured(scan, rows)
-        for row in rows:
-            *distances, angle = figures.get(row.mesh or '', [''] * 4)
-            cells = [f'{scan.name} {len(scan.rows):,}, {1000 * float(options["noise"]):g}', row.program, f'{row.cost.seconds:.1f}',
-                     str(row.cost.megabytes), *distances, *row.counts, angle]
-            print(f'| {" | ".join(cells)} |', flush=True)
+    objects = options['objects'].split(',') if options['objects'] else all_objects(folder)
+    print(HEAD, flush=True)
+    for noise in options['noise'].split(','):
+        for path in objects:
+            scan = Scan(folder, path, options['points'], noise)
+            rows = of_recon(recon, scan) + of_cgal(folder, scan) + of_colmap(scan) + of_open3d(scan)
+            # programs run one after another, so that their seconds are right; distances are computed side by side
+            with ThreadPoolExecutor(os.cpu_count()) as pool:
+                for line in pool.map(lambda row: line_of(scan, row), rows):
+                    print(line, flush=True)
     return 0
 
 
