@@ -1,10 +1,10 @@
 """Converts a mesh of `recon build` for viewing, printing and exchange: in the coordinates of the scan, smoother, without floating
-components, with the colors of its points. The result is no longer the mesh that `recon check` confirms.
+components, with the colors of its points. The result is no longer the mesh that `recon check` accepts.
 
   recon-finish MESH OUT [unit=U] [origin=X,Y,Z] [pieces=N] [flips=no] [smooth=N within=D] [manifold=yes]
                [seen=yes] [scan=SCAN] [cert=CERT]
 
-  OUT                binary PLY, STL, GLB or OBJ, by the ending of its name: .ply, .stl, .glb or .obj
+  OUT                binary PLY, STL, GLB or OBJ, by the extension of its name: .ply, .stl, .glb or .obj
   unit=U             divide coordinates by U (default: that of cert=, else of the only certificate (.cert, .cert.gz) in the folder
                      of MESH, which is then printed; else 1)
   cert=CERT          read unit from the certificate of the mesh
@@ -89,9 +89,9 @@ class Wishes:
         """Reads the options of the command line."""
         steps = whole(options.smooth or '0', 'smooth', 0, MOST_STEPS)
         if (options.within is None) != (steps == 0):
-            raise Refusal('smooth= and within= stand together: how many steps, and how far a vertex may go')
+            raise Refusal('smooth= and within= are required together: the number of steps, and the most that a vertex may move')
         if steps and not (IS_NUMBER(options.within) and 0 < float(options.within) < 1e30):
-            raise Refusal('within= is a length over 0')
+            raise Refusal('within= must be a number greater than 0')
         wishes = cls(whole(options.unit or '1', 'unit', 1, 1000000), [float(word) for word in three(options.origin or '0,0,0', 'origin')],
                    whole(options.pieces, 'pieces', 1, 10 ** 9) if options.pieces else None,
                    options.flips is None or yes(options.flips, 'flips'), steps, float(options.within or 0),
@@ -104,7 +104,7 @@ class Wishes:
         """How many whole units of the mesh a vertex may go. Raises `Refusal` if that is none."""
         units = min(int(Decimal(repr(self.within)) * self.unit), LONGEST)
         if not units:
-            raise Refusal(f'within={self.within:g} is under one unit of the mesh, which is {1 / self.unit:g}')
+            raise Refusal(f'within={self.within:g} is less than one unit of the mesh, {1 / self.unit:g}')
         return units
 
 
@@ -135,7 +135,7 @@ class FinishReport(Report):
     def __str__(self) -> str:
         wrote = f'wrote {self.written[0]} vertices and {number_of(self.written[1], "face")} to {self.out}'
         if self.seen_part:
-            wrote += f', and the {number_of(self.seen_part, "face")} that were seen to {seen_path(self.out)}, which is open'
+            wrote += f', and {number_of(self.seen_part, "seen face")} to {seen_path(self.out)}, which is open'
         if self.rounding:
             wrote += f'; {coarse(self.out, self.rounding)}'
         return '; '.join([*self.sentences(), wrote])
@@ -144,21 +144,21 @@ class FinishReport(Report):
         """The report in words."""
         said = [f'read {self.vertices} vertices and {number_of(self.faces, "face")} of {self.name}']
         if self.stamp is not None:
-            said.append(f'unit={self.unit} by {self.stamp}')
+            said.append(f'unit={self.unit} from {self.stamp}')
         if self.kept_pieces is not None:
             said.append(f'kept the {number_of(self.kept_pieces, "largest piece")} and left out {number_of(self.left_out, "face")}')
         if self.is_flipped:
-            said.append('flipped edges by recon-mesh')
+            said.append('flipped edges')
         if self.steps:
-            said.append(f'smoothed in {number_of(self.steps, "step")}: vertices went {self.mean_way:.4g} on the mean and '
+            said.append(f'smoothed in {number_of(self.steps, "step")}: vertices moved by {self.mean_way:.4g} on average, '
                         f'{self.longest_way:.4g} at most')
-        said.append(f'the mean angle between neighboring faces went from {self.angle_before:.1f} to {self.angle_after:.1f} degrees')
+        said.append(f'the mean angle between adjacent faces changed from {self.angle_before:.1f} to {self.angle_after:.1f} degrees')
         if self.columns is not None:
-            said.append(f'brought back {", ".join(self.columns) or "nothing"} of the scan')
+            said.append(f'copied {", ".join(self.columns) or "no properties"} from the scan')
         if self.split is not None:
             said.append(f'split off {self.split} {"vertex" if self.split == 1 else "vertices"}')
         if self.unseen is not None:
-            said.append(f'{number_of(self.unseen, "face")} of what no scanner saw')
+            said.append(f'{number_of(self.unseen, "face")} unseen by all scanners')
         return said
 
 
@@ -170,7 +170,7 @@ class Work:
         self.path, self.wishes, self.tell, self.folder = name, wishes, tell, folder
         self.places, self.corners, self.fine = Whole(*(read_mesh(name) if mesh is None else mesh), 1)
         if not len(self.corners):
-            raise Refusal('the mesh has no faces: there is nothing to finish')
+            raise Refusal('the mesh has no faces')
         self.vertex_of = np.arange(len(self.places))
         self.report = FinishReport(name, len(self.places), len(self.corners) // 3, unit=wishes.unit)
 
@@ -254,7 +254,7 @@ def seen_part(mesh: Finished) -> Finished:
 
 def coarse(path: str, away: float) -> str:
     """The warning that a format rounds coordinates."""
-    return f'{path}: STL stores 24 bits of a coordinate, so vertices moved by up to {away:.2g}: write PLY, GLB or OBJ, or subtract an origin'
+    return f'{path}: STL stores coordinates in single precision, which moved vertices by up to {away:.2g}: write PLY, GLB or OBJ, or subtract an origin'
 
 
 def seen_path(path: str) -> str:
@@ -284,7 +284,7 @@ def stamped_unit(mesh: str, named: str | None) -> tuple[str, str] | None:
     except (EOFError, gzip.BadGzipFile):
         stamp = None
     if stamp is None and named:
-        raise Refusal(f'{named} is not a certificate that states its unit')
+        raise Refusal(f'{named} is not a certificate with a unit')
     return (stamp[1].decode('ascii'), os.path.basename(found[0])) if stamp else None
 
 

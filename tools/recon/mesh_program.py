@@ -19,7 +19,7 @@ FINEST = 1 << 23
 
 
 def mesh_program_path(path: str | None = None) -> str | None:
-    """Returns the path of the program: `path`, else what the variable RECON_MESH names, else the one that was built or installed beside this
+    """Returns the path of the program: `path`, else the value of the variable RECON_MESH, else the one that was built or installed beside this
     package, else `recon-mesh` on the PATH. None if there is none."""
     return path or os.environ.get('RECON_MESH') or found_program('recon-mesh', 'mesh_main')
 
@@ -52,10 +52,10 @@ def finish_mesh(path: str, wanted: Wanted, out: str, program: Optional[str] = No
     """Finishes the mesh of a file into another file without comments, and returns it. Raises `Refusal` with the program's error, or without the program."""
     found = mesh_program_path(program)
     if found is None:
-        raise Refusal('the program recon-mesh was not found: put it on the PATH, or name it in the variable RECON_MESH')
+        raise Refusal('the program recon-mesh was not found: add it to the PATH, or set the environment variable RECON_MESH to its path')
     try:
         done = run(['finish', path, out, *wanted.options(), 'comments=no'], found)
     except Refused as error:
         is_open = error.line.startswith('refused 28 unbalanced')
-        raise Refusal(f'the mesh is not closed: recon-mesh says {error.line}' if is_open else f'recon-mesh: {error}') from None
+        raise Refusal(f'the mesh is not closed: recon-mesh printed {error.line}' if is_open else f'recon-mesh: {error}') from None
     return Whole(*read_mesh(out, FINEST), done.get('fine', 1))

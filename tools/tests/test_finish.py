@@ -173,7 +173,7 @@ class Finish(InFolder):
                 (-0.1, 0.1, -0.1, 7, 8, 9, 1), (-0.0996, -0.1, 0.1004, 10, 11, 12, 2)]
         write('scan.ply', head(5, columns) + ''.join(' '.join(map(str, row)) + '\n' for row in rows))
         status, said, error = call('finish', 'in.ply', 'out.ply', 'unit=1000', 'scan=scan.ply', 'origin=5,0,0')
-        equal((status, error, 'brought back red, green, blue, intensity of the scan' in said), (0, '', True))
+        equal((status, error, 'copied red, green, blue, intensity from the scan' in said), (0, '', True))
         with open('out.ply', 'rb') as file:
             text, body = file.read().split(b'end_header\n')
         equal(struct.unpack_from('<dddBBBf', body, 31), (5.1, -0.1, -0.1, 4, 5, 6, 0.25))
@@ -208,13 +208,13 @@ class Finish(InFolder):
         equal(middle, [600000, 5000000, 0])
         equal(np.abs(places - np.array(SCAN_ROWS) / 1000 - [600000.125, 5000000, 0]).max() < 1e-7, True)
         status, said, error = call('finish', 'in.ply', 'out.stl', *far)
-        equal((status, error, 'so vertices moved by up to 0.1: write PLY, GLB or OBJ' in said), (0, '', True))
+        equal((status, error, 'which moved vertices by up to 0.1: write PLY, GLB or OBJ' in said), (0, '', True))
 
     def test_what_nobody_saw_is_a_mesh_of_its_own(self) -> None:
         places, faces = ball(10, 1000)
         write('in.ply', mesh_text(places, faces))
         status, said, error = call('finish', 'in.ply', 'out.ply', '--seen', '--no-flips')
-        equal((status, error, '0 faces of what no scanner saw' in said, os.path.exists('out-seen.ply')), (0, '', True, True))
+        equal((status, error, '0 faces unseen by all scanners' in said, os.path.exists('out-seen.ply')), (0, '', True, True))
         # a square of small faces, closed below by a fan of triangles that are long
         side = 24
         places = [(100 * i, 100 * j, (i * j) % 7) for i in range(side) for j in range(side)]
@@ -230,7 +230,7 @@ class Finish(InFolder):
             top_of, body = file.read().split(b'end_header\n')
         marks = [body[24 * len(places) + 14 * k + 13] for k in range(len(sheet + lid))]
         equal((b'property uchar unseen' in top_of, sum(marks[:len(sheet)]), sum(marks[len(sheet):]) > 60), (True, 0, True))
-        equal(f'; {sum(marks)} faces of what no scanner saw; ' in said, True)
+        equal(f'; {sum(marks)} faces unseen by all scanners; ' in said, True)
         with open('out-seen.ply', 'rb') as file:
             equal(b'element face %d\n' % (len(marks) - sum(marks)) in file.read(), True)
 
@@ -243,14 +243,14 @@ class Finish(InFolder):
             with gzip.open('packed.gz', 'wb') as file:
                 file.write(stamp.encode('ascii'))
             said = call('finish', 'in.ply', 'out.obj', *words)[1]
-            equal(f'unit=250 by {words[0][5:] if words else "scan.cert"}; ' in said, True)
+            equal(f'unit=250 from {words[0][5:] if words else "scan.cert"}; ' in said, True)
             with open('out.obj', encoding='ascii') as lines:
                 equal([line for line in lines if line[0] == 'v'][0], 'v 0.40000000000000002 0.40000000000000002 0.40000000000000002\n')
         equal('unit=' in call('finish', 'in.ply', 'out.obj', 'unit=1')[1], False)
         write('other.cert', stamp)
         equal('unit=' in call('finish', 'in.ply', 'out.obj')[1], False)
         write('in.txt', 'recon certificate 1\n')
-        refuses('finish', 'states its unit', 'in.ply', 'out.ply', 'cert=in.txt')
+        refuses('finish', 'not a certificate with a unit', 'in.ply', 'out.ply', 'cert=in.txt')
 
     @unittest.skipUnless(RECON_MESH, 'recon-mesh is not built here')
     def test_colors_of_points_with_lists_and_as_obj(self) -> None:
@@ -259,7 +259,7 @@ class Finish(InFolder):
         write('scan.ply', head(4, columns) + ''.join(
             ' '.join(map(str, place)) + f' {k} 2 0 1 51 255\n' for k, place in enumerate(SCAN_ROWS)))
         status, said, error = call('finish', 'in.ply', 'out.obj', 'scan=scan.ply')
-        equal((status, error, 'brought back red, green, blue of the scan' in said), (0, '', True))
+        equal((status, error, 'copied red, green, blue from the scan' in said), (0, '', True))
         with open('out.obj', encoding='ascii') as lines:
             rows = [line.split() for line in lines]
         equal((rows[2], rows[-1][0], len(rows)), (['v', '100', '-100', '-100', '0.003922', '0.2', '1'], 'f', 9))
@@ -276,7 +276,7 @@ class Finish(InFolder):
             equal(one.read() == other.read(), True)
         for wrong in ('comments 1\n', 'obj_info 1\n', 'comment\x0b\n', 'comment ' + 'c' * 999 + '\n', 'comment\n' * 101):
             write('in.ply', plain.replace('element vertex', wrong + 'element vertex'))
-            refuses('finish', 'its header is another', 'in.ply', 'out.ply', 'flips=no')
+            refuses('finish', 'the header differs', 'in.ply', 'out.ply', 'flips=no')
 
     def test_the_program_is_asked_for_no_comments(self) -> None:
         write('in.ply', mesh_text([(0, 0, 0), (9, 0, 0), (0, 9, 0), (0, 0, 9)], TETRAHEDRON))
@@ -301,7 +301,7 @@ class Finish(InFolder):
         moved = [struct.unpack_from('<ddd', body, 24 * k) for k in range(len(places))]
         far = max(sum((x - y) ** 2 for x, y in zip(*pair)) ** 0.5 for pair in zip(moved, places))
         equal((1500 < far <= 2000, '3 steps' in said), (True, True))
-        parts = said.split('neighboring faces went from ')[1].split()
+        parts = said.split('adjacent faces changed from ')[1].split()
         equal(float(parts[2]) * 2 < float(parts[0]), True)
 
     @unittest.skipUnless(RECON_MESH, 'recon-mesh is not built here')
@@ -312,7 +312,7 @@ class Finish(InFolder):
             f'{x / 10} {y / 10} {z / 10} {k}\n' for k, (x, y, z) in list(enumerate(places))[::-1]))
         for words in (('pieces=1',), ('manifold=yes',), ()):
             status, said, error = call('finish', 'in.ply', 'out.ply', 'unit=10', 'smooth=2', 'within=30', 'scan=scan.ply', 'origin=0,0,1000', *words)
-            equal((status, error, 'brought back row of the scan' in said), (0, '', True))
+            equal((status, error, 'copied row from the scan' in said), (0, '', True))
             with open('out.ply', 'rb') as file:
                 top, body = file.read().split(b'end_header\n')
             count = int(top.split(b'element vertex ')[1].split()[0])
@@ -337,7 +337,7 @@ class Finish(InFolder):
         equal(call('make_scan', 'statue', '600', '1', 'scan.ply')[0], 0)
         subprocess.run([RECON, 'build', 'scan.ply', 'mesh.ply', 'cert'], check=True, capture_output=True)
         status, said, error = call('finish', 'mesh.ply', 'out.ply', 'pieces=1', 'scan=scan.ply', 'manifold=yes')
-        equal((status, error, 'brought back scanner of the scan' in said), (0, '', True))
+        equal((status, error, 'copied scanner from the scan' in said), (0, '', True))
         status, said, error = call('finish', 'mesh.ply', 'out.ply', 'pieces=1', 'scan=scan.ply', 'manifold=yes', 'smooth=1', 'within=9')
         equal((status, error, 'split off ' in said), (0, '', True))
 
@@ -346,16 +346,16 @@ class Finish(InFolder):
         tetrahedron = mesh_text(SCAN_ROWS, [(0, 1, 2), (0, 2, 3), (0, 3, 1), (1, 3, 2)])
         write('in.ply', tetrahedron)
         write('scan.ply', head(1, 'float x, float y, float z') + '100 100 100\n')
-        for words, part in ((('smooth=3',), 'stand together'), (('within=1',), 'stand together'),
+        for words, part in ((('smooth=3',), 'required together'), (('within=1',), 'required together'),
                             (('smooth=1', 'within=0'), 'within='), (('smooth=101', 'within=1'), 'smooth='),
-                            (('smooth=1', 'within=0.01', 'unit=99'), 'within=0.01 is under one unit of the mesh'), (('pieces=0',), 'pieces='),
+                            (('smooth=1', 'within=0.01', 'unit=99'), 'within=0.01 is less than one unit of the mesh'), (('pieces=0',), 'pieces='),
                             (('unit=0',), 'unit='), (('scan=scan.ply',), '3 of 4 vertices are not points of scan.ply at unit=1')):
             refuses('finish', part, 'in.ply', 'out.ply', *words)
-        refuses('finish', 'ends in none of .ply, .stl, .glb, .obj', 'in.ply', 'out.off', out='out.off')
-        spoiled = ((tetrahedron.replace('int x', 'double x'), 'floating point already'), (tetrahedron[:-1], 'it is truncated'),
-                   (tetrahedron[:-8], 'it has 24 numbers where its header says 28'),
+        refuses('finish', 'unknown file name extension: use .ply, .stl, .glb, .obj', 'in.ply', 'out.off', out='out.off')
+        spoiled = ((tetrahedron.replace('int x', 'double x'), 'floating-point numbers'), (tetrahedron[:-1], 'it is truncated'),
+                   (tetrahedron[:-8], 'it has 24 numbers, its header states 28'),
                    (tetrahedron.replace('3 0 1 2', '3 0 1 4'), 'a face is not a triangle'),
-                   (tetrahedron.replace('3 0 1 2', '3 0 1 3'), 'not closed'), (tetrahedron.replace('3 1 3 2\n', ''), 'numbers where'),
+                   (tetrahedron.replace('3 0 1 2', '3 0 1 3'), 'not closed'), (tetrahedron.replace('3 1 3 2\n', ''), 'its header states'),
                    (mesh_text([], []), 'no faces'))
         for text, part in spoiled:
             write('in.ply', text)

@@ -148,7 +148,7 @@ class Hostile(InFolder):
                             ('float', '1e300'), ('double', '1' * 5000 + 'x')):
             write('scan.ply', head.format(kind) + ''.join(f'{row} {value}\n' for row in rows))
             for out in ('out.ply', 'out.glb', 'out.stl'):
-                is_error(f'in a row of the scan, which is not a {kind}', 'finish', 'mesh.ply', out, 'scan=scan.ply')
+                is_error(f'in a row of the scan: not a {kind}', 'finish', 'mesh.ply', out, 'scan=scan.ply')
         for word in ('1' * 5000, '1e900000', '0.' + '1' * 5000):
             write('scan.ply', head.format('uchar') + ''.join(f'{row} 7\n' for row in [f'{word} 0 0', *rows[1:]]))
             is_error('are not points of scan.ply', 'finish', 'mesh.ply', 'out.ply', 'scan=scan.ply')
@@ -200,7 +200,7 @@ class Hostile(InFolder):
         rows = [line + ' 7' for line in MESH.split('end_header\n')[1].splitlines()[:4]]
         write('scan', (head(4, 'int x, int y, int z, uchar caf\xe9') + '\n'.join(rows) + '\n').encode('latin-1'))
         status, said, error = call('finish', 'mesh', 'out.ply', 'scan=scan', 'flips=no')
-        equal((status, 'brought back caf_ of the scan' in said, error), (0, True, ''))
+        equal((status, 'copied caf_ from the scan' in said, error), (0, True, ''))
 
     def test_normals_of_any_length(self) -> None:
         rows = [f'{x} {y} 0 0 0 1' for x in range(4) for y in range(4)]

@@ -178,7 +178,7 @@ class Models(InFolder):
         equal(call('scan', 'points3D.bin', 'scan.ply')[0], 0)
         write('mesh.ply', MESH)
         status, said, error = call('finish', 'mesh.ply', 'done.ply', 'scan=scan.ply')
-        equal((status, 'brought back red, green, blue of the scan' in said, error), (0, True, ''))
+        equal((status, 'copied red, green, blue from the scan' in said, error), (0, True, ''))
         with open('done.ply', 'rb') as file:
             text, _, body = file.read().partition(b'end_header\n')
         equal(b'property uchar red\nproperty uchar green\nproperty uchar blue\n' in text, True)

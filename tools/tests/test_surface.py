@@ -194,7 +194,7 @@ class Surfaces(InFolder):
     def test_errors(self) -> None:
         write('in.ply', scan_text(sphere(50), SCANNERS[:1], np.zeros(50, int)))
         refused('is read, and would be written over', 'in.ply', '-o', 'in.ply')
-        refused('ends in none of', 'in.ply', '-o', 'mesh.off')
+        refused('unknown file name extension', 'in.ply', '-o', 'mesh.off')
         refused('No such file or directory: none.ply', 'none.ply', '-o', 'mesh.ply')
         listed('flat.xyz', np.random.default_rng(1).uniform(size=(200, 3)) * [1, 1, 0])
         refused('the surface is empty', 'flat.xyz=0.5,0.5,0', '-o', 'mesh.ply', status=3)

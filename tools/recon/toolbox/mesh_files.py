@@ -24,7 +24,7 @@ HEAD = re.compile(rb'ply\nformat ascii 1\.0\n(?:comment(?: [^\n]{0,998})?\n){0,1
                   rb'element vertex ([0-9]{1,10})\nproperty int x\nproperty int y\nproperty int z\n'
                   rb'element face ([0-9]{1,10})\nproperty list uchar int vertex_indices\nend_header\n')
 WHOLE = ('char', 'uchar', 'short', 'ushort', 'int', 'uint', 'int8', 'uint8', 'int16', 'uint16', 'int32', 'uint32')
-NOT_OURS = 'this is not a mesh as `recon build` wrote it: '
+NOT_OURS = 'not a mesh of `recon build`: '
 LIMIT = 2097151
 COLORS = ('red', 'green', 'blue')
 LINES = 10_000
@@ -38,16 +38,16 @@ def read_mesh(path: str, most: int = LIMIT) -> tuple[np.ndarray, np.ndarray]:
     head = HEAD.match(data)
     if not head:
         floats = re.search(rb'property (float|double)', data[:2000]) or not data.startswith(b'ply\nformat ascii')
-        raise Refusal(NOT_OURS + ('its coordinates are floating point already, or it is another file' if floats
-                                  else 'its header is another'))
+        raise Refusal(NOT_OURS + ('coordinates are floating-point numbers, or it is no text PLY' if floats
+                                  else 'the header differs'))
     count, faces = int(head[1]), int(head[2])
     values = numbers_of(data, head.end(), 3 * count + 4 * faces)
     places, rows = values[:3 * count].reshape(-1, 3), values[3 * count:].reshape(-1, 4)
     corners = rows[:, 1:].ravel()
     if (rows[:, 0] != 3).any() or corners.min(initial=0) < 0 or corners.max(initial=-1) >= count:
-        refuse('a face is not a triangle of its vertices')
+        refuse('a face is not a triangle, or a vertex index is out of range')
     if places.min(initial=0) < -most or places.max(initial=0) > most:
-        refuse(f'a coordinate is over {most:,}')
+        refuse(f'a coordinate is out of range: over {most:,}')
     return places, corners
 
 
@@ -61,19 +61,19 @@ def numbers_of(data: bytes, begin: int, count: int) -> np.ndarray:
     if values is None:
         values = other_numbers(data[begin:])
     if len(values) != count:
-        refuse(f'it has {len(values)} numbers where its header says {count}')
+        refuse(f'it has {len(values)} numbers, its header states {count}')
     return values
 
 
 def other_numbers(data: bytes) -> np.ndarray:
     """The same of a text whose words are long, or no whole numbers."""
     if data.translate(None, b'-0123456789 \n') or data and not data.endswith(b'\n'):
-        refuse('it is truncated or has words that are not whole numbers')
+        refuse('it is truncated, or has values that are not integers')
     # a sign at the start is after the last letter, which is an end of a line
     letters = np.frombuffer(data, np.uint8)
     signs = np.flatnonzero(letters == ord('-'))
     if (letters[signs - 1] > ord(' ')).any() or (letters[signs + 1] < ord('0')).any():
-        refuse('a word is not a whole number')
+        refuse('a value is not an integer')
     with warnings.catch_warnings():
         warnings.simplefilter('ignore')
         return np.zeros(0, np.int64) if not data or data.isspace() else np.fromstring(data, np.int64, sep=' ')
@@ -215,7 +215,7 @@ def form_of(path: str) -> Callable[[Finished], Iterator[bytes]]:
     """Returns the form that the name's ending says."""
     ending = os.path.splitext(path)[1].lower()
     if ending not in FORMS:
-        raise Refusal(f'{path} ends in none of {", ".join(FORMS)}, which say the form')
+        raise Refusal(f'{path}: unknown file name extension: use {", ".join(FORMS)}')
     return FORMS[ending]
 
 

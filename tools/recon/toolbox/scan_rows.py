@@ -37,7 +37,7 @@ def value_of(word: str, name: str, kind: str) -> float:
         struct.pack('<' + FORMATS[kind], value)
         return value
     except (ValueError, OverflowError, struct.error):
-        raise Refusal(f'{name[:40]} is {word[:40]} in a row of the scan, which is not a {kind}') from None
+        raise Refusal(f'{name[:40]} is {word[:40]} in a row of the scan: not a {kind}') from None
 
 
 def columns_of(path: str, unit: int, array: np.ndarray) -> list[Column]:
@@ -48,7 +48,7 @@ def columns_of(path: str, unit: int, array: np.ndarray) -> list[Column]:
     try:
         vertex = reader.element('vertex')
         if vertex is None or reader.elements[0] is not vertex:
-            raise Refusal(f'{path} does not begin with an element vertex')
+            raise Refusal(f'the first element of {path} is not vertex')
         point = vertex.point_columns()
         kept = [k for k, p in enumerate(vertex.properties) if k not in point and p.count_kind is None]
         rows = rows_at(vertex.scalars(reader.rows(vertex)), point, kept, unit, {place: None for place in places})
