@@ -2,12 +2,12 @@
 
   recon-contours SLICE OUT [unit=U] [origin=X,Y,Z]
 
-  OUT                SVG or CSV, by the ending of its name: .svg or .csv
+  OUT                SVG or CSV, by the extension of its name: .svg or .csv
   unit=U             divide coordinates by U (default: 1)
   origin=X,Y,Z       add the origin that was subtracted from the scan (default: 0,0,0)
 
-In the drawing x points right and y up, and the inside is filled by the even-odd rule. A row of the table has the index of its loop, from
-0, the number of the face, and the point's x and y. Each loop is closed: its first point follows its last. Coordinates are decimals
+In the drawing x points right and y up, and the inside is filled by the even-odd rule. A row of the table contains the index of the loop, from
+0, the index of the face, and the point's x and y. Each loop is closed: its first point follows its last. Coordinates are decimals
 of up to 30 digits, the last one rounded.
 """
 from __future__ import annotations
@@ -41,7 +41,7 @@ def draw(slice_path: str, frame: Frame, file: TextIO) -> tuple[int, int]:
     """Writes a drawing, and answers how many loops and points it has."""
     loops = [[(frame.word(0, x, under), frame.word(1, y, under)) for _, x, y, under in loop] for loop in read_loops(slice_path)]
     if not any(loops):
-        raise Refusal(f'the slice has no {"points" if loops else "loops"}, so there is nothing to draw')
+        raise Refusal(f'the slice has no {"points" if loops else "loops"}: nothing to draw')
     left, low, right, high = box_of(loops)
     edge = max(right - left, high - low) * MARGIN
     view = [left - edge, -high - edge, right - left + 2 * edge, high - low + 2 * edge]
@@ -83,7 +83,7 @@ def work(names: Sequence[str], options: Any) -> Drawn:
     """Draws or tabulates a slice, as the ending of the output's name says."""
     ending = os.path.splitext(names[1])[1].lower()
     if ending not in FORMS:
-        raise Refusal(f'{names[1]} ends in none of {", ".join(FORMS)}, which say the form')
+        raise Refusal(f'{names[1]}: unknown file name extension: use {", ".join(FORMS)}')
     frame = Frame(options)
     with whole_file(names[1]) as file:
         loops, points = FORMS[ending](names[0], frame, file)

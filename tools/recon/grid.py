@@ -34,10 +34,10 @@ ANSWERS = {'inside': 1, 'outside': 0}
 def middles(low: Decimal, high: Decimal, side: Decimal) -> list[str]:
     """The middles of the cubes from one coordinate to another, as words."""
     if high <= low:
-        raise Refusal('a coordinate of from= is not below that of to=')
+        raise Refusal('each coordinate of from= must be less than that of to=')
     count = WIDE.divide(WIDE.subtract(high, low), side).to_integral_value(ROUND_CEILING)
     if count > LIMIT:
-        raise Refusal('there are over 1,048,576 cubes: take a larger side')
+        raise Refusal('more than 1,048,576 cubes: use a larger side')
     return [text(WIDE.add(low, WIDE.multiply(side, k + HALF))) for k in range(int(count))]
 
 
@@ -67,12 +67,12 @@ class Volume(Report):
 def write_points(out: str, start: str | None, end: str | None, side: Decimal) -> Grid:
     """Writes the points."""
     if start is None or end is None:
-        raise Refusal('from= and to= are the two corners of the box')
+        raise Refusal('from= and to= are required: they are two corners of the box')
     corners = zip(three(start, 'from'), three(end, 'to'))
     xs, ys, zs = [middles(Decimal(low), Decimal(high), side) for low, high in corners]
     count = len(xs) * len(ys) * len(zs)
     if count > LIMIT:
-        raise Refusal('there are over 1,048,576 cubes: take a larger side')
+        raise Refusal('more than 1,048,576 cubes: use a larger side')
     with whole_file(out) as file:
         for z in zs:
             for y in ys:
@@ -100,7 +100,7 @@ def read_answers(path: str) -> tuple[int, int]:
         count = int(head.group(1))
         inside = sum(answer_of(lines) for _ in range(count))
         if lines.next_line() is not None:
-            raise Refusal(f'line {lines.number} follows the last answer')
+            raise Refusal(f'line {lines.number}: unexpected data after the last answer')
         return count, inside
     finally:
         lines.close()

@@ -1,4 +1,4 @@
-"""Simulates a scan of a shape, in integer coordinates. The same arguments make the same file.
+"""Simulates a scan of a shape, in integer coordinates. The same arguments give the same file.
 
   recon-make-scan SHAPE COUNT SEED OUT [scale=S] [noise=F] [stray=F]
 
@@ -200,7 +200,7 @@ def shape_of(name: str) -> Any:
         return Boxes(FURNITURE, [ROOM], [(-0.55, -0.1, 0.05), (0.5, -0.2, 0.1), (-0.1, 0.5, 0.0), (0.45, 0.1, 0.15)])
     if name in WORST:
         return WORST[name]()
-    raise Refusal(f'there is no shape {name}: torus, room, statue, cube, sphere, {", ".join(WORST)} are known')
+    raise Refusal(f'unknown shape {name}: use torus, room, statue, cube, sphere, {", ".join(WORST)}')
 
 
 def wrong_point(draw: random.Random, p: Place, d: Place) -> Place:
@@ -238,7 +238,7 @@ def scaled(place: Place, scale: float) -> list[str]:
 
 def number(text: str, what: str, least: int, most: int) -> float:
     if not IS_NUMBER(text) or not least <= float(text) <= most:
-        raise Refusal(f'{what} is a number from {least} to {most}, and not {text}')
+        raise Refusal(f'{what} must be a number from {least} to {most}, not {text}')
     return float(text)
 
 

@@ -29,10 +29,10 @@ def pass_mesh(reader: Reader, file: TextIO, unit: Decimal, origin: list[Decimal]
     vertex, face = reader.element('vertex'), reader.element('face')
     if (vertex is None or face is None or reader.elements != [vertex, face] or vertex.has_lists() or len(face.properties) != 1
             or not face.has_lists()):
-        raise Refusal('this is not a mesh of recon: vertices and then faces, each with a list')
+        raise Refusal('not a mesh of recon: expected vertices, then faces with one list each')
     x, y, z = vertex.point_columns()
     if any(vertex.properties[k].kind.startswith(('float', 'double')) for k in (x, y, z)):
-        raise Refusal('its coordinates are floating point already: it is not a mesh as recon wrote it')
+        raise Refusal('not a mesh of recon: coordinates are floating-point numbers already')
     file.write(head(vertex, face))
     for row, words in enumerate(reader.rows(vertex)):
         point = [words[x], words[y], words[z]]
@@ -57,7 +57,7 @@ class Converted(Report):
     def __str__(self) -> str:
         counts = f'{self.vertices} vertices and {number_of(self.faces, "face")}'
         line = f'wrote {counts} of {self.name} to {self.out}'
-        return line + ', at unit=1, since none is named' if self.is_plain else line
+        return line + ', at unit=1 (the default)' if self.is_plain else line
 
 
 def work(names: Sequence[str], options: Any) -> Converted:

@@ -35,19 +35,19 @@ FILE in a table is relative to the table's folder, and `#` starts a comment. The
 of its matrix have to agree within 0.001, or one of them has to be 0 0 0; otherwise position= chooses.
 
   normals=yes           nx, ny and nz (in a PCD normal_x and so on), or the fourth to sixth number of a list, point outward: each
-                        point gets a scanner of its own at a distance along its normal
+                        point gets its own scanner at a distance along its normal
   far=D                 that distance (default: the spacing, which is the median distance of a point to its six nearest). Over
                         65,536 points share positions, if they are near each other and have similar normals
 
-  flight=TABLE          positions of the scanner by time, in the numbers of the points' gpstime, ascending. Between two lines it
-                        flew straight. Points before and after the flight are left out
-  above=yes             one synthesised position for all points: three widths above their middle. Roofs and ground are right,
-                        walls that no pulse met are synthesised too
+  flight=TABLE          positions of the scanner by time, in the numbers of the points' gpstime, ascending. Positions between
+                        two lines are interpolated. Points before and after the flight are left out
+  above=yes             one synthesised position for all points: three widths above their middle. Roofs and ground are
+                        correct, walls that no pulse met are synthesised
 
 LAZ is read if the Python packages laspy and lazrs are installed, and E57 with spherical coordinates if pye57 is.
 
 Normals are not checked. The cost of the mesh shows the fraction of wrong ones: `(cost - smooth * faces) / vote / sights`. If it is 0.1 or
-more, look at the normals.
+more, check the normals.
 
 Left out: points with a coordinate or a scanner that is nan or infinite, empty returns of a PTX, points without a normal, and all
 elements of a PLY except `vertex` and `scanner`. Property names that are not printable ASCII, or occur twice, are changed.
@@ -74,11 +74,11 @@ ROOM = 0.8
 def add_corners(source: Source, sieve: Sieve, writer: Writer, positions: list[Sequence[str]]) -> None:
     """Writes the eight points, and appends their scanners."""
     if not source.has_scanners or source.scanner is None:
-        raise Refusal('the file names no scanners: give their positions by positions=')
+        raise Refusal('no scanner positions in the file: pass positions=')
     if writer.count and not all(map(isfinite, sieve.box.low + sieve.box.high)):
-        raise Refusal('a coordinate is far out of range')
+        raise Refusal('a coordinate is out of range')
     if writer.count == 0 or len(positions) + 8 > SCANNER_LIMIT:
-        raise Refusal('there is no point' if writer.count == 0 else f'there are over {SCANNER_LIMIT - 8} scanners')
+        raise Refusal('no points' if writer.count == 0 else f'more than {SCANNER_LIMIT - 8} scanners')
     for number in range(8):
         words = ['0'] * len(writer.properties)
         for column, word in zip(source.point, sieve.moved(sieve.box.corner(number, sieve.off))):
@@ -119,11 +119,11 @@ def remark_of(sieve: Sieve, part: float) -> str:
     """What is to be said of walls that become thin, and of scans that were not made from inside."""
     said = ''
     if sieve.off and sieve.box.count >= FEW and sieve.off < sieve.box.spacing():
-        said += (f'; surround={sieve.off:.4g} is less than the points are apart, about {sieve.box.spacing():.3g}: the walls become that '
-                 'thin')
+        said += (f'; surround={sieve.off:.4g} is less than the spacing of the points, about {sieve.box.spacing():.3g}: walls become only '
+                 'that thick')
     if sieve.off and sieve.box.count >= MANY and part <= ROOM:
-        said += (f'; surround= is for rooms, and there are points in {part:.0%} of the directions around a scanner: fins to the eight '
-                 'points may show')
+        said += (f'; surround= is for scans from inside, and only {part:.0%} of the directions around a scanner have points: the mesh may '
+                 'have fins toward the eight added points')
     return said
 
 

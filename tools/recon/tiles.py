@@ -3,7 +3,7 @@
   recon-tiles split FILE .. FOLDER [points=N] [overlap=D | spacings=K] [through=N] [unit=U] [vote=V] [smooth=L] [how it is read]
   recon-tiles join FOLDER OUT [fill=yes] [report=FILE]
 
-`split` halves space by planes along the axes until each box, the *core* of its tile, has at most a given number of points, including those
+`split` halves space by axis-aligned planes until each box, the *core* of its tile, has at most a given number of points, including those
 within the overlap around it. It writes a new FOLDER: a scan for each tile, with the scanners of its points; `tiles.json`, which describes
 the tiles; and the commands that build and check each tile, as `jobs.txt`, one command for each line, and as `Makefile`.
 
@@ -40,7 +40,7 @@ JOIN = ('fill', 'report')
 
 def length(text: str, key: str) -> float:
     if not IS_NUMBER(text) or not 0 <= float(text) < 1e30:
-        raise Refusal(f'{key}= is a number, 0 or more')
+        raise Refusal(f'{key}= must be a number, 0 or more')
     return float(text)
 
 
@@ -55,7 +55,7 @@ def wanted_of(options: Any) -> tuple[Wanted, list[str]]:
     limits = {'unit': (1, 1000000), 'vote': (1, 65535), 'smooth': (0, 65535)}
     handed = {key: whole(getattr(options, key), key, *ends) for key, ends in limits.items() if getattr(options, key) is not None}
     if options.overlap is not None and options.spacings is not None:
-        raise Refusal('overlap= and spacings= say the same thing: give one of them')
+        raise Refusal('overlap= and spacings= are alternatives: pass one of them')
     points = whole(options.points or '800000', 'points', 20, 1048576)
     through = points // 10 if options.through is None else whole(options.through, 'through', 0, points // 2)
     overlap = None if options.overlap is None else length(options.overlap, 'overlap')

@@ -41,15 +41,15 @@ class All(InFolder):
         says('mesh_to_floats', line, 'in.ply', 'out.ply', 'unit=3', 'origin=500000,0.5,-1')
         equal(read('out.ply').split('end_header\n')[1].splitlines()[1],
               '500033.333333333333333333333333 -32.8333333333333333333333333333 -34.3333333333333333333333333333')
-        refuses('mesh_to_floats', 'unit= is a whole number', 'in.ply', 'out.ply', 'unit=0')
+        refuses('mesh_to_floats', 'unit= must be an integer', 'in.ply', 'out.ply', 'unit=0')
         write('in.ply', MESH[:-4])
-        refuses('mesh_to_floats', 'truncated: the file ends in row 3 of the 4 of face', 'in.ply', 'out.ply')
+        refuses('mesh_to_floats', 'truncated: the file ends in row 3 of face, 4 rows expected', 'in.ply', 'out.ply')
         write('in.ply', head(1, SCAN, 1) + '0 0 0 0\n0 0 9\n')
         refuses('mesh_to_floats', 'not a mesh', 'in.ply', 'out.ply')
         write('in.ply', MESH.replace('property int', 'property double'))
-        refuses('mesh_to_floats', 'floating point already', 'in.ply', 'out.ply', 'unit=1000')
+        refuses('mesh_to_floats', 'floating-point numbers', 'in.ply', 'out.ply', 'unit=1000')
         write('in.ply', MESH)
-        says('mesh_to_floats', line + ', at unit=1, since none is named', 'in.ply', 'out.ply')
+        says('mesh_to_floats', line + ', at unit=1 (the default)', 'in.ply', 'out.ply')
 
     def test_slices_in_the_numbers_of_the_scan(self) -> None:
         line = 'wrote 1 loop of 4 points of in.txt to out.csv'
@@ -66,7 +66,7 @@ class All(InFolder):
         says('contours', 'wrote 0 loops of 0 points of in.txt to out.csv', 'in.txt', 'out.csv')
         refuses('contours', 'nothing to draw', 'in.txt', 'out.svg', out='out.svg')
         spoiled = ((SLICE[:-18], 'truncated: `A X Y D` is missing after line 5'), (SLICE[:-1], 'truncated: line 6'), (MESH, 'line 1 is not'),
-                   (SLICE + '\n', 'line 7 follows'), (SLICE.replace(' 400\n2', ' 0\n2'), 'line 3 is not'),
+                   (SLICE + '\n', 'line 7: unexpected'), (SLICE.replace(' 400\n2', ' 0\n2'), 'line 3 is not'),
                    ('loops 1\n', 'truncated: `loop N` is missing'))
         for text, why in spoiled:
             write('in.txt', text)
@@ -80,9 +80,9 @@ class All(InFolder):
         equal(lines[:4], ['0.05 -0.95 0.3', '0.15 -0.95 0.3', '0.25 -0.95 0.3', '0.05 -0.85 0.3'])
         equal((len(lines), lines[-1]), (30, '0.25 -0.05 0.3'))
         says('grid', 'wrote 8 points to out.txt, 2 by 2 by 2', 'points', 'out.txt', 'from=0,0,0', 'to=1.01,2,1.5', 'side=1')
-        for why, words in (('side= is', ('from=0,0,0', 'to=1,1,1')), ('side= is', ('from=0,0,0', 'to=1,1,1', 'side=-1')),
+        for why, words in (('side= (the side of a cube)', ('from=0,0,0', 'to=1,1,1')), ('side= (the side of a cube)', ('from=0,0,0', 'to=1,1,1', 'side=-1')),
                            ('from= and to=', ('to=1,1,1', 'side=1')), ('from is not X,Y,Z', ('from=0,0', 'to=1,1,1', 'side=1')),
-                           ('not below', ('from=0,1,0', 'to=1,1,1', 'side=1')), ('cubes', ('from=0,0,0', 'to=1,1,1', 'side=0.0098')),
+                           ('must be less', ('from=0,1,0', 'to=1,1,1', 'side=1')), ('cubes', ('from=0,0,0', 'to=1,1,1', 'side=0.0098')),
                            ('cubes', ('from=0,0,0', 'to=1,1,1', 'side=1e-300'))):
             refuses('grid', why, 'points', 'out.txt', *words, out='out.txt')
         says('grid', 'wrote 1048576 points to out.txt, 1024 by 1024 by 1', 'points', 'out.txt', 'from=0,0,0', 'to=1024,1024,1', 'side=1')
@@ -91,11 +91,11 @@ class All(InFolder):
         write('in.txt', 'answers 0\n')
         says('grid', 'read 0 answers of in.txt; inside 0, volume 0', 'volume', 'in.txt', 'side=2')
         spoiled = (('', 'line 1'), ('answers\n', 'line 1'), ('answers 1\n', 'missing after line 1'), ('answers 1\ninside', 'truncated: line 2'),
-                   ('answers 1\nInside\n', 'line 2 is not'), ('answers 1\ninside\noutside\n', 'line 3 follows'), (MESH, 'line 1'))
+                   ('answers 1\nInside\n', 'line 2 is not'), ('answers 1\ninside\noutside\n', 'line 3: unexpected'), (MESH, 'line 1'))
         for text, why in spoiled:
             write('in.txt', text)
             refuses('grid', why, 'volume', 'in.txt', 'side=1')
-        refuses('grid', 'side= is', 'volume', 'in.txt')
+        refuses('grid', 'side= (the side of a cube)', 'volume', 'in.txt')
 
     def test_files_that_are_cut_anywhere_are_refused(self) -> None:
         faces = 'element face 1\nproperty list uchar int vertex_indices'
@@ -157,7 +157,7 @@ class All(InFolder):
         refuses('scan', 'No such file or directory: none', 'none', 'out.ply', 'side=1')
         write('in.ply', head(0, 'float x, float y, float z'))
         equal((call('scan')[0], call('grid', 'area', 'out.txt', 'side=1')[0]), (2, 2))
-        refuses('contours', 'ends in none of .svg, .csv', 'in.ply', 'out.ply')
+        refuses('contours', 'unknown file name extension: use .svg, .csv', 'in.ply', 'out.ply')
         refuses('scan', 'yes or no', 'in.ply', 'out.ply', 'side=1', 'open_end=1')
 
     def test_runs_that_leave_no_point_have_a_status(self) -> None:

@@ -81,7 +81,7 @@ class Hostile(InFolder):
             is_error(f'states {stated} points whose values take no bytes', 'scan', 'in.e57', 'out.ply')
         for stated in (10 ** 18, -1):
             write('in.e57', e57_of(flat(0), [b''] * 3, stated))
-            is_error(f'a station of the E57 has {stated} points', 'scan', 'in.e57', 'out.ply')
+            is_error(f'invalid number of points of a station of the E57: {stated}', 'scan', 'in.e57', 'out.ply')
         write('in.e57', e57_of(flat(1), [b'\1'] * 3, 10 ** 9))
         is_error('truncated', 'scan', 'in.e57', 'out.ply')
         write('in.e57', e57_of(flat(0), [b''] * 3, 1))
@@ -92,9 +92,9 @@ class Hostile(InFolder):
         write('in.e57', e57_of(COLUMNS, [b''] * 5, 1, laughs + XML.replace('{}', '&h;{}')))
         is_error('DOCTYPE', 'scan', 'in.e57', 'out.ply')
         write('in.e57', e57_of(flat(65), [b'\0' * 9] * 3, 1))
-        is_error('over 64 bits', 'scan', 'in.e57', 'out.ply')
+        is_error('more than 64 bits', 'scan', 'in.e57', 'out.ply')
         write('in.e57', e57(6, lambda text: text.replace('maximum="1000"', f'maximum="{"9" * 5000}"')))
-        is_error('the description in the E57 is invalid', 'scan', 'in.e57', 'out.ply')
+        is_error('the XML section of the E57 is invalid', 'scan', 'in.e57', 'out.ply')
 
     def test_packets_of_an_e57_that_are_too_short(self) -> None:
         good = e57_of(flat(8), [b'\1\2'] * 3, 2)
@@ -108,9 +108,9 @@ class Hostile(InFolder):
         write('slice', 'loops 1\nloop 3\n0 1 2 3\n1 4 5 6\n2 7 8 9\n')
         write('mesh.ply', MESH)
         for far in ('1e9999999', '1e99999', '-1e301', '1e-9999999', '1e' + '9' * 50):
-            is_error('far out of range', 'contours', 'slice', 'out.csv', f'origin={far},0,0')
-            is_error('far out of range', 'finish', 'mesh.ply', 'out.ply', f'origin=0,{far},0')
-            is_error('far out of range', 'mesh_to_floats', 'mesh.ply', 'out.ply', f'origin=0,0,{far}')
+            is_error('out of range', 'contours', 'slice', 'out.csv', f'origin={far},0,0')
+            is_error('out of range', 'finish', 'mesh.ply', 'out.ply', f'origin=0,{far},0')
+            is_error('out of range', 'mesh_to_floats', 'mesh.ply', 'out.ply', f'origin=0,0,{far}')
 
     def test_positions_that_are_not_finite(self) -> None:
         write('fused.ply', 'ply\nformat ascii 1.0\nelement vertex 1\nproperty float x\nproperty float y\nproperty float z\nend_header\n1 2 3\n')
@@ -122,7 +122,7 @@ class Hostile(InFolder):
         for place in ('nan 0 0', '0 inf 0', '1 2 x'):
             write('a.pcd', plain.format(place))
             is_error('is not a position', 'scan', 'a.pcd', 'out.ply')
-            is_error('as the position of its scanner, which is none', 'scan', 'a.pcd', 'a.pcd', 'out.ply')
+            is_error('has the invalid scanner position', 'scan', 'a.pcd', 'a.pcd', 'out.ply')
         pose = struct.pack('<I7dI', 4, 1, 0, 0, 0, 0, float('nan'), 0, 1)
         write('images.bin', struct.pack('<Q', 1) + pose + b'a\0' + struct.pack('<Q', 0))
         is_error('is not finite', 'scan', 'fused.ply', 'out.ply', 'images=images.bin')
@@ -165,7 +165,7 @@ class Hostile(InFolder):
 
     def test_a_byte_0_in_a_table(self) -> None:
         write('table', '1 2 3 a\0b\n')
-        is_error('line 1 of table has a byte 0', 'scan', 'out.ply', 'table=table')
+        is_error('line 1 of table contains a NUL byte', 'scan', 'out.ply', 'table=table')
 
     def test_words_of_many_digits(self) -> None:
         write('mesh.ply', MESH)
@@ -176,7 +176,7 @@ class Hostile(InFolder):
                                        ('unit', 'mesh_to_floats', 'mesh.ply', 'out.ply'), ('through', 'tiles', 'split', 'mesh.ply', 'tiles'),
                                        ('points', 'tiles', 'split', 'mesh.ply', 'tiles'), ('vote', 'tiles', 'split', 'mesh.ply', 'tiles')]
         for key, *words in runs:
-            is_error(f'{key}= is a whole number', *words, f'{key}={long}')
+            is_error(f'{key}= must be an integer', *words, f'{key}={long}')
         equal(read('mesh.ply'), MESH)
 
     def test_a_point_too_far_out_for_a_distance(self) -> None:
@@ -193,7 +193,7 @@ class Hostile(InFolder):
             equal(call('scan', 'in', 'out.ply'), (1, '', 'recon-scan: error: vertex row 0: the weight - is not a number\n'))
             for weight in ('1e999999', '1.5', '1e2', '2.'):
                 write('in', head(1, columns, 1) + f'{row}\n0 0 9\n'.replace('-', weight))
-                equal(call('scan', 'in', 'out.ply'), (1, '', f'recon-scan: error: vertex row 0: the weight {weight} is not a whole number\n'))
+                equal(call('scan', 'in', 'out.ply'), (1, '', f'recon-scan: error: vertex row 0: the weight {weight} is not an integer\n'))
 
     def test_names_of_columns_beyond_ascii(self) -> None:
         write('mesh', MESH)

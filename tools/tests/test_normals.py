@@ -29,8 +29,8 @@ class Normals(InFolder):
               '1 1 1 0 nan 1 7\n')
         status, said, error = call('scan', 'in.ply', 'out.ply', 'normals=yes', 'far=0.5')
         equal((status, error), (0, ''))
-        equal('left out 2 not finite, 1 without a normal; wrote 2 points and 2 scanners to out.ply; scanners stand 0.5 off; '
-              'normals are believed' in said, True)
+        equal('left out 2 not finite, 1 without a normal; wrote 2 points and 2 scanners to out.ply; scanners at distance 0.5; '
+              'normals are not checked' in said, True)
         equal(scanners_of('out.ply'), ([['1', '2', '3', '0', '0', '2', '9', '0'], ['7', '8', '9', '-3', '0', '0', '8', '1']],
                                        [(1, 2, 3.5), (6.5, 8, 9)]))
         write('in.xyz', '1 2 3 0 0 2\n\n7.10 8 9 -3 0 0\n')
@@ -53,7 +53,7 @@ class Normals(InFolder):
         write('in.xyz', grid_text(270, 1))
         said = call('scan', 'in.xyz', 'out.ply', 'normals=yes', 'far=4')[1]
         rows, scanners = scanners_of('out.ply')
-        equal((len(rows), len(scanners), said.count('wrote 72900 points and 18225 scanners to out.ply; scanners stand 4 off')), (72900, 18225, 1))
+        equal((len(rows), len(scanners), said.count('wrote 72900 points and 18225 scanners to out.ply; scanners at distance 4')), (72900, 18225, 1))
         far = [abs(float(row[k]) - scanners[int(row[6])][k]) for row in rows for k in (0, 1)]
         equal((max(far), {scanner[2] for scanner in scanners}), (0.5, {4.0}))
         # near scanners are shared too
@@ -67,16 +67,16 @@ class Normals(InFolder):
         write('in.ply', head(1, 'float x, float y, float z') + '1 2 3\n')
         refuses('scan', 'no properties nx, ny and nz', 'in.ply', 'out.ply', 'normals=yes')
         write('in.xyz', '1 2 3 4\n')
-        refuses('scan', 'under six values', 'in.xyz', 'out.ply', 'normals=yes')
+        refuses('scan', 'fewer than six values', 'in.xyz', 'out.ply', 'normals=yes')
         write('in.xyz', '1 2 3 0 0 1\n1 2 3 0 0 1 5\n')
-        refuses('scan', 'line 2 has 7 values where the first has 6', 'in.xyz', 'out.ply', 'normals=yes')
+        refuses('scan', 'line 2 has 7 values, the first line has 6', 'in.xyz', 'out.ply', 'normals=yes')
         write('in.xyz', '1 2 3 0 0 x\n')
         refuses('scan', 'point 0: x is not a number', 'in.xyz', 'out.ply', 'normals=yes')
         write('in.xyz', '1 2 3 0 0 0\n')
-        refuses('scan', 'no point has a normal', 'in.xyz', 'out.ply', 'normals=yes')
+        refuses('scan', 'no point has a finite normal', 'in.xyz', 'out.ply', 'normals=yes')
         write('in.xyz', '1 2 3 0 0 1\n')
         refuses('scan', 'too few points', 'in.xyz', 'out.ply', 'normals=yes')
-        refuses('scan', 'far= is how far off', 'in.xyz', 'out.ply', 'normals=yes', 'far=0')
+        refuses('scan', 'far= (the distance of a scanner from its point)', 'in.xyz', 'out.ply', 'normals=yes', 'far=0')
 
     @unittest.skipUnless(RECON, 'recon is not built here')
     def test_recon_builds_a_ball_of_points_with_normals(self) -> None:
@@ -99,12 +99,12 @@ class Moved(InFolder):
         write('in.xyz', '123456789 -5 1e3\n0 0 7.25\n')
         equal(call('scan', 'in.xyz=1000,0,0', 'out.ply', 'divide=1000', 'origin=1000,0,0')[0], 0)
         equal(scanners_of('out.ply'), ([['123455.789', '-0.005', '1', '0'], ['-1', '0', '0.00725', '0']], [(0, 0, 0)]))
-        refuses('scan', 'divide= is a power of ten', 'in.xyz=1,2,3', 'out.ply', 'divide=3')
+        refuses('scan', 'divide= must be a power of ten', 'in.xyz=1,2,3', 'out.ply', 'divide=3')
 
     def test_surround_outdoors_warns(self) -> None:
         write('in.xyz', grid_text(40, 1).replace(' 0 0 1\n', '\n'))
-        equal('surround= is for rooms, and there are points in' in call('scan', 'in.xyz=20,20,9', 'out.ply', 'surround=3')[1], True)
+        equal('surround= is for scans from inside, and only' in call('scan', 'in.xyz=20,20,9', 'out.ply', 'surround=3')[1], True)
         draw = __import__('random').Random(1)
         rows = [[draw.gauss(0, 1) for _ in range(3)] for _ in range(3000)]
         write('in.xyz', ''.join(' '.join(f'{x / sum(y * y for y in row) ** 0.5:.5f}' for x in row) + '\n' for row in rows))
-        equal('surround= is for rooms' in call('scan', 'in.xyz=0,0,0', 'out.ply', 'surround=3')[1], False)
+        equal('surround= is for scans from inside' in call('scan', 'in.xyz=0,0,0', 'out.ply', 'surround=3')[1], False)

@@ -153,11 +153,11 @@ class OtherFiles(InFolder):
         says('scan', 'read 3 points of 2 files; left out nothing; wrote 3 points and 2 scanners to out.ply', 'in.pcd',
              'more.xyz=4,4,4', 'out.ply')
         equal(read('out.ply').endswith('7 8 9 1\n1 2 3.5\n4 4 4\n'), True)
-        spoiled = ((PCD.replace('ascii', 'zipped'), 'zipped is not read'),
+        spoiled = ((PCD.replace('ascii', 'zipped'), 'unsupported DATA of the PCD: zipped'),
                    (PCD[:-30], 'truncated: line 13, the last one, has no newline'), (PCD.replace(' 5 6', ' 5'), 'point 2 has 5 values'),
                    (PCD.replace('POINTS 3', 'POINTS 4'), 'truncated: the file ends in point 3 of 4'),
-                   (PCD[:150], 'truncated: the file ends in the header'), (PCD + '1 2 3 4 5 6\n', 'something follows'),
-                   (PCD.replace('SIZE 4', 'SIZE 3'), 'the field x of the PCD has a type'),
+                   (PCD[:150], 'truncated: the file ends in the header'), (PCD + '1 2 3 4 5 6\n', 'unexpected data after'),
+                   (PCD.replace('SIZE 4', 'SIZE 3'), 'unsupported type of the field x of the PCD'),
                    (PCD.replace('POINTS 3\n', ''), 'no line POINTS'))
         for text, part in spoiled:
             write('in.pcd', text)
@@ -175,7 +175,7 @@ class OtherFiles(InFolder):
         write('in.pcd', head + struct.pack('<II', len(packed), len(body)) + packed)
         status, said, error = call('scan', 'in.pcd', 'out.ply')
         equal((status, 'left out 1 not finite' in said, error), (0, True, ''))
-        spoiled = ((PACKED[:-1], 'truncated: the file ends in the compressed body'), (PACKED[:4], 'has not the bytes of 10 points'),
+        spoiled = ((PACKED[:-1], 'truncated: the file ends in the compressed body'), (PACKED[:4], 'has the wrong length for 10 points'),
                    (PACKED[:8] + b'\xff' + PACKED[9:], 'is invalid'), (PACKED[:8] + b'\0' + PACKED[9:], 'compressed body'))
         for data, part in spoiled:
             write('in.pcd', COMPRESSED + data)
@@ -201,7 +201,7 @@ class OtherFiles(InFolder):
         write('in.las', las(2, 131, old))
         refuses('scan', 'this is LAZ', 'in.las', 'out.ply')
         write('in.las', las(2, 11, old))
-        refuses('scan', 'the point format 11', 'in.las', 'out.ply')
+        refuses('scan', 'unsupported point format of the LAS: 11', 'in.las', 'out.ply')
 
     def test_e57_and_its_poses(self) -> None:
         write('in.e57', e57(900))
@@ -219,11 +219,11 @@ class OtherFiles(InFolder):
         x, y = map(float, read('out.ply').split('end_header\n')[1].splitlines()[-2].split()[:2])
         equal((x, y), (100 - 899, -899 / 4))
         write('in.e57', e57(900)[:-1024])
-        refuses('scan', 'truncated: the header of the E57 states', 'in.e57', 'out.ply')
+        refuses('scan', 'that the header of the E57 states', 'in.e57', 'out.ply')
         write('in.e57', e57(900, lambda text: text.replace('cartesianX', 'sphericalRange')))
-        refuses('scan', 'spherical ones are not read', 'in.e57', 'out.ply')
+        refuses('scan', 'spherical ones are not supported', 'in.e57', 'out.ply')
         write('in.e57', e57(900, lambda text: text.replace('recordCount="900"', 'recordCount="901"')))
-        refuses('scan', 'station 0 has 900 of its 901 points', 'in.e57', 'out.ply')
+        refuses('scan', 'station 0 has 900 points of 901', 'in.e57', 'out.ply')
         write('in.e57', e57(900, lambda text: text.replace('<data3D', '<data3D<')))
         refuses('scan', 'is invalid', 'in.e57', 'out.ply')
 
@@ -248,7 +248,7 @@ class OtherFiles(InFolder):
     def test_points_of_colmap(self) -> None:
         write('in.ply', binary('<', '\n', [(0.5, 1, 2, 9), (3, 4, 5, 8), (float('nan'), 0, 0, 1)]))
         write('in.ply.vis', struct.pack('<QIIIIII', 3, 2, 1, 0, 0, 1, 1))
-        line = ('read 3 points of in.ply and 2 pictures; left out 1 not finite; wrote 2 points and 2 scanners to out.ply; '
+        line = ('read 3 points of in.ply and 2 images; left out 1 not finite; wrote 2 points and 2 scanners to out.ply; '
                 '2 sights')
         for name, data in (('images.bin', IMAGES_BIN), ('images.txt', IMAGES_TEXT)):
             write(name, data)
@@ -259,15 +259,15 @@ class OtherFiles(InFolder):
             equal(rows[:2], ['0.5 1.0 2.0 9 2 1 0', '3.0 4.0 5.0 8 0'])
             equal([list(map(float, row.split())) for row in rows[2:]], [[0, 0, 10], [-2, -3, -1]])
         write('short.bin', IMAGES_BIN[:-1])
-        refuses('scan', 'truncated: the images end in the points of picture 1', 'in.ply', 'out.ply', 'images=short.bin')
+        refuses('scan', 'truncated: the file of images ends in the points of image 1', 'in.ply', 'out.ply', 'images=short.bin')
         write('short.bin', IMAGES_BIN[:100])
-        refuses('scan', 'truncated: the images end in picture 1', 'in.ply', 'out.ply', 'images=short.bin')
+        refuses('scan', 'truncated: the file of images ends in image 1', 'in.ply', 'out.ply', 'images=short.bin')
         write('in.ply.vis', struct.pack('<QIIIIII', 3, 2, 1, 2, 0, 1, 1))
-        refuses('scan', 'point 0 is seen by picture 2, and there are 2', 'in.ply', 'out.ply', 'images=images.txt')
+        refuses('scan', 'point 0: image index 2 is out of range: images= has 2 images', 'in.ply', 'out.ply', 'images=images.txt')
         write('in.ply.vis', struct.pack('<QIII', 3, 2, 1, 0))
         refuses('scan', 'truncated: fused.ply.vis ends in point 1 of 3', 'in.ply', 'out.ply', 'images=images.txt')
         write('in.ply.vis', struct.pack('<Q', 2))
-        refuses('scan', 'not of the 3 points', 'in.ply', 'out.ply', 'images=images.txt')
+        refuses('scan', 'does not belong to the 3 points', 'in.ply', 'out.ply', 'images=images.txt')
 
     def test_files_that_are_named_and_not_read(self) -> None:
         for data, part in ((b'PK\3\4' + bytes(9), 'zip'), (b'\x1f\x8b' + bytes(9), 'gzip'), (b'\x89HDF\r\n', 'HDF5')):
@@ -279,12 +279,12 @@ class OtherFiles(InFolder):
         refuses('scan', 'line 1 has decimal commas', 'in.xyz=0,0,0', 'out.ply')
         write('in.xyz', '1 2 3\n')
         refuses('scan', 'is not a PLY, PCD, LAS, E57 or PTX', 'in.xyz', 'out.ply')
-        refuses('scan', 'in.xyz does not say where its scanner stood', 'in.xyz', 'in.xyz=0,0,0', 'out.ply')
-        refuses('scan', 'a=b is not an option', 'a=b', 'out.ply')
-        refuses('scan', 'index= does not go with files of stations', 'in.xyz=0,0,0', 'out.ply', 'index=a')
-        refuses('scan', 'far= goes with normals=yes', 'in.xyz', 'out.ply', 'far=1')
+        refuses('scan', 'in.xyz has no scanner position: pass in.xyz=X,Y,Z', 'in.xyz', 'in.xyz=0,0,0', 'out.ply')
+        refuses('scan', 'a=b is neither an option', 'a=b', 'out.ply')
+        refuses('scan', 'index= cannot be used with files of stations', 'in.xyz=0,0,0', 'out.ply', 'index=a')
+        refuses('scan', 'far= requires normals=yes', 'in.xyz', 'out.ply', 'far=1')
         write('in.ply', binary('<', '\n', [(1, 2, 3, 4)]))
-        refuses('scan', 'in.ply does not say where its scanner stood', 'in.ply', 'in.xyz=0,0,0', 'out.ply')
+        refuses('scan', 'in.ply has no scanner position: pass in.ply=X,Y,Z', 'in.ply', 'in.xyz=0,0,0', 'out.ply')
 
     def test_changed_files_of_other_programs_are_taken_or_refused(self) -> None:
         draw, taken = random.Random(3), 0

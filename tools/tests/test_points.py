@@ -70,10 +70,10 @@ class Points(InFolder):
             says('scan', line, 'in.ply', 'out.ply', 'positions=table', *words)
             holds('out.ply', head(2, 'float x, float y, float z, int scanner', 2) + table)
         write('one', '0 0 5\n')
-        refuses('scan', 'there is no scanner 1 among 1', 'in.ply', 'out.ply', 'positions=one', 'index=pointsourceid')
+        refuses('scan', 'scanner index 1 is out of range (number of scanners: 1)', 'in.ply', 'out.ply', 'positions=one', 'index=pointsourceid')
         refuses('scan', 'vertex has no property station; it has x, y, z, PointSourceId', 'in.ply', 'out.ply',
                 'index=station')
-        refuses('scan', 'name the one that numbers the scanners by index=', 'in.ply', 'out.ply', 'positions=table')
+        refuses('scan', 'pass the name of the property with the scanner index as index=', 'in.ply', 'out.ply', 'positions=table')
         write('table', '1 2\n')
         refuses('scan', 'line 1 of table is not X Y Z', 'in.ply', 'out.ply', 'positions=table')
 
@@ -95,7 +95,7 @@ class Points(InFolder):
              'out.ply', 'origin=500000,4000000.10,0')
         holds('out.ply', head(1, 'float x, float y, float z, int scanner', 2) + '1.125 1.9 2 1\n0.25 -0.1 1\n0.5 0.9 -1\n')
         write('table', '0 0 0\n')
-        refuses('scan', 'positions= is one too many', 'in.ply', 'out.ply', 'positions=table')
+        refuses('scan', 'positions= cannot be used with a file that has an element scanner', 'in.ply', 'out.ply', 'positions=table')
         write('in.ply', read('in.ply').replace('500000.5 ', 'nan '))
         refuses('scan', 'scanner row 1: nan 4000001 -1 is not a position', 'in.ply', 'out.ply')
 
@@ -115,7 +115,7 @@ class Points(InFolder):
                                ('element vertex 1', 'element vertex 4294967296', 'line 3'), ('float y', 'list float int y', 'line 5'),
                                ('float y', 'list uchar float y', 'list'), ('element vertex', 'element point', 'no element vertex'),
                                ('property float z\n', '', 'no property z'), ('end_header', 'comment ' + 'c' * 1100, 'too long'),
-                               ('end_header', 'comment\n' * 1000 + 'end_header', 'over 1000 lines')):
+                               ('end_header', 'comment\n' * 1000 + 'end_header', 'more than 1000 lines')):
             write('in.ply', whole.replace(old, new, 1))
             refuses('scan', part, 'in.ply', 'out.ply')
         for old, new, part in (('1 2 3', '1 two 3', 'vertex row 0: two is not a number'), ('3\n', '3\n4\n', 'after the last row'),
@@ -125,16 +125,16 @@ class Points(InFolder):
 
     def test_numbers_far_out_of_range(self) -> None:
         write('in.ply', head(1, 'float x, float y, float z') + '1e400 0 0\n')
-        refuses('scan', 'far out of range', 'in.ply', 'out.ply', 'side=1')
+        refuses('scan', 'out of range', 'in.ply', 'out.ply', 'side=1')
         write('table', '0 0 0\n')
-        refuses('scan', 'far out of range', 'in.ply', 'out.ply', 'surround=1', 'positions=table')
+        refuses('scan', 'out of range', 'in.ply', 'out.ply', 'surround=1', 'positions=table')
         write('in.ply', head(1, 'float x, float y, float z') + '1e9999999 0 0\n')
-        refuses('scan', 'far out of range', 'in.ply', 'out.ply', 'origin=1,0,0')
+        refuses('scan', 'out of range', 'in.ply', 'out.ply', 'origin=1,0,0')
         write('in.ply', head(1, 'float x, float y, float z')[:-11] + 'element face 1\nproperty list int int a\nend_header\n1 2 3\n'
               + '9' * 9000 + ' 1\n')
-        refuses('scan', 'row 0 of face has the count 9999', 'in.ply', 'out.ply')
+        refuses('scan', 'row 0 of face: invalid list count 9999', 'in.ply', 'out.ply')
         write('in.ply', head(1, SCAN, 1) + '1 2 3 ' + '9' * 9000 + '\n0 0 9\n')
-        refuses('scan', 'not a number of a scanner', 'in.ply', 'out.ply')
+        refuses('scan', 'not a scanner index', 'in.ply', 'out.ply')
 
     def test_what_follows_the_last_row_is_refused(self) -> None:
         write('in.ply', binary('<', '\n', POINTS[:1], extra=b'x'))
@@ -156,12 +156,12 @@ class Points(InFolder):
 
     def test_thin_keeps_the_first_point_of_a_cube(self) -> None:
         write('in.ply', head(7, SCAN, 1) + '0.9 0 0 0\n0 0.5 0 0\n-0.1 0 0 0\n1 0 0 0\n-0.9 0.9 0.9 0\n1 0 1.5 0\ninf 0 0 0\n0 0 9\n')
-        says('scan', 'read 7 points of in.ply; left out 1 not finite, 2 in a cube that has one; wrote 4 points and 1 scanner to '
+        says('scan', 'read 7 points of in.ply; left out 1 not finite, 2 in a cube that already has a point; wrote 4 points and 1 scanner to '
              'out.ply', 'in.ply', 'out.ply', 'side=1')
         holds('out.ply', head(4, SCAN, 1) + '0.9 0 0 0\n-0.1 0 0 0\n1 0 0 0\n1 0 1.5 0\n0 0 9\n')
         for side in ('0', '-1', 'x', '1e999'):
             refuses('scan', 'side=', 'in.ply', 'out.ply', 'side=' + side)
-        refuses('scan', 'take a larger side', 'in.ply', 'out.ply', 'side=0.0000001')
+        refuses('scan', 'use a larger side', 'in.ply', 'out.ply', 'side=0.0000001')
 
     def test_cubes_are_a_set(self) -> None:
         cubes = Cubes()
@@ -185,10 +185,10 @@ class Points(InFolder):
         holds('out.ply', head(10, 'float x, float y, float z, uchar red, int scanner', 9) + '0.5 0 0 9 0\n1 2 -3 8 0\n'
               + ''.join(f'{corner} 0 {k + 1}\n' for k, corner in enumerate(corners)) + '0.1 0.2 0.30\n'
               + ''.join(place + '\n' for place in places))
-        refuses('scan', 'names no scanners', 'in.ply', 'out.ply', 'surround=1')
-        refuses('scan', 'surround= is how far', 'in.ply', 'out.ply', 'surround=0', 'positions=table')
+        refuses('scan', 'no scanner positions in the file', 'in.ply', 'out.ply', 'surround=1')
+        refuses('scan', 'surround= (the distance', 'in.ply', 'out.ply', 'surround=0', 'positions=table')
         write('in.ply', head(0, 'float x, float y, float z'))
-        refuses('scan', 'there is no point', 'in.ply', 'out.ply', 'surround=1', 'positions=table')
+        refuses('scan', 'no points', 'in.ply', 'out.ply', 'surround=1', 'positions=table')
 
     def test_options_go_together_with_every_kind_of_file(self) -> None:
         given = ('from=0,0,0', 'to=9,9,9', 'side=1', 'origin=1,0,0', 'surround=1')
@@ -198,7 +198,7 @@ class Points(InFolder):
               + '3 2 0 1 0\n3.5 2.5 0.5 2 0 0\n6 3 3 0\n10 0 0 1 0\n0 0 5\n')
         for name, one, other in (('a.xyz=0,0,5', '0', '0'), ('a.ptx', '0', '0'), ('in.ply', '1 0', '0')):
             status, said, error = call('scan', name, 'out.ply', *given)
-            equal((status, error, 'left out 1 outside the box, 1 in a cube that has one; wrote 10 points and 9 scanners' in said), (0, '', True))
+            equal((status, error, 'left out 1 outside the box, 1 in a cube that already has a point; wrote 10 points and 9 scanners' in said), (0, '', True))
             rows = read('out.ply').split('end_header\n')[1].splitlines()
             equal((rows[:2], rows[10]), ([f'2 2 0 {one}', f'5 3 3 {other}'], '-1 0 5'))
             corner = '1 1' if name == 'in.ply' else '1'
@@ -206,12 +206,12 @@ class Points(InFolder):
 
     def test_a_file_may_be_written_over_itself(self) -> None:
         write('in.ply', head(2, 'float x, float y, float z') + '1 2 3\n1 2 3\n')
-        says('scan', 'read 2 points of in.ply; left out 1 in a cube that has one; wrote 1 point to in.ply', 'in.ply', 'in.ply',
+        says('scan', 'read 2 points of in.ply; left out 1 in a cube that already has a point; wrote 1 point to in.ply', 'in.ply', 'in.ply',
              'side=1')
         holds('in.ply', head(1, 'float x, float y, float z') + '1 2 3\n')
 
     def test_surround_says_where_the_walls_become_thin(self) -> None:
         write('in.ply', head(27, SCAN, 1) + ''.join(f'{x} {y} {z} 0\n' for x in (0, 3, 6) for y in (0, 3, 6) for z in (0, 3, 6)) + '0 0 9\n')
-        for by, part in (('1', '; surround=1 is less than the points are apart, about 2.83: the walls become that thin'), ('3', '')):
+        for by, part in (('1', '; surround=1 is less than the spacing of the points, about 2.83: walls become only that thick'), ('3', '')):
             said = call('scan', 'in.ply', 'out.ply', f'surround={by}')[1]
             equal(said.split('to out.ply')[1], part + '\n')

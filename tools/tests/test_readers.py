@@ -120,12 +120,12 @@ class Viewpoints(InFolder):
 
     def test_too_many_places(self) -> None:
         write('in.pcd', viewed('binary', [(k, 0, 0, k, 0, 0, 0) for k in range(65537)]))
-        refuses('scan', 'the points were seen from over 65536 places', 'in.pcd', 'out.ply')
+        refuses('scan', 'more than 65536 scanner positions', 'in.pcd', 'out.ply')
 
     def test_viewpoints_that_nobody_knew(self) -> None:
         for name in 'ab':
             write(f'{name}.pcd', PLAIN.format('0 0 0'))
-        refuses('scan', 'is 0 0 0 in all 2 files, which PCL writes as VIEWPOINT where it knows none: name the positions, as a.pcd=X,Y,Z',
+        refuses('scan', 'is 0 0 0 in all 2 files, which PCL writes as VIEWPOINT if it is unknown: pass the positions, for example a.pcd=X,Y,Z',
                 'a.pcd', 'b.pcd', 'out.ply')
         equal(call('scan', 'a.pcd', 'out.ply')[0], 0)
         equal(call('scan', 'a.pcd=1,2,3', 'b.pcd=0,0,0', 'out.ply')[0], 0)
@@ -145,7 +145,7 @@ class Models(InFolder):
         write('binary/images.bin', images_bin())
         for name, end in (('text/points3D.txt', ''), ('binary/points3D.bin', '.0')):
             for given, more in ((name, []), (os.path.dirname(name), []), (name, ['images=' + name.replace('points3D', 'images')])):
-                says('scan', f'read 3 points of {name} and 2 pictures; left out 1 seen by no picture; wrote 2 points and 2 scanners to '
+                says('scan', f'read 3 points of {name} and 2 images; left out 1 seen by no image; wrote 2 points and 2 scanners to '
                      'out.ply; 3 sights', given, 'out.ply', *more)
                 holds('out.ply', head(2, SPARSE, 2) + f'1.5 2{end} 3{end} 10 20 30 2 0 1\n4{end} 5{end} 6{end} 255 0 1 1 1\n'
                       '-0.0 -0.0 10.0\n1.0 2.0 3.0\n')
@@ -167,8 +167,8 @@ class Models(InFolder):
             write('points3D.txt', row + '\n')
             error_of('scan', 'points3D.txt', 'out.ply')
         write('points3D.bin', whole)
-        refuses('scan', 'far= goes with', 'points3D.bin', 'out.ply', 'far=1')
-        refuses('scan', 'index= does not go with', 'points3D.bin', 'out.ply', 'index=a')
+        refuses('scan', 'far= requires', 'points3D.bin', 'out.ply', 'far=1')
+        refuses('scan', 'index= cannot be used with', 'points3D.bin', 'out.ply', 'index=a')
         refuses('scan', 'No such file', 'points3D.bin', 'out.ply', 'images=none.bin')
 
     def test_colors_come_back_from_scans_with_lists(self) -> None:
@@ -208,7 +208,7 @@ class Packages(InFolder):
         write('in.laz', self.packed)
         refuses('scan', 'this is LAZ, compressed LAS: install laspy and lazrs, or uncompress it by LAStools or PDAL', 'in.laz=1,1,1', 'out.ply')
         write('in.e57', e57_of(SPHERICAL, [b'\0' * 8] * 3, 1))
-        refuses('scan', 'spherical ones are not read; where pye57 is installed it is', 'in.e57', 'out.ply')
+        refuses('scan', 'spherical ones are not supported: install pye57 to read it', 'in.e57', 'out.ply')
 
     def test_laz_by_laspy(self) -> None:
         write('laspy.py', LASPY)
@@ -243,7 +243,7 @@ class Flights(InFolder):
 
     def test_a_position_above_the_points(self) -> None:
         self.airborne()
-        said = ('read 5 points of in.las; left out nothing; wrote 5 points and 1 scanner to out.ply; the position of the scanner is made up: 3 '
+        said = ('read 5 points of in.las; left out nothing; wrote 5 points and 1 scanner to out.ply; synthesised scanner position: 3 '
                 'widths above the middle of the points')
         says('scan', said, 'in.las', 'out.ply', 'above=yes')
         lines = read('out.ply').splitlines()
@@ -277,17 +277,17 @@ class Flights(InFolder):
         write('a.xyz', '0 0 0\n10 0 1\n')
         write('scanned.ply', head(1, 'double x, double y, double z, int scanner', 1) + '1 2 3 0\n1 1 1\n')
         for text, part in (('1 2 3\n', 'line 1 of flight.txt is not TIME X Y Z'), ('1 2 3 nan\n', 'is not TIME X Y Z'),
-                           ('1 2 3 1e999\n', 'is not TIME X Y Z'), ('1 2 3 4\n1 2 3 4\n', 'line 2 of flight.txt is not later'),
-                           ('1 2 3 4\n', 'under two lines')):
+                           ('1 2 3 1e999\n', 'is not TIME X Y Z'), ('1 2 3 4\n1 2 3 4\n', 'line 2 of flight.txt: the time is not later'),
+                           ('1 2 3 4\n', 'fewer than two lines')):
             write('flight.txt', text)
             refuses('scan', part, 'in.las', 'out.ply', 'flight=flight.txt')
         write('flight.txt', '1 2 3 4\n2 3 4 5\n')
-        refuses('scan', 'above is yes or no', 'in.las', 'out.ply', 'above=5')
-        refuses('scan', 'give one of them', 'in.las', 'out.ply', 'above=yes', 'flight=flight.txt')
-        refuses('scan', 'flight= goes with one LAS or PLY', 'a.xyz', 'out.ply', 'flight=flight.txt')
-        refuses('scan', 'flight= goes with one LAS or PLY', 'in.las', 'in.las', 'out.ply', 'flight=flight.txt')
-        refuses('scan', 'index= does not go with', 'in.las', 'out.ply', 'above=yes', 'index=scanner')
-        refuses('scan', 'the file says itself', 'scanned.ply', 'out.ply', 'above=yes')
+        refuses('scan', 'above= must be yes or no', 'in.las', 'out.ply', 'above=5')
+        refuses('scan', 'pass one of them', 'in.las', 'out.ply', 'above=yes', 'flight=flight.txt')
+        refuses('scan', 'flight= requires a single LAS or PLY', 'a.xyz', 'out.ply', 'flight=flight.txt')
+        refuses('scan', 'flight= requires a single LAS or PLY', 'in.las', 'in.las', 'out.ply', 'flight=flight.txt')
+        refuses('scan', 'index= cannot be used with', 'in.las', 'out.ply', 'above=yes', 'index=scanner')
+        refuses('scan', 'are for files without scanner positions', 'scanned.ply', 'out.ply', 'above=yes')
         write('plain.ply', head(1, 'double x, double y, double z') + '1 2 3\n')
         refuses('scan', 'the points have no times', 'plain.ply', 'out.ply', 'flight=flight.txt')
         write('late.txt', '100 2 3 4\n200 3 4 5\n')

@@ -83,8 +83,8 @@ class Stations(InFolder):
             equal(call('scan', 'in.ptx', 'out.ply', *words)[0], 0)
             equal(read('out.ply').splitlines()[-1], wanted)
         write('in.ptx', station('1 2 3', '4 5 6'))
-        refuses('scan', 'choose one by position=', 'in.ptx', 'out.ply')
-        refuses('scan', 'position= is header or matrix', 'in.ptx', 'out.ply', 'position=x')
+        refuses('scan', 'choose one with position=', 'in.ptx', 'out.ply')
+        refuses('scan', 'position= must be header or matrix', 'in.ptx', 'out.ply', 'position=x')
 
     def test_ptx_files_that_are_refused(self) -> None:
         for old, new, part in (('1\n1\n0 0 5', '1\n0 0 5', 'line 16 is not the number'), ('1\n1\n0 0 5', 'x\n1\n0 0 5', 'line 15 is not'),
@@ -113,10 +113,10 @@ class Stations(InFolder):
         holds('out.ply', head(6, SCAN, 5) + rows)
 
     def test_files_of_stations_that_are_refused(self) -> None:
-        for text, part in (('1 2\n', 'line 1 has 2 values, and a point has three'),
-                           ('1 2 3\n4 5\n', 'line 2 has 2 values where the first row has 3'), ('1 2 3\n4 5 6 7\n', 'line 2 has 4'),
+        for text, part in (('1 2\n', 'line 1 has 2 values, a point has three'),
+                           ('1 2 3\n4 5\n', 'line 2 has 2 values, the first row has 3'), ('1 2 3\n4 5 6 7\n', 'line 2 has 4'),
                            ('1 2 3\nx y z\n', 'line 2: x is not a number'), ('1;2,5;3\n', '2,5 is not a number'),
-                           ('2\n1 2 3\n', 'row 1 of 2'), ('1\n1 2 3\n4 5 6\n', 'line 3'), ('2\n2\n0 0 0\n', 'this is a PTX'),
+                           ('2\n1 2 3\n', 'row 1 of 2'), ('1\n1 2 3\n4 5 6\n', 'line 3'), ('2\n2\n0 0 0\n', 'a PTX has its own scanner positions'),
                            ('x y z\na b c\n', 'line 2: a is not a number'), ('1 2 3\n' + '4' * 5000, 'too long')):
             write('a.xyz', text)
             refuses('scan', 'a.xyz: ', 'a.xyz=0,0,0', 'out.ply')
@@ -125,4 +125,4 @@ class Stations(InFolder):
         refuses('scan', 'No such file', 'none.xyz=0,0,0', 'out.ply')
         write('table', '# none\n')
         refuses('scan', 'no station', 'out.ply', 'table=table')
-        refuses('scan', 'no file is named', 'out.ply')
+        refuses('scan', 'no input file', 'out.ply')

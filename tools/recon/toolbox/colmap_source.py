@@ -27,13 +27,13 @@ Picture = Tuple[int, List[float]]
 def place_of(turn: Sequence[float], shift: Sequence[float]) -> list[float]:
     """Returns where a camera stands, of its turn (a quaternion, w first) and its shift, which bring the world into its frame."""
     if not all(map(isfinite, (*turn, *shift))):
-        raise Refusal('the pose of a picture is not finite')
+        raise Refusal('the pose of an image is not finite')
     rows = turn_of(*turn)
     if rows is None:
-        raise Refusal('the turn of a picture is 0 0 0 0')
+        raise Refusal('the rotation of an image is 0 0 0 0')
     place = [-sum(rows[k][axis] * shift[k] for k in range(3)) for axis in range(3)]
     if not all(map(isfinite, place)):
-        raise Refusal('the position of a picture is not finite')
+        raise Refusal('the position of an image is not finite')
     return place
 
 
@@ -66,14 +66,14 @@ def binary_pictures(file: BinaryIO) -> Iterator[Picture]:
             while not name.endswith(b'\0'):
                 byte = file.read(1)
                 if not byte or len(name) > LONGEST:
-                    raise Refusal('truncated: the images end in the name of a picture')
+                    raise Refusal(f'truncated: the file of images ends in the name of image {row}')
                 name += byte
             count, = struct.unpack('<Q', file.read(8))
             if file.tell() + 24 * count > length:
-                raise Refusal(f'truncated: the images end in the points of picture {row}')
+                raise Refusal(f'truncated: the file of images ends in the points of image {row}')
             file.seek(24 * count, os.SEEK_CUR)
     except struct.error:
-        raise Refusal(f'truncated: the images end in picture {row}') from None
+        raise Refusal(f'truncated: the file of images ends in image {row}') from None
 
 
 def read_pictures(path: str) -> list[Picture]:
@@ -81,7 +81,7 @@ def read_pictures(path: str) -> list[Picture]:
     with open(path, 'rb') as file:
         found = list(islice(binary_pictures(file) if path.endswith('.bin') else text_pictures(file), SCANNER_LIMIT + 1))
     if not found or len(found) > SCANNER_LIMIT:
-        raise Refusal(f'{path} has no pictures' if not found else f'{path} has over {SCANNER_LIMIT} pictures')
+        raise Refusal(f'{path} has no images' if not found else f'{path} has more than {SCANNER_LIMIT} images')
     return found
 
 
@@ -89,7 +89,7 @@ def seen_by(file: BinaryIO, count: int, limit: int) -> Iterator[tuple[int, ...]]
     """For each point the numbers of its pictures."""
     head = file.read(8)
     if len(head) < 8 or struct.unpack('<Q', head)[0] != count:
-        raise Refusal(f'fused.ply.vis is not of the {count} points of fused.ply')
+        raise Refusal(f'fused.ply.vis does not belong to the {count} points of fused.ply')
     for row in range(count):
         head = file.read(4)
         size = struct.unpack('<I', head)[0] if len(head) == 4 else 0
@@ -98,7 +98,7 @@ def seen_by(file: BinaryIO, count: int, limit: int) -> Iterator[tuple[int, ...]]
             raise Refusal(f'truncated: fused.ply.vis ends in point {row} of {count}')
         numbers = struct.unpack(f'<{size}I', data)
         if any(number >= limit for number in numbers):
-            raise Refusal(f'point {row} is seen by picture {max(numbers)}, and there are {limit}: are these its images?')
+            raise Refusal(f'point {row}: image index {max(numbers)} is out of range: images= has {limit} images')
         yield numbers
 
 
@@ -119,7 +119,7 @@ class Colmap(Source):
         self.positions = [list(map(repr, place)) for place in self.places]
 
     def read(self) -> str:
-        return f'{super().read()} and {number_of(len(self.places), "picture")}'
+        return f'{super().read()} and {number_of(len(self.places), "image")}'
 
     def remark(self) -> str:
         return f'; {number_of(self.sights, "sight")}'
@@ -164,12 +164,12 @@ def binary_tracks(file: BinaryIO) -> Iterator[Track]:
         for row in range(struct.unpack('<Q', file.read(8))[0]):
             _, x, y, z, red, green, blue, _, count = struct.unpack('<Q3d3BdQ', file.read(51))
             if count > TRACK_LIMIT or file.tell() + 8 * count > length:
-                raise Refusal(f'truncated: the points end in the track of point {row}')
+                raise Refusal(f'truncated: the file of points ends in the track of point {row}')
             yield list(map(repr, (x, y, z, red, green, blue))), list(struct.unpack(f'<{2 * count}I', file.read(8 * count))[::2])
     except struct.error:
-        raise Refusal(f'truncated: the points end in point {row}') from None
+        raise Refusal(f'truncated: the file of points ends in point {row}') from None
     if file.read(1):
-        raise Refusal('after the last point something follows')
+        raise Refusal('unexpected data after the last point')
 
 
 def text_tracks(file: BinaryIO) -> Iterator[Track]:
@@ -198,11 +198,11 @@ class Sparse(Source):
         self.number = {identity: row for row, (identity, _) in enumerate(pictures)}
         columns = [Property(axis, 'double') for axis in 'xyz'] + [Property(color, 'uchar') for color in ('red', 'green', 'blue')]
         super().__init__(columns + [Property('scanner', 'int', 'uint')], path)
-        self.scanner, self.counts['seen by no picture'] = 6, 0
+        self.scanner, self.counts['seen by no image'] = 6, 0
         self.positions = [list(map(repr, place)) for _, place in pictures]
 
     def read(self) -> str:
-        return f'{super().read()} and {number_of(len(self.positions), "picture")}'
+        return f'{super().read()} and {number_of(len(self.positions), "image")}'
 
     def remark(self) -> str:
         return f'; {number_of(self.sights, "sight")}'
@@ -212,7 +212,7 @@ class Sparse(Source):
         try:
             return sorted({self.number[identity] for identity in track})
         except KeyError as missing:
-            raise Refusal(f'point {self.count - 1} is seen by picture {missing}, which is not in {self.images}') from None
+            raise Refusal(f'point {self.count - 1} is seen by image {missing}, which is not in {self.images}') from None
 
     def run(self, receiver: Passage) -> None:
         def place() -> str:
@@ -226,7 +226,7 @@ class Sparse(Source):
                 if not decimals(words[0], words[1], words[2], place):
                     self.counts['not finite'] += 1
                 elif not seen:
-                    self.counts['seen by no picture'] += 1
+                    self.counts['seen by no image'] += 1
                 elif receiver.takes(words):
                     receiver.put(words + [' '.join(map(str, [len(seen), *seen]))])
                     self.sights += len(seen)

@@ -43,9 +43,9 @@ class Column:
             self.scale, self.start = float(node.get('scale', 1)), float(node.get('offset', 0))
             self.is_scaled = kind == 'ScaledInteger'
         else:
-            raise NotRead(f'a column of the E57 has the type {kind}, which is not read')
+            raise NotRead(f'unsupported type of a column of the E57: {kind}')
         if self.bits > MOST_BITS:
-            raise Refusal(f'a column of the E57 has values of over {MOST_BITS} bits')
+            raise Refusal(f'a column of the E57 has values of more than {MOST_BITS} bits')
 
     def count(self, limit: int) -> int:
         """Returns how many values are there, or the limit where a value takes no bits."""
@@ -74,7 +74,7 @@ class PlainTree(ElementTree.TreeBuilder):
     """Builds the tree of a description, in which nothing is defined that could make it grow."""
 
     def doctype(self, *_: str | None) -> None:
-        raise Refusal('the description in the E57 has a DOCTYPE, which is not read')
+        raise Refusal('the XML section of the E57 has a DOCTYPE, which is not supported')
 
 
 class Station:
@@ -86,16 +86,16 @@ class Station:
         self.names = [child.tag for child in points.find('prototype')]
         self.nodes = list(points.find('prototype'))
         if not 0 <= self.count <= ROW_LIMIT:
-            raise Refusal(f'a station of the E57 has {str(self.count)[:20]} points')
+            raise Refusal(f'invalid number of points of a station of the E57: {str(self.count)[:20]}')
         if self.count > 1 and not any(column.bits for column in self.columns()):
             raise Refusal(f'a station of the E57 states {self.count} points whose values take no bytes')
         if any(name not in self.names for name in PLACE):
-            raise NotRead('a station of the E57 has no cartesian coordinates, and spherical ones are not read')
+            raise NotRead('a station of the E57 has no cartesian coordinates, and spherical ones are not supported')
         if any(list(codec) for codec in points.findall('codecs')):
-            raise NotRead('a station of the E57 is packed by a codec of its own, which is not read')
+            raise NotRead('a station of the E57 is compressed by a codec, which is not supported')
         turn = turn_of(*(self.part(node, 'rotation', axis, axis == 'w') for axis in 'wxyz'))
         if turn is None:
-            raise Refusal('the turn of a station of the E57 is 0 0 0 0')
+            raise Refusal('the rotation of a station of the E57 is 0 0 0 0')
         self.turn = turn
         self.place = tuple(self.part(node, 'translation', axis, 0) for axis in 'xyz')
 
@@ -124,13 +124,13 @@ class E57Reader(FileReader):
         if not 64 <= self.page <= 1 << 20 or xml_length > XML_LIMIT:
             raise Refusal('the header of the E57 is invalid')
         if self.file.seek(0, 2) < max(length, xml_length):
-            raise Refusal(f'truncated: the header of the E57 states {max(length, xml_length)} bytes, and there are fewer')
+            raise Refusal(f'truncated: the file has fewer than the {max(length, xml_length)} bytes that the header of the E57 states')
         try:
             self.stations = self.stations_of(self.read(self.logical(offset), xml_length))
         except (ElementTree.ParseError, AttributeError, TypeError, ValueError) as error:
-            raise Refusal(f'the description in the E57 is invalid: {error}') from None
+            raise Refusal(f'the XML section of the E57 is invalid: {error}') from None
         if len(self.stations) > SCANNER_LIMIT:
-            raise Refusal(f'there are over {SCANNER_LIMIT} stations')
+            raise Refusal(f'more than {SCANNER_LIMIT} stations')
         more = [name for name in MORE if self.stations and all(name in station.names for station in self.stations)]
         properties = [Property(axis, 'double') for axis in 'xyz'] + [Property(*MORE[name]) for name in more]
         self.more, count = more, sum(station.count for station in self.stations)
@@ -188,7 +188,7 @@ class E57Reader(FileReader):
                     yield [*point, *(repr(row[k]) for k in more), number]
             done += ready
         if done < station.count:
-            raise Refusal(f'truncated: station {number} has {done} of its {station.count} points')
+            raise Refusal(f'truncated: station {number} has {done} points of {station.count}')
 
     def packets(self, station: Station) -> Iterator[list[bytes]]:
         """Yields the bytes of each column in each packet of a station."""
@@ -196,14 +196,14 @@ class E57Reader(FileReader):
         kind, length, data = struct.unpack('<B7xQQ', self.read(at, 24))
         end, at = at + length, self.logical(data)
         if kind != 1:
-            raise Refusal('the points of a station of the E57 are not where they should be')
+            raise Refusal('the header of the points of a station of the E57 is invalid')
         while at + 6 <= end:
             kind, size, count = struct.unpack('<BxHH', self.read(at, 6))
             if size < LEAST_PACKET - 1:
                 raise Refusal('a packet of the E57 is shorter than its header')
             if kind == 1:
                 if count != len(station.nodes):
-                    raise Refusal('a packet of the E57 has not as many columns as its station')
+                    raise Refusal(f'a packet of the E57 has {count} columns, its station {len(station.nodes)}')
                 if size + 1 < 6 + 2 * count:
                     raise Refusal('a packet of the E57 is shorter than its header')
                 packet = self.read(at, size + 1)

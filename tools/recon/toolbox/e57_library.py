@@ -23,7 +23,7 @@ def open_e57(path: str) -> FileReader:
         return E57Reader(path)
     except NotRead as refusal:
         if find_spec('pye57') is None:
-            raise Refusal(f'{refusal}; where pye57 is installed it is') from None
+            raise Refusal(f'{refusal}: install pye57 to read it') from None
         return LibraryReader(path)
 
 
@@ -46,7 +46,7 @@ class LibraryReader(FileReader):
         except Exception as error:
             raise refusal_of(error) from None
         if len(headers) > SCANNER_LIMIT:
-            raise Refusal(f'there are over {SCANNER_LIMIT} stations')
+            raise Refusal(f'more than {SCANNER_LIMIT} stations')
         properties = [Property(axis, 'double') for axis in 'xyz'] + [Property(*MORE[name]) for name in self.more]
         self.elements = [Element('vertex', sum(self.counts), properties + [Property('scanner', 'int')]),
                          Element('scanner', len(headers), [Property(axis, 'double') for axis in 'xyz'])]
@@ -77,5 +77,5 @@ class LibraryReader(FileReader):
         except Exception as error:
             raise refusal_of(error) from None
         if len({len(column) for column in columns}) != 1:
-            raise Refusal(f'pye57 read columns of station {number} that are not of one length')
+            raise Refusal(f'pye57 read columns of different lengths for station {number}')
         return columns

@@ -27,7 +27,7 @@ class Flight:
         self.read(path)
         step = -(-len(self.times) // SCANNER_LIMIT)
         if len(self.times) < 2:
-            raise Refusal(f'{path} has under two lines TIME X Y Z')
+            raise Refusal(f'{path} has fewer than two lines TIME X Y Z')
         self.times, self.places = self.times[::step], self.places[::step]
         self.parts = min(FINEST, max(1, SCANNER_LIMIT // len(self.times)))
         self.numbers: dict[int, str] = {}
@@ -43,7 +43,7 @@ class Flight:
                 if len(values) < 4 or not all(abs(value) < FARTHEST for value in values):
                     raise Refusal(f'line {number} of {path} is not TIME X Y Z')
                 if self.times and values[0] <= self.times[-1]:
-                    raise Refusal(f'line {number} of {path} is not later than the one before')
+                    raise Refusal(f'line {number} of {path}: the time is not later than that of the line before')
                 self.times.append(values[0])
                 self.places.append(values[1:])
 
@@ -75,8 +75,8 @@ class Above:
         wide = max(high[0] - low[0], high[1] - low[1])
         place = [(low[0] + high[0]) / 2, (low[1] + high[1]) / 2, high[2] + WIDTHS * wide] if self.box.count else [0.0] * 3
         if not all(map(isfinite, place)):
-            raise Refusal('a coordinate is far out of range')
+            raise Refusal('a coordinate is out of range')
         return [format(x, '.12g') for x in place]
 
     def remark(self) -> str:
-        return '; the position of the scanner is made up: 3 widths above the middle of the points'
+        return '; synthesised scanner position: 3 widths above the middle of the points'

@@ -34,7 +34,7 @@ class NumberList:
         finally:
             lines.close()
         if self.width < 6:
-            raise Refusal('the first line has under six values, and a point with its normal has X Y Z NX NY NZ')
+            raise Refusal('the first line has fewer than six values: expected X Y Z NX NY NZ')
         names = ['x', 'y', 'z', 'nx', 'ny', 'nz'] + [f'value_{k}' for k in range(7, self.width + 1)]
         self.properties = [Property(name, 'double') for name in names]
         self.columns = list(range(6))
@@ -45,7 +45,7 @@ class NumberList:
             words = lines.next_words()
             while words is not None:
                 if len(words) != self.width:
-                    raise Refusal(f'line {lines.number} has {number_of(len(words), "value")} where the first has {self.width}')
+                    raise Refusal(f'line {lines.number} has {number_of(len(words), "value")}, the first line has {self.width}')
                 yield words
                 words = lines.next_words()
         finally:
@@ -61,7 +61,7 @@ class Points:
         reader.close()
         vertex = reader.element('vertex')
         if vertex is None or vertex.has_lists():
-            raise Refusal('there is no element vertex' if vertex is None else 'a property of vertex is a list')
+            raise Refusal('no element vertex' if vertex is None else 'a property of vertex is a list')
         normal = next(([vertex.column(start + axis) for axis in 'xyz'] for start in ('n', 'normal_')
                        if vertex.column(start + 'x') is not None), [None])
         self.columns = vertex.point_columns() + normal
@@ -124,9 +124,9 @@ class Cloud:
         from recon.clouds import spacing
         from recon.sights import along_normals
         points, ways = (np.stack([np.frombuffer(column) for column in columns], axis=1) for columns in (self.places, self.directions))
-        far = length_of(word, 'far', 'how far off scanners stand') if word else spacing(points).distance or spacing(np.unique(points, axis=0)).distance
+        far = length_of(word, 'far', 'the distance of a scanner from its point') if word else spacing(points).distance or spacing(np.unique(points, axis=0)).distance
         if not far:
-            raise Refusal('there are too few points to tell how far apart they are: say far=')
+            raise Refusal('too few points to estimate their spacing: pass far=')
         return (far, *along_normals(points, ways, far))
 
 
@@ -145,7 +145,7 @@ class Normals(Source):
         cloud = Cloud(self.file, receiver.mover)
         self.count, self.counts = len(cloud.is_kept), cloud.counts
         if not cloud.places[0]:
-            raise Refusal('no point has a normal')
+            raise Refusal('no point has a finite normal other than 0 0 0')
         self.far, scanners, numbers = cloud.scanners(self.word)
         indices = iter(numbers.tolist())
         for words, kept in zip(self.file.rows(), cloud.is_kept):
@@ -163,5 +163,5 @@ class Normals(Source):
         return unit
 
     def remark(self) -> str:
-        return (f'; scanners stand {self.far:.4g} off; normals are believed, and the cost tells wrong ones (--help); '
-                f'unit={self.unit} fits; smooth=1 is right for short sights')
+        return (f'; scanners at distance {self.far:.4g}; normals are not checked, the cost shows wrong ones (--help); '
+                f'use unit={self.unit}, and smooth=1 since lines of sight are short')

@@ -119,7 +119,7 @@ def head_lines(file: BinaryIO) -> Iterator[tuple[int, list[str]]]:
         if words == ['end_header']:
             return
         yield number, words
-    raise Refusal(f'the header has over {LINE_LIMIT} lines')
+    raise Refusal(f'the header has more than {LINE_LIMIT} lines')
 
 
 def read_head(file: BinaryIO) -> tuple[str, list[Element]]:
@@ -187,7 +187,7 @@ class TextBody:
         """Sees to it that this many words are there."""
         while len(self.words) - self.at < count:
             if not self.fill():
-                raise Refusal(f'truncated: the file ends in row {row} of the {element.count} of {element.name}')
+                raise Refusal(f'truncated: the file ends in row {row} of {element.name}, {element.count} rows expected')
 
     def rows(self, element: Element) -> Iterator[list[str]]:
         if element.has_lists():
@@ -219,12 +219,12 @@ class TextBody:
     def finish(self) -> None:
         while self.at < len(self.words) or self.fill():
             if self.at < len(self.words):
-                raise Refusal('after the last row something follows')
+                raise Refusal('unexpected data after the last row')
 
 
 def list_count(word: str, element: Element, row: int) -> int:
     if not word.isdecimal() or len(word) > 20 or int(word) > ROW_LIMIT:
-        raise Refusal(f'row {row} of {element.name} has the count {word[:40]} in a list')
+        raise Refusal(f'row {row} of {element.name}: invalid list count {word[:40]}')
     return int(word)
 
 
@@ -246,7 +246,7 @@ class BinaryBody:
             data = self.file.read(taken * row_struct.size)
             if len(data) < taken * row_struct.size:
                 row += len(data) // row_struct.size
-                raise Refusal(f'truncated: the file ends in row {row} of the {element.count} of {element.name}')
+                raise Refusal(f'truncated: the file ends in row {row} of {element.name}, {element.count} rows expected')
             for values in row_struct.iter_unpack(data):
                 yield list(map(repr, values))
             row += taken
@@ -266,12 +266,12 @@ class BinaryBody:
         size = count * struct.calcsize(self.order + FORMATS[kind])
         data = self.file.read(size) if size <= self.length else b''
         if len(data) < size:
-            raise Refusal(f'truncated: the file ends in row {row} of the {element.count} of {element.name}')
+            raise Refusal(f'truncated: the file ends in row {row} of {element.name}, {element.count} rows expected')
         return list(map(repr, struct.unpack(f'{self.order}{count}{FORMATS[kind]}', data)))
 
     def finish(self) -> None:
         if self.file.read(1):
-            raise Refusal('after the last row something follows')
+            raise Refusal('unexpected data after the last row')
 
 
 class Reader:
@@ -299,10 +299,10 @@ class Reader:
                 return
             size = struct.calcsize(order + element.row_format())
             if size * element.count > left:
-                raise Refusal(f'truncated: the file ends in row {left // size} of the {element.count} of {element.name}')
+                raise Refusal(f'truncated: the file ends in row {left // size} of {element.name}, {element.count} rows expected')
             left -= size * element.count
         if left:
-            raise Refusal('after the last row something follows')
+            raise Refusal('unexpected data after the last row')
 
     def element(self, name: str) -> Element | None:
         """Returns the element of this name, or None."""
@@ -406,7 +406,7 @@ def index_text(word: str, place: Callable[[], str]) -> str | None:
     if IS_NOT_FINITE(word):
         return None
     if not IS_NUMBER(word) or abs(float(word)) > ROW_LIMIT or float(word) != int(float(word)):
-        raise Refusal(f'{place()}: {word[:40]} is not a number of a scanner')
+        raise Refusal(f'{place()}: {word[:40]} is not a scanner index')
     return str(int(float(word)))
 
 
@@ -421,8 +421,8 @@ def read_positions(path: str) -> list[tuple[list[str], str | None]]:
             if len(words) < 3 or not all(map(IS_NUMBER, words[:3])):
                 raise Refusal(f'line {number} of {path} is not X Y Z')
             if '\0' in line:
-                raise Refusal(f'line {number} of {path} has a byte 0')
+                raise Refusal(f'line {number} of {path} contains a NUL byte')
             rows.append((words[:3], words[3].strip() if len(words) > 3 else None))
             if len(rows) > SCANNER_LIMIT:
-                raise Refusal(f'{path} has over {SCANNER_LIMIT} positions')
+                raise Refusal(f'{path} has more than {SCANNER_LIMIT} positions')
     return rows

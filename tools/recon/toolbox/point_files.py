@@ -118,7 +118,7 @@ class PcdReader(FileReader):
         kind = self.head['DATA'][0] if self.head['DATA'] else ''
         rows = {'ascii': self.text_rows, 'binary': self.binary_rows, 'binary_compressed': self.packed_rows}
         if kind not in rows:
-            raise Refusal(f'a PCD whose DATA is {kind} is not read')
+            raise Refusal(f'unsupported DATA of the PCD: {kind}')
         self.rows_of_kind = rows[kind]
         count = self.number('POINTS')
         self.kinds, properties = self.columns()
@@ -158,15 +158,15 @@ class PcdReader(FileReader):
         names, sizes, types = (self.head[key] for key in ('FIELDS', 'SIZE', 'TYPE'))
         counts = self.head.get('COUNT', ['1'] * len(names))
         if not len(names) == len(sizes) == len(types) == len(counts):
-            raise Refusal('FIELDS, SIZE, TYPE and COUNT of the PCD have not as many words')
+            raise Refusal('FIELDS, SIZE, TYPE and COUNT of the PCD have different numbers of values')
         kinds: list[tuple[str, str]] = []
         properties: list[Property] = []
         for name, size, kind, count in zip(names, sizes, types, counts):
             many = count_in(count, PCD_COLUMNS)
             if (kind, size) not in PCD_TYPES or many is None:
-                raise Refusal(f'the field {name[:40]} of the PCD has a type that is not read: {kind[:9]} {size[:9]} {count[:20]}')
+                raise Refusal(f'unsupported type of the field {name[:40]} of the PCD: {kind[:9]} {size[:9]} {count[:20]}')
             if len(kinds) + many > PCD_COLUMNS:
-                raise Refusal(f'a point of the PCD has over {PCD_COLUMNS} values')
+                raise Refusal(f'a point of the PCD has more than {PCD_COLUMNS} values')
             for number in range(many):
                 kinds.append((name, PCD_TYPES[kind, size]))
                 own = name if count == '1' else f'{name}_{number}'
@@ -194,7 +194,7 @@ class PcdReader(FileReader):
         if number == len(self.places):
             self.places.append(place)
         if number >= SCANNER_LIMIT:
-            raise Refusal(f'the points were seen from over {SCANNER_LIMIT} places')
+            raise Refusal(f'more than {SCANNER_LIMIT} scanner positions')
         return str(number)
 
     def position(self) -> list[str]:
@@ -221,7 +221,7 @@ class PcdReader(FileReader):
         packed, size = struct.unpack('<II', head) if len(head) == 8 else (0, 0)
         codes = [FORMATS[kind] for _, kind in self.kinds]
         if size != count * struct.calcsize('<' + ''.join(codes)):
-            raise Refusal(f'the compressed body of the PCD has not the bytes of {count} points')
+            raise Refusal(f'the compressed body of the PCD has the wrong length for {count} points')
         if packed > self.left() or size > LZF_GROWTH * packed:
             raise Refusal('truncated: the file ends in the compressed body of a PCD')
         data, columns, at = unpacked(self.file.read(packed), size), [], 0
@@ -246,10 +246,10 @@ class PcdReader(FileReader):
                 if not all(map(str.isascii, words)):
                     raise Refusal(f'point {row} has bytes that are not text')
                 if len(words) != len(self.kinds):
-                    raise Refusal(f'point {row} has {len(words)} values where the header has {len(self.kinds)}')
+                    raise Refusal(f'point {row} has {len(words)} values, the header states {len(self.kinds)}')
                 yield words
             if lines.next_words() is not None:
-                raise Refusal('after the last point something follows')
+                raise Refusal('unexpected data after the last point')
         finally:
             lines.close()
 
@@ -274,7 +274,7 @@ def unpacked(data: bytes, size: int) -> bytearray:
     except (IndexError, ZeroDivisionError):
         raise Refusal('the compressed body of the PCD is invalid') from None
     if len(out) != size:
-        raise Refusal('the compressed body of the PCD has another length than it says')
+        raise Refusal('the compressed body of the PCD has not the stated length')
     return out
 
 
@@ -314,13 +314,13 @@ class LasReader(FileReader):
         if self.is_packed and find_spec('laspy') is None:
             raise Refusal('this is LAZ, compressed LAS: install laspy and lazrs, or uncompress it by LAStools or PDAL')
         if kind >= len(LAS_ROWS):
-            raise Refusal(f'a LAS of the point format {kind} is not read')
+            raise Refusal(f'unsupported point format of the LAS: {kind}')
         if count > ROW_LIMIT:
-            raise Refusal(f'there are over {ROW_LIMIT} points')
+            raise Refusal(f'more than {ROW_LIMIT} points')
         self.fields = LAS_ROWS[kind]
         known = struct.calcsize('<' + ''.join(code for code, _ in self.fields))
         if size < known:
-            raise Refusal(f'the points of the LAS have {size} bytes, and those of its format have {known}')
+            raise Refusal(f'the points of the LAS have {size} bytes, its point format has {known}')
         self.row = struct.Struct('<' + ''.join(code for code, _ in self.fields) + f'{size - known}x')
         self.scales = list(map(whole_and_places, struct.unpack_from('<3d', head, 131)))
         self.starts = list(map(whole_and_places, struct.unpack_from('<3d', head, 155)))
@@ -338,7 +338,7 @@ class LasReader(FileReader):
         for values in (self.unpacked_rows if self.is_packed else self.structs)(self.row, element.count):
             x, y, z = shifted(values[0] * a + p, i), shifted(values[1] * b + q, j), shifted(values[2] * c + r, k)
             if x is None or y is None or z is None:
-                raise Refusal('a coordinate has over 30 digits')
+                raise Refusal('a coordinate has more than 30 digits')
             yield [x, y, z, *(repr(values[at]) for at in kept)]
 
     def unpacked_rows(self, row: struct.Struct, count: int) -> Iterator[tuple[float, ...]]:

@@ -36,7 +36,7 @@ class Station:
         if not any(origin):
             return self.place
         raise Refusal(f'station {number} has the position {" ".join(self.place)} in its header and {" ".join(self.origin)} in '
-                      'its matrix: choose one by position=header or position=matrix')
+                      'its matrix: choose one with position=header or position=matrix')
 
 
 def read_count(lines: Lines, words: Sequence[str] | None) -> int:
@@ -68,7 +68,7 @@ def read_station(lines: Lines) -> Station | None:
         read_numbers(lines, 3)
     matrix = [read_numbers(lines, 4) for _ in range(4)]
     if [float(row[3]) for row in matrix] != [0, 0, 0, 1]:
-        raise Refusal(f'the matrix that ends in line {lines.number} has not 0 0 0 1 as its last column')
+        raise Refusal(f'the last column of the matrix that ends in line {lines.number} is not 0 0 0 1')
     return Station(columns * rows, place, [row[:3] for row in matrix])
 
 
@@ -81,7 +81,7 @@ class Ptx(Source):
         self.choice, self.lines = options.position, Lines(path, yes(options.open_end, 'open_end'))
         self.counts = {'empty': 0, 'not finite': 0}
         if self.choice not in (None, 'header', 'matrix'):
-            raise Refusal('position= is header or matrix')
+            raise Refusal('position= must be header or matrix')
 
     def read(self) -> str:
         return f'read {number_of(len(self.positions), "station")} with {number_of(self.count, "row")} of {self.what}'
@@ -95,7 +95,7 @@ class Ptx(Source):
         for row in range(station.count):
             words = lines.next_words()
             if words is None:
-                raise Refusal(f'truncated: the file ends in row {row} of the {station.count} of station {index}')
+                raise Refusal(f'truncated: the file ends in row {row} of station {index}, {station.count} rows expected')
             if len(words) < 3:
                 raise Refusal(f'line {lines.number} is not a row X Y Z ...')
             point = words[:3]
@@ -112,7 +112,7 @@ class Ptx(Source):
             station = read_station(self.lines)
             while station is not None:
                 if len(self.positions) == SCANNER_LIMIT:
-                    raise Refusal(f'there are over {SCANNER_LIMIT} stations')
+                    raise Refusal(f'more than {SCANNER_LIMIT} stations')
                 position = station.position(len(self.positions), self.choice)
                 self.positions.append(list(map(str, position)))
                 self.pass_points(station, str(len(self.positions) - 1), receiver)

@@ -40,7 +40,7 @@ def checked_index(word: str, limit: int | None, place: Callable[[], str]) -> str
     """Returns the number of a scanner that is there, or None where it is not finite."""
     number = index_text(word, place)
     if number is not None and not 0 <= int(number) < (2 ** 31 if limit is None else limit):
-        raise Refusal(f'{place()}: there is no scanner {number}' + ('' if limit is None else f' among {limit}'))
+        raise Refusal(f'{place()}: scanner index {number} is out of range' + ('' if limit is None else f' (number of scanners: {limit})'))
     return number
 
 
@@ -55,7 +55,7 @@ class OfReader(Source):
         self.count = self.vertex.count
         self.places = self.vertex.point_columns()
         if self.scanners and self.scanners.count > SCANNER_LIMIT:
-            raise Refusal(f'there are over {SCANNER_LIMIT} scanners')
+            raise Refusal(f'more than {SCANNER_LIMIT} scanners')
 
     def run(self, receiver: Passage) -> None:
         try:
@@ -79,7 +79,7 @@ class OfReader(Source):
         """Refuses a weight that is not a whole number. Those that occurred before are known."""
         if word not in self.weights:
             if not IS_WHOLE(word):
-                raise Refusal(f'{place()}: the weight {word[:40]} is not a {"whole " if IS_NUMBER(word) else ""}number')
+                raise Refusal(f'{place()}: the weight {word[:40]} is not {"an integer" if IS_NUMBER(word) else "a number"}')
             if len(self.weights) < MOST_WEIGHTS:
                 self.weights.add(word)
 
@@ -103,13 +103,13 @@ class Rows(OfReader):
         self.point, self.index = self.places, index_column(self.vertex, options.index)
         if options.positions:
             if self.scanners:
-                raise Refusal('the file has an element scanner, so positions= is one too many')
+                raise Refusal('positions= cannot be used with a file that has an element scanner')
             self.positions = [words for words, _ in read_positions(options.positions)]
         self.has_scanners = self.scanners is not None or bool(options.positions)
         self.limit = self.scanners.count if self.scanners else len(self.positions) if options.positions else None
         self.is_one = self.index is None and not self.scanners and self.limit == 1
         if self.has_scanners and self.index is None and not self.is_one:
-            raise Refusal('vertex has no property scanner: name the one that numbers the scanners by index=')
+            raise Refusal('vertex has no property scanner: pass the name of the property with the scanner index as index=')
         self.scanner, self.weight = len(self.columns) if self.is_one else self.index, weight_column(self.vertex)
         self.name_columns()
 
@@ -158,7 +158,7 @@ class Listed(OfReader):
         vertex = reader.element('vertex')
         self.named, self.weighed = vertex.column('scanner'), weight_column(vertex)
         if self.named is None or vertex.properties[self.named].count_kind is None or reader.element('scanner') is None:
-            raise Refusal('a property of vertex is a list, and not that of the scanners')
+            raise Refusal('a property of vertex other than the scanners is a list')
         self.kept = [k for k, p in enumerate(vertex.properties) if p.count_kind is None]
         columns = [Property(vertex.properties[k].name, vertex.properties[k].kind) for k in self.kept]
         super().__init__(reader, path, [*columns, Property('scanner', 'int', 'uint')])
@@ -182,7 +182,7 @@ class Listed(OfReader):
             named = [checked_index(word, self.scanners.count, place) for word in values[self.named]]
             numbers = [number for number in named if number is not None]
             if len(numbers) < len(named):
-                raise Refusal(f'{place()}: a number of a scanner is not finite')
+                raise Refusal(f'{place()}: a scanner index is not finite')
             if self.weighed is not None:
                 self.refuse_weight(values[self.weighed][0], place)
             receiver.row([values[k][0] for k in self.kept] + [' '.join([str(len(numbers)), *numbers])])
@@ -195,7 +195,7 @@ class Airborne(OfReader):
         refuse_others(options, ('above', 'flight', 'open_end'), 'an airborne scan')
         vertex = reader.element('vertex')
         if vertex.has_lists() or reader.element('scanner') is not None:
-            raise Refusal('the file says itself where its points were seen from')
+            raise Refusal('above= and flight= are for files without scanner positions')
         columns = [Property('scanner_before' if p.name == 'scanner' else p.name, p.kind) for p in vertex.properties]
         super().__init__(reader, path, [*columns, Property('scanner', 'int')])
         self.point, self.scanner, self.weight = self.places, len(columns), weight_column(vertex)

@@ -46,6 +46,6 @@ def feed(names: Sequence[str], options: Any, receive: Receive) -> Fed:
     """Hands the rows of a scan on, and answers what it is."""
     source, mover = source_of(names, options), Mover(options.origin)
     if not source.has_scanners:
-        raise Refusal('the file names no scanners: give their positions by positions=')
+        raise Refusal('no scanner positions in the file: pass positions=')
     source.run(Passage(source, mover, picker(source, receive)))
     return Fed([mover.moved(position) for position in source.positions], source)

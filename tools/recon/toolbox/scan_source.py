@@ -19,10 +19,10 @@ from recon.toolbox.tool import yes
 def source_of(names: Sequence[str], options: Any) -> Source:
     """Returns the source of these names."""
     if options.table is None and not names:
-        raise Refusal('no file is named that is to be read')
+        raise Refusal('no input file')
     has_normals = yes(options.normals, 'normals')
     if options.far is not None and not has_normals:
-        raise Refusal('far= goes with normals=yes')
+        raise Refusal('far= requires normals=yes')
     model = sparse_model(names[0]) if len(names) == 1 else None
     if model is not None:
         return Sparse(model, options)
@@ -30,7 +30,7 @@ def source_of(names: Sequence[str], options: Any) -> Source:
         return airborne(names, options)
     if options.images is not None or has_normals:
         if len(names) != 1:
-            raise Refusal('images= and normals= go with one file')
+            raise Refusal('images= and normals= require a single file')
         return (Normals if has_normals else Colmap)(names[0], options)
     if options.table is not None or len(names) > 1 or '=' in names[0]:
         return Stations(names, options)
@@ -40,11 +40,11 @@ def source_of(names: Sequence[str], options: Any) -> Source:
 def airborne(names: Sequence[str], options: Any) -> Source:
     """Returns the source of points that were seen from above."""
     if options.flight is not None and options.above is not None:
-        raise Refusal('above= and flight= say the same thing: give one of them')
+        raise Refusal('above= and flight= are alternatives: pass one of them')
     if len(names) == 1 and has_rows(names[0]):
         return of_rows(names[0], options, Airborne)
     if options.flight is not None or not names:
-        raise Refusal('flight= goes with one LAS or PLY whose points have times' if names else 'no file is named that is to be read')
+        raise Refusal('flight= requires a single LAS or PLY whose points have times' if names else 'no input file')
     return Overhead(names, options)
 
 
@@ -54,7 +54,7 @@ def of_rows(path: str, options: Any, kind: Callable[[Any, str, Any], Source] | N
     try:
         vertex = reader.element('vertex')
         if vertex is None:
-            raise Refusal('there is no element vertex')
+            raise Refusal('no element vertex')
         return (kind or (Listed if vertex.has_lists() else Rows))(reader, path, options)
     except BaseException:
         reader.close()
@@ -69,8 +69,7 @@ def one_file(path: str, options: Any) -> Source:
         raise Refusal('the file is empty')
     if is_ptx(path):
         return Ptx(path, options)
-    raise Refusal(f'{path} is not a PLY, PCD, LAS, E57 or PTX; a list of numbers is named with the place that its points were seen '
-                  f'from: {path}=X,Y,Z')
+    raise Refusal(f'{path} is not a PLY, PCD, LAS, E57 or PTX; for a list of numbers, pass the scanner position: {path}=X,Y,Z')
 
 
 def is_ptx(path: str) -> bool:

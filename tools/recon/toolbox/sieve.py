@@ -82,7 +82,7 @@ class Box:
 def length_of(word: str, key: str, what: str) -> float:
     """Returns the value of an option that is a length."""
     if not IS_NUMBER(word) or not 0 < float(word) or not isfinite(float(word)):
-        raise Refusal(f'{key}= is {what}, a number over 0')
+        raise Refusal(f'{key}= ({what}) must be a number greater than 0')
     return float(word)
 
 
@@ -97,7 +97,7 @@ def one_a_cube(side: float) -> Callable[[float, float, float], bool]:
             first.extend((i - HALF, j - HALF, k - HALF))
         i, j, k = i - first[0], j - first[1], k - first[2]
         if i >> 21 or j >> 21 or k >> 21:
-            raise Refusal('there are over 1,048,576 cubes between two points: take a larger side')
+            raise Refusal('more than 1,048,576 cubes between two points: use a larger side')
         return cubes.add((i << 42 | j << 21 | k) + 1)
 
     return choose
@@ -106,7 +106,7 @@ def one_a_cube(side: float) -> Callable[[float, float, float], bool]:
 def in_box(start: str | None, end: str | None, outside: bool) -> Callable[[float, float, float], bool]:
     """Returns whether a point lies in a box, or outside of it."""
     if start is None or end is None:
-        raise Refusal('from= and to= are the two corners of the box, and stand together')
+        raise Refusal('from= and to= are required together: they are two corners of a box')
     low_x, low_y, low_z = map(float, three(start, 'from'))
     high_x, high_y, high_z = map(float, three(end, 'to'))
     if low_x > high_x or low_y > high_y or low_z > high_z:
@@ -123,7 +123,7 @@ def places_of(divide: str | None) -> int:
     if divide is None:
         return 0
     if divide not in POWERS:
-        raise Refusal('divide= is a power of ten, from 10 to 1000000000')
+        raise Refusal('divide= must be a power of ten, from 10 to 1000000000')
     return POWERS.index(divide)
 
 
@@ -159,10 +159,10 @@ class Sieve(Mover):
             outside = yes(options.outside, 'outside')
             self.test(in_box(options.from_, options.to, outside), 'inside the box' if outside else 'outside the box')
         if options.side:
-            self.test(one_a_cube(length_of(options.side, 'side', 'the side of a cube')), 'in a cube that has one')
+            self.test(one_a_cube(length_of(options.side, 'side', 'the side of a cube')), 'in a cube that already has a point')
         self.box, self.off = Box(), 0.0
         if options.surround:
-            self.off = length_of(options.surround, 'surround', 'how far the eight points stand off')
+            self.off = length_of(options.surround, 'surround', 'the distance of the eight points')
             self.test(self.box.show, 'outside the box')
 
     def test(self, test: Callable[[float, float, float], bool], why: str) -> None:

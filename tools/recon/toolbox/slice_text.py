@@ -38,7 +38,7 @@ def read_loops(path: str) -> Iterator[list[tuple[str, ...]]]:
             steps = range(count_of(lines, 'loop'))
             yield [wanted(lines, ARE_FOUR, '`A X Y D`').groups() for _ in steps]
         if lines.next_line() is not None:
-            raise Refusal(f'line {lines.number} follows the last loop')
+            raise Refusal(f'line {lines.number}: unexpected data after the last loop')
     finally:
         lines.close()
 

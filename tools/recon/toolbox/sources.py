@@ -54,4 +54,4 @@ def refuse_others(options: Any, mine: Sequence[str], what: str) -> None:
     """Refuses options that say how other files are read."""
     for key in READING:
         if key not in mine and getattr(options, key) is not None:
-            raise Refusal(f'{key}= does not go with {what}')
+            raise Refusal(f'{key}= cannot be used with {what}')

@@ -28,7 +28,7 @@ def row_points(path: str, open_end: bool) -> Iterator[Point]:
     try:
         vertex = reader.element('vertex')
         if vertex is None:
-            raise Refusal('there is no element vertex')
+            raise Refusal('no element vertex')
         if vertex.has_lists():
             raise Refusal('a property of vertex is a list')
         x, y, z = vertex.point_columns()
@@ -50,14 +50,14 @@ def pts_points(lines: Lines) -> Iterator[Point]:
     words = lines.next_words()
     while words is not None:
         if not is_count(words):
-            raise Refusal(f'line {lines.number} stands where the number of the next rows should')
+            raise Refusal(f'line {lines.number} is not the number of the rows that follow')
         count = int(words[0])
         for row in range(count):
             words = lines.next_words()
             if words is None:
                 raise Refusal(f'truncated: the file ends in row {row} of {count}')
             if row == 0 and is_count(words):
-                raise Refusal('this is a PTX, which says itself where its stations stood: name it alone, without a position')
+                raise Refusal('a PTX has its own scanner positions: pass it as the only file, without =X,Y,Z')
             if len(words) < 3:
                 raise Refusal(f'line {lines.number} is not a row X Y Z ...')
             yield words[:3], ('line', lines.number)
@@ -76,7 +76,7 @@ def list_points(lines: Lines, counts: dict[str, int]) -> Iterator[Point]:
         text = line.strip()
         if text and not text.startswith(('#', '//')):
             if DECIMAL_COMMAS(text):
-                raise Refusal(f'line {lines.number} has decimal commas: {text[:40]}; write its numbers with points')
+                raise Refusal(f'line {lines.number} has decimal commas: {text[:40]}; use decimal points')
             if sign is None:
                 sign = ';' if ';' in text else ',' if ',' in text else ''
             words = [word.strip() for word in text.split(sign)] if sign else text.split()
@@ -87,7 +87,7 @@ def list_points(lines: Lines, counts: dict[str, int]) -> Iterator[Point]:
                 width = width or len(words)
                 if len(words) != width or width < 3:
                     raise Refusal(f'line {lines.number} has {number_of(len(words), "value")}'
-                                  + (f' where the first row has {width}' if width >= 3 else ', and a point has three'))
+                                  + (f', the first row has {width}' if width >= 3 else ', a point has three'))
                 yield words[:3], ('line', lines.number)
         line = lines.next_line()
 
@@ -113,20 +113,20 @@ def station_of(name: str) -> Station:
     path, equals, position = name.rpartition('=')
     if equals and path and not os.path.exists(name):
         if ',' not in position and not os.path.exists(path):
-            raise Refusal(f'{name} is not an option, and no file with its position, FILE=X,Y,Z')
+            raise Refusal(f'{name} is neither an option nor a file with its scanner position, FILE=X,Y,Z')
         return path, three(position, f'the position of {path}')
     if not has_rows(name):
-        raise Refusal(f'{name} does not say where its scanner stood: {name}=X,Y,Z does')
+        raise Refusal(f'{name} has no scanner position: pass {name}=X,Y,Z')
     reader = open_points(name)
     try:
         if isinstance(reader, PcdReader) and reader.view:
             return name, None
         scanner = reader.element('scanner')
         if scanner is None or scanner.count != 1 or not hasattr(reader, 'position'):
-            raise Refusal(f'{name} does not say where its scanner stood: {name}=X,Y,Z does')
+            raise Refusal(f'{name} has no scanner position: pass {name}=X,Y,Z')
         position = reader.position()
         if not ARE_THREE(' '.join(position)):
-            raise Refusal(f'{name} has {" ".join(position)[:80]} as the position of its scanner, which is none: {name}=X,Y,Z names it')
+            raise Refusal(f'{name} has the invalid scanner position {" ".join(position)[:80]}: pass {name}=X,Y,Z')
         return name, position
     finally:
         reader.close()
@@ -136,8 +136,8 @@ def refuse_unknown(found: Sequence[Station], names: Sequence[str]) -> None:
     """Refuses several files that all say themselves that they were seen from 0 0 0."""
     own = [position for (path, position), name in zip(found, names) if path == name and position is not None]
     if len(own) > 1 and not any(float(word) for position in own for word in position if IS_NUMBER(word)):
-        raise Refusal(f'the position of the scanner is 0 0 0 in all {len(own)} files, which PCL writes as VIEWPOINT where it knows '
-                      f'none: name the positions, as {names[0]}=X,Y,Z')
+        raise Refusal(f'the scanner position is 0 0 0 in all {len(own)} files, which PCL writes as VIEWPOINT if it is unknown: pass the '
+                      f'positions, for example {names[0]}=X,Y,Z')
 
 
 def stations(names: Sequence[str], table: str | None) -> list[Station]:
@@ -145,17 +145,17 @@ def stations(names: Sequence[str], table: str | None) -> list[Station]:
     found: list[Station]
     if table is not None:
         if names:
-            raise Refusal('the stations stand in the table or in the words, and not in both')
+            raise Refusal('pass the stations either as table= or as arguments')
         folder = os.path.dirname(table)
         rows = read_positions(table)
         if any(name is None for _, name in rows):
-            raise Refusal(f'a line of {table} names no file')
+            raise Refusal(f'a line of {table} has no file name')
         found = [(os.path.join(folder, name or ''), position) for position, name in rows]
     else:
         found = [station_of(name) for name in names]
         refuse_unknown(found, names)
     if not found or len(found) > SCANNER_LIMIT:
-        raise Refusal('there is no station' if not found else f'there are over {SCANNER_LIMIT} stations')
+        raise Refusal('no stations' if not found else f'more than {SCANNER_LIMIT} stations')
     return found
 
 
@@ -185,7 +185,7 @@ class Stations(Source):
         if int(number) == len(self.positions):
             self.positions.append(place)
         if len(self.positions) > SCANNER_LIMIT:
-            raise Refusal(f'the points were seen from over {SCANNER_LIMIT} places')
+            raise Refusal(f'more than {SCANNER_LIMIT} scanner positions')
         return number
 
     def pass_viewed(self, path: str, receiver: Passage) -> None:

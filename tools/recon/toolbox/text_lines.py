@@ -6,8 +6,8 @@ import re
 from recon.toolbox.ply_text import Refusal
 
 LONGEST = 4096
-OTHER_KINDS = {b'LASF': 'LAS', b'ASTM-E57': 'E57', b'# .PCD': 'PCD', b'VERSION': 'PCD', b'PK\3\4': 'a zip archive: unpack it first',
-               b'\x1f\x8b': 'a file of gzip: unpack it first', b'\x89HDF': 'HDF5, which is not read'}
+OTHER_KINDS = {b'LASF': 'LAS', b'ASTM-E57': 'E57', b'# .PCD': 'PCD', b'VERSION': 'PCD', b'PK\3\4': 'a zip archive, unpack it first',
+               b'\x1f\x8b': 'a gzip file, unpack it first', b'\x89HDF': 'HDF5, which is not supported'}
 DECIMAL_COMMAS = re.compile(r'[+-]?[0-9]+,[0-9]+([ \t;]+[+-]?[0-9]+,[0-9]+)+[ \t;]*').fullmatch
 
 
@@ -21,7 +21,7 @@ class Lines:
         for magic, kind in OTHER_KINDS.items():
             if start.startswith(magic):
                 self.file.close()
-                raise Refusal(f'this is not a text of numbers but {kind}')
+                raise Refusal(f'not a text file of numbers: {kind}')
 
     def next_line(self) -> str | None:
         """Returns the next line without its end, or None at the end of the file."""

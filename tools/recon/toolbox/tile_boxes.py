@@ -151,7 +151,7 @@ def divide(core: Core, points: np.ndarray, share: float, overlap: float, limit: 
         return core
     cut = best_cut(core, points, overlap)
     if cut is None:
-        raise Refusal(f'over {limit} points lie so near each other that no box parts them: take a smaller overlap=, a larger '
+        raise Refusal(f'more than {limit} points are too near each other to be split into boxes: use a smaller overlap=, a larger '
                       'points=, or thin the scan first (recon-scan with side=)')
     axis, at = cut
     below, above = core.halves(axis, at)

@@ -33,7 +33,7 @@ class Gaps:
         while True:
             ends = self.ends.get(path[-1])
             if not ends:
-                raise Refusal('the surface of a tile is not closed: it is none that recon wrote')
+                raise Refusal('the mesh of a tile is not closed: recon did not write it')
             vertex = ends.pop()
             if vertex in met:
                 way = path[met[vertex]:]

@@ -18,7 +18,7 @@ JOB = ('{recon} build {name}.ply {name}.mesh.ply {name}.cert{options} >{name}.lo
        '{{ status={dollar}?; echo "{name}: status {dollar}status: {dollar}(cat {name}.log)" >&2; exit {dollar}status; }}')
 LINE = '[ -e {name}.done ] || {{ {job}; }}\n'
 MAKEFILE = """# Builds the surface of each tile that is not done yet, and checks it: make -j4
-# With -k it goes on behind a tile that failed.
+# With -k, make continues after a tile that failed.
 RECON ?= recon
 TILES = {names}
 

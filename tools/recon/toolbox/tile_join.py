@@ -98,7 +98,7 @@ def read_tiles(folder: str) -> tuple[list[Tile], set[int]]:
             tiles = [Tile(number, row, about['unit'], about['overlap']) for number, row in enumerate(about['tiles'])]
             handed = read_handed(folder, about['unit'])
         except (ArithmeticError, ValueError, KeyError, TypeError, RecursionError):
-            raise Refusal(f'{path} is not what split wrote') from None
+            raise Refusal(f'{path} is not a file of recon-tiles split') from None
     for tile in tiles:
         tile.others = [other for other in tiles if other.meets(tile)]
     undone = [tile.name for tile in tiles if not os.path.exists(os.path.join(folder, tile.name + '.done'))]
@@ -106,7 +106,7 @@ def read_tiles(folder: str) -> tuple[list[Tile], set[int]]:
         raise Refusal(f'{number_of(len(undone), "tile")} of {len(tiles)} not done yet: {" ".join(undone[:9])}')
     stale = [tile.name for tile in tiles if not is_done(folder, tile.name)]
     if stale:
-        raise Refusal(f'the scan or the surface of {number_of(len(stale), "tile")} is not that of NAME.done: remove NAME.done and '
+        raise Refusal(f'the scan or the mesh of {number_of(len(stale), "tile")} does not match NAME.done: remove NAME.done and '
                       f'run the jobs again: {" ".join(stale[:9])}')
     return tiles, handed
 

@@ -102,7 +102,7 @@ class Look:
             if far > self.far:
                 self.far, self.where = far, ' '.join(position)
         if not self.far * unit <= SCALED_LIMIT:
-            raise Refusal(f'{self.where} times the unit {unit} is beyond {SCALED_LIMIT}: take a smaller unit=, or an origin= '
+            raise Refusal(f'{self.where} times unit={unit} is out of range (over {SCALED_LIMIT}): use a smaller unit=, or an origin= '
                           'near the scan')
 
     def shuffle(self) -> None:
@@ -145,7 +145,7 @@ class Tile:
 
     def finish(self, positions: list[list[str]]) -> None:
         if len(self.scanners) > SCANNER_LIMIT:
-            raise Refusal(f'a tile has points of over {SCANNER_LIMIT} scanners: take a smaller points=')
+            raise Refusal(f'a tile has points of more than {SCANNER_LIMIT} scanners: use a smaller points=')
         self.writer.finish([positions[index] for index in self.scanners])
 
 
@@ -264,7 +264,7 @@ def looked_at(scan: list[str], wanted: Wanted) -> tuple[Fed, Look]:
     look = Look()
     fed = feed(scan, wanted.reading, look.row)
     if not look.sample.count:
-        raise Refusal('there is no point')
+        raise Refusal('no points')
     look.refuse_far(fed.positions, wanted.unit)
     look.shuffle()
     return fed, look
@@ -295,7 +295,7 @@ def whole_folder(path: str) -> Iterator[str]:
     """Yields a folder that is filled beside its place and moved there when it is whole; one that is there is refused."""
     path = path.rstrip('/')
     if os.path.lexists(path):
-        raise Refusal(f'{path} is there already: tiles of two splits do not mix')
+        raise Refusal(f'{path} exists already: choose a new folder')
     part = path + '.part'
     os.mkdir(part)
     try:

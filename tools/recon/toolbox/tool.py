@@ -108,7 +108,7 @@ def run(work: Callable[..., Any], doc: str, name_count: int | None, keys: tuple[
     except Refusal as refusal:
         sys.exit(told(1, f'{name}: error: {refusal}'))
     except ArithmeticError:
-        sys.exit(told(1, f'{name}: error: a number is far out of range'))
+        sys.exit(told(1, f'{name}: error: a number is out of range'))
     except MemoryError:
         sys.exit(told(1, f'{name}: error: out of memory'))
     except BrokenPipeError:
@@ -139,14 +139,14 @@ def whole(text: str, key: str, least: int, most: int) -> int:
     """Returns the value of an option, a whole number."""
     value = count_in(text, most)
     if value is None or value < least:
-        raise Refusal(f'{key}= is a whole number from {least} to {most:,}')
+        raise Refusal(f'{key}= must be an integer from {least} to {most:,}')
     return value
 
 
 def yes(value: str | None, key: str) -> bool:
     """Returns whether a switch is on."""
     if value not in (None, 'yes', 'no'):
-        raise Refusal(f'{key} is yes or no')
+        raise Refusal(f'{key}= must be yes or no')
     return value == 'yes'
 
 
