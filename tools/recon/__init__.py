@@ -1,15 +1,15 @@
-"""Closed surfaces of laser scans from numpy arrays, by the program `recon`.
+"""Reconstructs closed surfaces from laser scans in numpy arrays, by the program `recon`.
 
     import recon
     surface = recon.build(points, scanners=[[0, 0, 2]], seen_by=0)    # (n, 3) floats, in any unit of length
-    surface.vertices, surface.faces                                   # (v, 3) floats in the same units, (f, 3) rows of vertices
-    colors[surface.source]                                            # columns of the points for the vertices
+    surface.vertices, surface.faces                                   # (v, 3) floats in the same units, (f, 3) indices of vertices
+    colors[surface.source]                                            # colors of the points, for the vertices
     surface.check()                                                   # verifies mesh and certificate by `recon check`
     surface.contains([[0.1, 0.2, 0.3]])                               # which points are inside
-    surface.votes_against_per_sight                                   # over 0.1: look at the scanners' positions
+    surface.votes_against_per_sight                                   # over 0.1: check the scanner positions
 
-`recon.Refused` is what the program's errors become: its `status`, the `line` that it printed and the `hint` how to fix it.
-`recon.Invalid`, a ValueError, is raised before the program runs, with the `row` at fault. `recon-surface` does all of this on the
+`recon.Refused` is raised for an error of the program, with its `status`, the `line` that it printed and the `hint` how to fix it.
+`recon.Invalid`, a ValueError, is raised before the program runs, with the first invalid `row`. `recon-surface` does all of this on the
 command line. The surface is exact for whole numbers: each coordinate is rounded to 1/`surface.unit`.
 """
 from __future__ import annotations

@@ -17,7 +17,7 @@ def use_fitting_python() -> None:
         return
     finder = next(filter(os.path.exists, (os.path.join(HERE, place) for place in ('../../dev/python', '../python'))), None)
     if finder is None:
-        sys.exit('recon: this Python has no numpy or no scipy (Debian: python3-numpy, python3-scipy)')
+        sys.exit('recon: error: numpy or scipy is not installed (Debian: python3-numpy, python3-scipy)')
     found = subprocess.run(['sh', finder], stdout=subprocess.PIPE, text=True).stdout.strip()
     if not found:
         sys.exit(1)
@@ -29,7 +29,7 @@ def main() -> None:
         sys.path[0] = os.path.dirname(HERE)
     name = sys.argv[1].replace('_', '-') if len(sys.argv) > 1 else ''
     if name not in PROGRAMS:
-        print(f'recon: the programs are {", ".join(PROGRAMS)}', file=sys.stderr)
+        print(f'usage: recon PROGRAM ARGUMENTS .., where PROGRAM is one of {", ".join(PROGRAMS)}', file=sys.stderr)
         sys.exit(2)
     use_fitting_python()
     sys.argv[:2] = ['recon-' + name]

@@ -50,10 +50,10 @@ def points_of(values: Any, what: str) -> np.ndarray:
     rows = np.ascontiguousarray(values, float)
     rows = rows.reshape(1, 3) if rows.shape == (3,) else rows
     if rows.ndim != 2 or rows.shape[1] != 3:
-        raise Invalid(f'{what} are rows of three numbers, and these have the shape {rows.shape}')
+        raise Invalid(f'{what} must have the shape (n, 3), not {rows.shape}')
     if not np.isfinite(rows).all():
         row = int(np.flatnonzero(~np.isfinite(rows).all(axis=1))[0])
-        raise Invalid(f'row {row} of {what} is not finite', row, 'leave it out')
+        raise Invalid(f'row {row} of {what} is not finite', row, 'remove it')
     return rows
 
 
@@ -61,23 +61,23 @@ def sights_of(seen_by: SeenBy | None, count: int, scanner_count: int) -> Sights:
     """Returns the sights of `count` points: one scanner for all, one a point, or a list of scanners a point. Raises `Invalid` for a
     scanner that is not there."""
     if seen_by is None and scanner_count != 1:
-        raise Invalid(f'there are {scanner_count} scanners', hint='seen_by= says which of them saw each point')
+        raise Invalid(f'seen_by= is required for {scanner_count} scanners', hint='pass the index of the scanner of each point')
     values = np.asarray(0 if seen_by is None else seen_by, dtype=None if not is_ragged(seen_by) else object)
     if values.ndim == 0:
         values = np.full(count, values)
     if len(values) != count:
-        raise Invalid(f'seen_by has {len(values)} rows, and there are {count} points')
+        raise Invalid(f'seen_by has {len(values)} rows for {count} points')
     if values.dtype == object or values.ndim == 2:
         rows = [np.atleast_1d(np.asarray(row, np.int64)) for row in values]
         sights = Sights(np.array([len(row) for row in rows], np.int64), np.concatenate([*rows, np.zeros(0, np.int64)]))
     else:
         if values.dtype.kind not in 'iu':
-            raise Invalid('seen_by has whole numbers, the rows of scanners, from 0')
+            raise Invalid('seen_by must contain integers: the indices of scanners, from 0')
         sights = Sights(np.ones(count, np.int64), values.astype(np.int64))
     wrong = np.flatnonzero((sights.scanners < 0) | (sights.scanners >= scanner_count))
     if len(wrong):
         row = int(np.searchsorted(np.cumsum(sights.counts), wrong[0], 'right'))
-        raise Invalid(f'point {row} was seen by scanner {sights.scanners[wrong[0]]}, and there are {scanner_count}, numbered from 0', row)
+        raise Invalid(f'point {row}: scanner index {sights.scanners[wrong[0]]} is out of range (number of scanners: {scanner_count})', row)
     return sights
 
 
@@ -91,8 +91,8 @@ def whole_rows(rows: np.ndarray, origin: np.ndarray, unit: int, what: str) -> np
     whole = np.rint((rows - origin) * unit)
     far = np.flatnonzero(np.logical_or.reduce([np.abs(whole[:, k]) > LIMIT for k in range(3)]))
     if len(far):
-        raise Invalid(f'row {far[0]} of {what} is over {LIMIT:,} units from the origin', int(far[0]),
-                      'take a smaller unit, or an origin near the object')
+        raise Invalid(f'row {far[0]} of {what} is more than {LIMIT:,} units from the origin', int(far[0]),
+                      'use a smaller unit, or an origin near the object')
     return whole.astype(np.int64)
 
 
@@ -181,13 +181,13 @@ class Surface(Mesh):
 
     @property
     def cost(self) -> int:
-        """The visibility energy of the surface, which is the least."""
+        """The energy of the surface, which is the minimum."""
         return self.counts['cost']
 
     @property
     def votes_against_per_sight(self) -> float:
-        """The visibility weight against the surface for each line of sight: 0.003 to 0.1 in scans whose scanners stand where they are said to, 0.25
-        and more where positions or normals are wrong."""
+        """The visibility weight against the surface for each line of sight: 0.003 to 0.1 if the scanner positions are right, 0.25 and more if
+        positions or normals are wrong."""
         against = (self.cost - self.smooth * self.counts['faces']) / self.vote
         return against / max(self.counts['sights'], 1)
 
@@ -231,8 +231,8 @@ class Surface(Mesh):
         return Mesh(places / self.unit + self.origin, corners.reshape(-1, 3))
 
     def slice(self, height: float) -> list[np.ndarray]:
-        """Returns the loops (k, 2) in which the level plane at `height` cuts the surface, x and y in the scan's numbers. The plane is
-        at the nearest whole number and a half of units."""
+        """Returns the loops (k, 2) in which the horizontal plane at `height` cuts the surface, x and y in the scan's coordinates. The plane is
+        at half a unit above the height rounded down to units."""
         loops = self.folder / 'slice.txt'
         level = int(np.floor((height - self.origin[2]) * self.unit))
         run(['slice', self.mesh, level, loops], self.program)
@@ -246,8 +246,8 @@ class Surface(Mesh):
 
     def finish(self, pieces: int | None = None, flips: bool = True, smooth: int = 0, within: float | None = None,
                manifold: bool = False) -> Mesh:
-        """Returns a mesh that is less rough, as `recon-finish` makes it: the largest pieces, edges flipped, `smooth` steps in which no
-        vertex goes farther than `within`. It is no longer the surface that `check` verifies."""
+        """Returns a less rough mesh, as `recon-finish` writes it: keeps the largest pieces, flips edges, and smooths in `smooth` steps that move
+        no vertex farther than `within`. The result is no longer the surface that `check` verifies."""
         from recon.finish import Wishes, finished
         wishes = Wishes(unit=self.unit, origin=self.origin.tolist(), pieces=pieces, flips=flips, steps=smooth, within=within or 0.0,
                         manifold=manifold)
@@ -257,8 +257,8 @@ class Surface(Mesh):
 
 def check(scan: str | Path, mesh: str | Path, certificate: str | Path, *, smooth: int, vote: int = 8, unit: int = 1,
           program: str | None = None) -> bool:
-    """Verifies by `recon check` that a mesh is the best surface of a scan, all given as files. Trusts neither mesh nor certificate.
-    Returns True, or raises `Refused`: status 1 with the first reason if it is not."""
+    """Verifies by `recon check` that a mesh is the surface of minimum cost of a scan, all given as files. Trusts neither mesh nor
+    certificate. Returns True, or raises `Refused`: status 1 with the first reason if it is not."""
     run(['check', scan, mesh, certificate, f'unit={unit}', f'smooth={smooth}', f'vote={vote}'], program)
     return True
 
@@ -266,19 +266,19 @@ def check(scan: str | Path, mesh: str | Path, certificate: str | Path, *, smooth
 def build(points: Any, scanners: Any = None, seen_by: SeenBy | None = None, *, normals: Any = None, weights: Any = None, smooth: int = 3,
           vote: int = 8, unit: int | None = None, origin: Any = None, far: float | None = None, folder: str | Path | None = None,
           program: str | None = None, is_shown: bool = False) -> Surface:
-    """Returns the best surface of a scan.
+    """Reconstructs the surface of minimum cost from a scan.
 
     points (n, 3): the scanned points, at most 1,048,576, in any unit of length.
-    scanners (k, 3): positions that points were seen from, at most 65,536. Without them `normals` (n, 3), pointing out of the solid, make
-        scanners `far` off each point (default: one spacing).
-    seen_by: the row of the scanner of each point (n,), one number for all points, or a list of rows for each point.
-    weights (n,): how much each point's sights count, whole numbers from 1 to 255 (default: 1).
-    `smooth`, `vote`: the area weight of a face and the visibility weight of a sight.
-    unit, origin: coordinates become the whole numbers nearest to (x - origin) * unit (default: 100 to 1000 units between points, see
-        `frame`). The surface is exact for these whole numbers; points at one place become one vertex.
-    folder: where scan, mesh and certificate are kept (default: a folder that is removed with the surface).
+    scanners (k, 3): scanner positions, at most 65,536. Without them, `normals` (n, 3) that point out of the solid are required: each point gets a
+        scanner along its normal, at the distance `far` (default: one spacing).
+    seen_by: the index of the scanner of each point (n,), one index for all points, or a list of indices for each point.
+    weights (n,): the weights of the points' lines of sight, integers from 1 to 255 (default: 1).
+    `smooth`, `vote`: the area weight of a face and the visibility weight of a line of sight.
+    unit, origin: coordinates are rounded to the integers nearest to (x - origin) * unit (default: 100 to 1000 units between points, see
+        `frame`). The surface is exact for these integers; points with equal coordinates become one vertex.
+    folder: for scan, mesh and certificate (default: a temporary folder that is removed with the surface).
 
-    Raises `Invalid` for arrays that make no scan, `Refused` with the program's error, and FileNotFoundError without the program.
+    Raises `Invalid` for invalid arrays, `Refused` with the program's error, and FileNotFoundError if the program is not found.
     """
     surface = build_files(points, scanners, seen_by, normals=normals, weights=weights, smooth=smooth, vote=vote, unit=unit, origin=origin, far=far,
                           folder=folder, program=program, is_shown=is_shown)
@@ -292,7 +292,7 @@ def build_files(points: Any, scanners: Any = None, seen_by: SeenBy | None = None
     """Does what `build` does, but leaves the mesh to `Surface.load`, so that something else can be done with the files first."""
     places = points_of(points, 'points')
     if not len(places) or len(places) > POINT_LIMIT:
-        raise Invalid(f'{len(places):,} points: a scan has 1 to {POINT_LIMIT:,}', hint='thin them (recon.thinned), or cut them into tiles')
+        raise Invalid(f'{len(places):,} points: a scan has 1 to {POINT_LIMIT:,}', hint='thin them (recon.thinned), or split them into tiles (recon-tiles)')
     stations, sights = stations_of(places, scanners, seen_by, normals, far)
     kept = Path(tempfile.mkdtemp(prefix='recon-') if folder is None else folder)
     scan = written_scan(places, stations, sights, weights, unit, origin, kept)
@@ -325,22 +325,22 @@ def stations_of(points: np.ndarray, scanners: Any, seen_by: SeenBy | None, norma
     """The scanners and the sights, from what `build` was given."""
     if scanners is None:
         if normals is None:
-            raise Invalid('nobody is said to have seen the points', hint='give scanners= and seen_by=, or normals=')
+            raise Invalid('no scanner positions', hint='pass scanners= and seen_by=, or normals=')
         directions = points_of(normals, 'normals')
         if len(directions) != len(points):
-            raise Invalid(f'there are {len(directions)} normals, and {len(points)} points')
+            raise Invalid(f'{len(directions)} normals for {len(points)} points')
         stations, numbers = along_normals(points, directions, far or spacing(points).distance or 1.0)
         return stations, sights_of(numbers, len(points), len(stations))
     stations = points_of(scanners, 'scanners')
     if len(stations) > SCANNER_LIMIT:
-        raise Invalid(f'{len(stations):,} scanners are over {SCANNER_LIMIT:,}')
+        raise Invalid(f'{len(stations):,} scanners: the limit is {SCANNER_LIMIT:,}')
     return stations, sights_of(seen_by, len(points), len(stations))
 
 
 def chosen_frame(points: np.ndarray, scanners: np.ndarray, unit: int | None, origin: Any) -> tuple[np.ndarray, int]:
     """Returns the origin and the scale, as given or else computed to fit."""
     if unit is not None and not 1 <= unit <= 1_000_000:
-        raise Invalid(f'unit {unit} is not from 1 to 1,000,000')
+        raise Invalid(f'unit={unit} is out of range: 1 to 1,000,000')
     start = None if origin is None else points_of(origin, 'origin')[0]
     if unit is None:
         fitting = frame(points, scanners) if start is None else frame(points - start, scanners - start)
@@ -358,10 +358,10 @@ def checked_weights(weights: Any, count: int) -> np.ndarray | None:
         return None
     values = np.asarray(weights)
     if values.shape != (count,) or values.dtype.kind not in 'iu':
-        raise Invalid(f'weights are {count} whole numbers, one a point')
+        raise Invalid(f'weights must be {count} integers, one for each point')
     wrong = np.flatnonzero((values < 1) | (values > 255))
     if len(wrong):
-        raise Invalid(f'the weight of point {wrong[0]} is {values[wrong[0]]}, and not from 1 to 255', int(wrong[0]))
+        raise Invalid(f'the weight of point {wrong[0]} is {values[wrong[0]]}: out of range 1 to 255', int(wrong[0]))
     return values
 
 

@@ -18,7 +18,7 @@ NUMBER = re.compile(r'([a-z_]+) (-?[0-9]+)')
 
 
 class Invalid(ValueError):
-    """Arrays that make no scan: `row` is the first row at fault, from 0, or None; `hint` says what to do."""
+    """Invalid arrays: `row` is the first invalid row, from 0, or None; `hint` is the fix."""
 
     def __init__(self, why: str, row: int | None = None, hint: str = '') -> None:
         super().__init__(why + (f': {hint}' if hint else ''))
@@ -26,22 +26,22 @@ class Invalid(ValueError):
 
 
 class Refused(RuntimeError):
-    """The program ended without an answer, or its check failed. `status` is the exit status (1 check failed, 2 invalid arguments, 3
-    invalid file, 4 input or output, 5 out of memory, negative for a signal), `line` what it printed, and `hint` how to fix it, as it
-    said on standard error."""
+    """An error of the program, or a check that failed. `status` is the exit status (1 check failed, 2 invalid arguments, 3 invalid
+    file, 4 input or output, 5 out of memory, negative for a signal), `line` what it printed on standard output, and `hint` the fix that it
+    printed on standard error."""
 
     def __init__(self, status: int, line: str, hint: str) -> None:
         self.status, self.line, self.hint = status, line, hint
-        meaning = MEANINGS.get(status, f'ended by signal {-status}' if status < 0 else f'status {status}')
-        super().__init__(f'{meaning}: {line or "(nothing was printed)"}' + (f' ({hint})' if hint else ''))
+        meaning = MEANINGS.get(status, f'terminated by signal {-status}' if status < 0 else f'status {status}')
+        super().__init__(f'{meaning}: {line or "(no output)"}' + (f' ({hint})' if hint else ''))
 
 
 def program_path(path: str | None = None) -> str:
-    """Returns the path of the program: `path`, else what the variable RECON names, else the one that was built or installed beside
+    """Returns the path of the program: `path`, else the value of the variable RECON, else the one that was built or installed beside
     this package, else `recon` on the PATH. Raises FileNotFoundError if there is none."""
     found = path or os.environ.get('RECON') or found_program('recon', 'recon_main')
     if found is None:
-        raise FileNotFoundError('the program `recon` was not found: put it on the PATH, or name it in the variable RECON')
+        raise FileNotFoundError('the program `recon` was not found: add it to the PATH, or set the environment variable RECON to its path')
     return found
 
 

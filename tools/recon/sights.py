@@ -23,7 +23,7 @@ def along_normals(points: np.ndarray, normals: np.ndarray, far: float) -> tuple[
     long = np.linalg.norm(normals, axis=1)
     if not (long > 0).all():
         row = int(np.flatnonzero(~(long > 0))[0])
-        raise Invalid(f'point {row} has no normal', row, 'leave it out')
+        raise Invalid(f'the normal of point {row} is 0 0 0 or nan', row, 'remove the point')
     ways = normals / long[:, None]
     spots = points + ways * far
     if len(spots) <= SCANNER_LIMIT:

@@ -25,7 +25,7 @@ class Package(InFolder):
     def test_each_program_is_installed_and_runs_in_place(self) -> None:
         equal([name.replace('-', '_') for name, _ in programs()], [module for _, module in programs()])
         status, _, error = said([sys.executable, PACKAGE])
-        equal((status, error), (2, f'recon: the programs are {", ".join(name for name, _ in programs())}\n'))
+        equal((status, error), (2, f'usage: recon PROGRAM ARGUMENTS .., where PROGRAM is one of {", ".join(name for name, _ in programs())}\n'))
         for _, module in programs():
             equal(os.path.exists(os.path.join(PACKAGE, module + '.py')), True)
 
