@@ -124,7 +124,8 @@ class Cloud:
         from recon.clouds import spacing
         from recon.sights import along_normals
         points, ways = (np.stack([np.frombuffer(column) for column in columns], axis=1) for columns in (self.places, self.directions))
-        far = length_of(word, 'far', 'the distance of a scanner from its point') if word else spacing(points).distance or spacing(np.unique(points, axis=0)).distance
+        far = (length_of(word, 'far', 'the distance of a scanner from its point') if word else
+               spacing(points).distance or spacing(np.unique(points, axis=0)).distance)
         if not far:
             raise Refusal('too few points to estimate their spacing: pass far=')
         return (far, *along_normals(points, ways, far))
