@@ -55,7 +55,7 @@ NOT_RUN = {
 STATUSES = (('no ', 1), ('ls: ', 2), ('refused words', 2), ('refused ', 3))
 FILE = re.compile(r'(?<![\w./-])[\w./-]+\.[a-z]\w*\b')
 # What differs from run to run: seconds, and the names of temporary folders.
-DIFFERS = [(re.compile(r'(?m)^(recon-surface:) +\d+\.\d s'), r'\1 0.0 s'), (re.compile(r'\(\d+\.\d s, beside'), '(0.0 s, beside'),
+DIFFERS = [(re.compile(r'(?m)^(recon-surface:) +\d+\.\d s'), r'\1 0.0 s'), (re.compile(r'\(\d+\.\d s, in parallel'), '(0.0 s, in parallel'),
            (re.compile(r'\.recon-\w{8}'), '.recon-00000000')]
 
 

@@ -106,7 +106,7 @@ def load_scan(path: str) -> Table:
         values = np.fromstring(body, float, sep=' ')
     if len(values) < vertex.count * len(names) + 3 * scanner_count:
         row, column = divmod(len(values), len(names))
-        raise Refusal(f'{names[column]} of point {row} is not a number' if row < vertex.count else 'a position of a scanner is not a number')
+        raise Refusal(f'{names[column]} of point {row} is not a number' if row < vertex.count else 'a scanner position is not a number')
     rows = values[:vertex.count * len(names)].reshape(vertex.count, len(names))
     columns = {name: rows[:, k] for k, name in enumerate(names)}
     scanners = values[rows.size:].reshape(scanner_count, 3) if element is not None else None
@@ -197,7 +197,7 @@ class Inputs:
         if not args.scanner:
             return self.names, options
         if len(self.names) != 1 or '=' in self.names[0] or 'positions' in options or 'table' in options:
-            raise Refusal('--scanner goes with one file that is named without a position')
+            raise Refusal('--scanner requires a single FILE without =X,Y,Z, and excludes --positions and --table')
         if not has_rows(self.names[0]):
             return [f'{self.names[0]}={args.scanner}'], options
         table = self.folder / 'scanner.txt'
@@ -219,25 +219,25 @@ def read_cloud(inputs: Inputs) -> Cloud:
     if not has_rows(name) and is_list(name):
         width, is_direction = list_columns(name)
         if is_direction and not (args.above or args.estimate_normals):
-            return along(inputs, with_normals(inputs), 'columns 4 to 6 are of length 1')
+            return along(inputs, with_normals(inputs), 'columns 4 to 6 are unit vectors')
         return guessed(inputs, inputs.scanned([name + '=0,0,0']))
     images = beside(name)
     if images is not None:
-        choices.choose('sights', 'images', f'{images} is there')
+        choices.choose('sights', 'images', f'found {images}')
         return cloud_of(inputs.scanned([name], images=images))
     table = inputs.scanned([name])
     if table.scanners is not None and len(table.scanners) and table.sights is not None:
-        return stated(inputs, table, 'as the file says')
+        return stated(inputs, table, 'as the file states')
     normals = table.normals()
     if normals is not None and not (args.above or args.estimate_normals):
-        return along(inputs, table, 'the file names no scanner, and has normals')
+        return along(inputs, table, 'the file has normals and no scanner positions')
     return guessed(inputs, table)
 
 
 def stated(inputs: Inputs, table: Table, how: str) -> Cloud:
     """A cloud whose scanners the file or the options state."""
     if table.sights is None or table.scanners is None:
-        raise Refusal('the file names no scanners: --scanner X,Y,Z or --positions TABLE says where they stood')
+        raise Refusal('no scanner positions in the file: pass --scanner X,Y,Z or --positions TABLE')
     inputs.choices.choose('sights', how, f'{len(table.scanners)} positions')
     return cloud_of(table)
 
@@ -264,7 +264,7 @@ def are_near(points: np.ndarray) -> np.ndarray:
 def with_normals(inputs: Inputs) -> Table:
     """The points of one file with their normals."""
     if len(inputs.names) != 1:
-        raise Refusal('--normals goes with one file')
+        raise Refusal('--normals requires a single file')
     if has_rows(inputs.names[0]):
         return inputs.scanned(inputs.names)
     return inputs.scanned(inputs.names, normals='yes', far='1')
@@ -284,7 +284,7 @@ def along(inputs: Inputs, table: Table, why: str) -> Cloud:
 def cloud_along(inputs: Inputs, points: np.ndarray, normals: np.ndarray, colors: np.ndarray | None) -> Cloud:
     """A cloud whose scanners stand `far` off the points, one spacing where nothing else is given."""
     if not len(points):
-        raise Refusal('no point has a normal')
+        raise Refusal('no point has a finite normal other than 0 0 0')
     apart = spacing(points).distance
     far = inputs.args.far or float(f'{apart:.3g}') or 1.0
     scanners, numbers = along_normals(points, normals, far)
@@ -299,16 +299,16 @@ def guessed(inputs: Inputs, table: Table) -> Cloud:
     rows = np.flatnonzero(are_near(points))
     points, colors = points[rows], None if colors is None else colors[rows]
     if len(points) < 4:
-        raise Refusal('there are fewer than four points')
+        raise Refusal('fewer than four points')
     flat = lies_flat(points, spacing(points).distance)
     if args.above or (flat > 0.7 and not args.estimate_normals):
         place = above(points)
-        why = 'given' if args.above else f'no scanner, no normals; {flat:.0%} of the columns have one height'
+        why = 'given' if args.above else f'no scanner positions, no normals; {flat:.0%} of the vertical columns have a single height'
         inputs.choices.choose('sights', 'from above', why)
-        inputs.choices.warn('nobody stated who saw the points: one position far above is assumed (--scanner X,Y,Z if it is known)')
+        inputs.choices.warn('no scanner positions: one position far above the points is assumed (pass --scanner X,Y,Z if it is known)')
         return Cloud(points, place[None], Sights(np.ones(len(points), np.int64), np.zeros(len(points), np.int64)), colors)
-    inputs.choices.choose('sights', 'along estimated normals', 'given' if args.estimate_normals else 'no scanner, no normals, not from above')
-    inputs.choices.warn('nobody stated who saw the points: normals are estimated (--scanner X,Y,Z if it is known)')
+    inputs.choices.choose('sights', 'along estimated normals', 'given' if args.estimate_normals else 'no scanner positions, no normals, not an airborne scan')
+    inputs.choices.warn('no scanner positions: normals are estimated (pass --scanner X,Y,Z if the position is known)')
     return cloud_along(inputs, points, estimated_normals(points), colors)
 
 
@@ -316,10 +316,10 @@ def workspace(inputs: Inputs, folder: Path) -> Cloud:
     """A workspace of COLMAP: its dense points, or else its sparse ones."""
     images = next((folder / name for name in MODELS if (folder / name).exists()), None)
     if images is None:
-        raise Refusal(f'{folder} is a folder without images.bin or images.txt of COLMAP')
+        raise Refusal(f'the folder {folder} has no images.bin or images.txt of COLMAP')
     dense, sparse = folder / 'fused.ply', images.with_name('points3D.bin')
     points = dense if dense.exists() else sparse
-    inputs.choices.choose('sights', 'images', f'{points} and {images} are there')
+    inputs.choices.choose('sights', 'images', f'found {points} and {images}')
     return cloud_of(inputs.scanned([os.fspath(points)], images=os.fspath(images)))
 
 

@@ -61,8 +61,8 @@ def write_outputs(made: Made, beside: Beside) -> None:
     sizes = areas(made.mesh.places, made.mesh.faces)
     part = float(sizes[unseen].sum() / max(float(sizes.sum()), 1e-300))
     if part > 0.05:
-        choices.warn(f'{part:.0%} of the area span space that no scanner saw, by {int(unseen.sum()):,} long faces: '
-                     f'{os.path.basename(seen_path(os.fspath(made.out)))} is without them, and open')
+        choices.warn(f'{part:.0%} of the area spans space that no scanner saw ({int(unseen.sum()):,} long faces): '
+                     f'{os.path.basename(seen_path(os.fspath(made.out)))} is the mesh without them, and is open')
     files = {made.folder / ('out' + made.out.suffix): made.out, made.folder / 'out.html': made.out.with_suffix('.html')}
     digests, figures = beside.digests(), figures_of(made, part)
     write_again(made, digests)
@@ -76,14 +76,14 @@ def write_outputs(made: Made, beside: Beside) -> None:
     if write_seen(os.fspath(next(iter(files))), made.mesh):
         files[made.folder / ('out-seen' + made.out.suffix)] = Path(seen_path(os.fspath(made.out)))
     else:
-        choices.warn('nearly all faces span space that no scanner saw: there is no mesh of what was seen')
+        choices.warn(f'nearly all faces span space that no scanner saw: {os.path.basename(seen_path(os.fspath(made.out)))} is not written')
     page.result()
     choices.timed('write')
     passed = beside.checked()
     choices.timed('wait for check')
     if passed is not None:
-        of_whole = f'mesh and certificate are those of the scan ({passed:.1f} s, beside the steps since the build)'
-        choices.tell(f'check: yes, {"of each tile, when it was built" if made.surface.tiles() else of_whole}')
+        of_whole = f'mesh and certificate are those of the scan ({passed:.1f} s, in parallel with the steps after the build)'
+        choices.tell(f'check: yes, {"each tile was checked after it was built" if made.surface.tiles() else of_whole}')
         choices.beside['check'] = round(passed, 3)
     write_report(made, figures, digests, part)
     files.update({made.folder / name: made.kept() / name for name in (*made.surface.files(), 'report.json', 'again.sh')})
@@ -115,7 +115,7 @@ def some_sights(cloud: Cloud) -> np.ndarray:
 def figures_of(made: Made, unseen: float) -> list[tuple[str, str]]:
     """The figures of the run, for the page and the report."""
     counts, against = made.surface.counts, made.surface.votes_against_per_sight
-    verdict = 'look at the positions' if against > 0.1 else 'as where positions are right'
+    verdict = 'check the positions' if against > 0.1 else 'usual for right positions'
     return [('points read', f'{made.read:,}'), ('points', f'{counts["points"]:,}'), ('scanners', f'{counts["scanners"]:,}'),
             ('sights', f'{counts["sights"]:,}'), ('faces as built', f'{counts["faces"]:,}'), ('faces', f'{len(made.mesh.faces):,}'),
             ('cost', f'{counts["cost"]:,}'), ('contradictions a line of sight', f'{against:.3f} ({verdict})'),
@@ -172,7 +172,7 @@ def write_again(made: Made, digests: dict[str, str]) -> None:
     place = shlex.join([sys.executable, HERE, 'surface'])
     text = f"""#!/bin/sh
 # again.sh [FOLDER]: repeats the run that made {made.out.name.encode('ascii', 'replace').decode()} from the original files, with the same
-# choices, in FOLDER (again), and compares scan, mesh and certificate byte by byte.
+# choices, in FOLDER (default: again), and compares the SHA-256 of scan, mesh and certificate.
 folder=${{1:-again}}
 mkdir -p "$folder" || exit 1
 run="{place}"

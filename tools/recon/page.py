@@ -48,7 +48,7 @@ class PageMesh:
         self.vertices = rows_of(self.vertices, (3,), float, f'vertices of {self.name}')
         self.faces = rows_of(self.faces, (3,), np.int64, f'faces of {self.name}')
         if self.faces.size and not 0 <= self.faces.min() <= self.faces.max() < len(self.vertices):
-            raise ValueError(f'a face of {self.name} names a vertex that is not there')
+            raise ValueError(f'a face of {self.name} has a vertex index that is out of range')
         if self.colors is not None:
             self.colors = rows_of(self.colors, (3,), np.uint8, f'colors of {self.name}', len(self.vertices))
         if self.unseen is not None:
@@ -82,7 +82,7 @@ class Frame:
         with np.errstate(over='ignore'):
             box = np.max([rows.max(0) for rows in filled], axis=0) - low
         if not np.isfinite(box).all():
-            raise ValueError('coordinates of the meshes are far out of range')
+            raise ValueError('coordinates of the meshes are out of range')
         return cls(low, box, float(box.max()) or 1.0)
 
     def near(self, places: np.ndarray) -> list[float]:

@@ -1,15 +1,15 @@
-"""One command from a scan to a closed mesh, verified, with a page to look at it.
+"""Reconstructs a closed mesh from a scan, verifies it, and writes a page that shows it.
 
-It chooses from the data how lines of sight are known, origin, unit, thinning, smoothing and finishing; each choice has an option that
-overrides it. It runs `recon build` and `recon check`, and leaves beside the mesh MESH.ply:
+Chooses the source of the lines of sight, origin, unit, thinning, smoothing and finishing from the data; each choice has an option that
+overrides it. Runs `recon build` and `recon check`, and writes next to the mesh MESH.ply:
 
-  MESH-seen.ply    the mesh without the faces that span space that no scanner saw, which is open
-  MESH.html        a page that shows both in a browser, without a network
-  MESH.recon/      scan.ply, mesh.ply and scan.cert, which `recon check` takes; report.json with choices, reasons and figures; again.sh,
-                   which repeats the run from the original files
+  MESH-seen.ply    the mesh without the faces that span space that no scanner saw; it is open
+  MESH.html        a page that shows both meshes in a browser, without a network
+  MESH.recon/      scan.ply, mesh.ply and scan.cert, the files that `recon check` reads; report.json with choices, reasons and figures;
+                   again.sh, which repeats the run from the original files
 
-Status: 0 done, 1 error, 2 invalid arguments, 3 no surface is left, 4 done, but positions or normals look wrong: over 0.25 contradictions for each
-line of sight (--force ends with 0).
+Exit status: 0 success, 1 error, 2 invalid arguments, 3 empty surface, 4 success, but positions or normals look wrong: more than 0.25
+contradictions for each line of sight (0 with --force).
 """
 from __future__ import annotations
 
@@ -77,13 +77,14 @@ def cleaned(cloud: Cloud, tree: cKDTree, args: Any, choices: Choices) -> Cloud:
         np.maximum(away, np.abs(points[:, k] - middle[k]), out=away)
     far = int((away > 50 * max(float(np.percentile(away, 99)), 1e-300)).sum())
     if far:
-        choices.warn(f'{far} points lie over fifty times as far out as nearly all others: recon-scan with from= and to= leaves them out')
+        choices.warn(f'{far} points are more than 50 times as far from the middle as 99 % of all points: remove them by recon-scan with from= and to=')
     if args.no_clean or cloud.is_made_up or len(points) <= 100:
         return cloud
     lone = lone_points(points, tree=tree, order=np.arange(len(points)))
     if not lone.any():
         return cloud
-    choices.choose('lone points', int(lone.sum()), f'{lone.mean():.2%} are four times as far from others as those are, and left out (--no-clean)')
+    choices.choose('lone points', int(lone.sum()), f'{lone.mean():.2%} are outliers, over four times as far from their neighbors as usual there: removed, '
+                   '--no-clean keeps them')
     return cloud.take(np.flatnonzero(~lone))
 
 
@@ -91,19 +92,19 @@ def thin(cloud: Cloud, texture: Spacing, args: Any, choices: Choices) -> Cloud:
     """The cloud with one point a cube, where there are too many points or they err more than they are apart."""
     side, apart = args.side, texture.distance
     if args.tiles and len(cloud.points) > args.max_points:
-        choices.choose('tiles', 'yes', f'given; {len(cloud.points):,} points are over {args.max_points:,}')
+        choices.choose('tiles', 'yes', f'given; {len(cloud.points):,} points exceed {args.max_points:,}')
     elif side is None and len(cloud.points) > args.max_points:
         side = thinning_side(cloud.points, args.max_points, apart)
-        choices.choose('side', f'{side:g}', f'{len(cloud.points):,} points are over {args.max_points:,}; --tiles keeps all')
+        choices.choose('side', f'{side:g}', f'{len(cloud.points):,} points exceed {args.max_points:,}; --tiles keeps all')
     elif side is None and texture.noise > 0.8 * apart and not cloud.is_made_up:
         side = float(f'{1.5 * texture.noise:.3g}')
-        choices.choose('side', f'{side:g}', 'points are nearer to each other than they err')
+        choices.choose('side', f'{side:g}', f'the noise {texture.noise:.2g} is more than 0.8 of the spacing {apart:.2g}')
     elif side:
         choices.choose('side', f'{side:g}', 'given')
     if not side:
         return cloud
     cloud = cloud.take(thinned(cloud.points, side))
-    choices.tell(f'{len(cloud.points):,} points are left, one in each cube of {side:g}')
+    choices.tell(f'{len(cloud.points):,} points are left, one in each cube of side {side:g}')
     return cloud
 
 
@@ -120,13 +121,13 @@ def closed_around(cloud: Cloud, texture: Spacing, args: Any, choices: Choices) -
         low, high = box_of(cloud.points)
         size = float((high - low).max())
         off = float(f'{max(10 * texture.distance, 0.02 * size):.3g}') if part > ROOM else 0.0
-        where = 'walls all around' if off else 'not from inside'
+        where = 'scanned from inside' if off else 'not scanned from inside'
         choices.choose('surround', f'{off:g}', f'{where}: points in {part:.0%} of the directions around a scanner')
     else:
         choices.choose('surround', f'{off:g}', 'given')
         if off and part <= ROOM:
-            choices.warn(f'--surround is for rooms, and points are in {part:.0%} of the directions around a scanner: fins to the made-up '
-                         'corners may show')
+            choices.warn(f'--surround is for scans from inside, and only {part:.0%} of the directions around a scanner have points: the mesh may '
+                         'have fins toward the eight added points')
     return (cloud.with_corners(off) if off else cloud), off
 
 
@@ -143,10 +144,10 @@ def prepared(inputs: Inputs) -> Scan:
     tree = tree_of(cloud.points)
     texture = spacing(cloud.points, tree)
     if not texture.distance:
-        raise NoSurface('most points stand at one place')
+        raise NoSurface('most points have the same coordinates')
     low, high = box_of(cloud.points)
-    choices.tell(f'{read:,} points, {len(cloud.scanners):,} positions; {texture.distance:.4g} apart, noise about {texture.noise:.2g}, '
-                 f'{(high - low).max():.4g} across')
+    choices.tell(f'{read:,} points, {len(cloud.scanners):,} scanner positions; spacing {texture.distance:.4g}, noise about {texture.noise:.2g}, '
+                 f'extent {(high - low).max():.4g}')
     cloud = thin(cleaned(cloud, tree, args, choices), texture, args, choices)
     cloud, off = closed_around(cloud, texture, args, choices)
     origin, unit = framed(cloud, texture, args, choices)
@@ -159,11 +160,13 @@ def framed(cloud: Cloud, texture: Spacing, args: Any, choices: Choices) -> tuple
     given = None if args.origin is None else np.array([float(word) for word in args.origin.split(',')])
     fitting = frame(*((cloud.points, cloud.scanners) if given is None else (cloud.points - given, cloud.scanners - given)), texture.distance)
     origin, unit = fitting.origin if given is None else given, args.unit or fitting.unit
-    choices.choose('origin', ','.join(map(plain, origin)), 'given' if given is not None else 'all fits' if not origin.any() else 'far from 0')
+    why = 'given' if given is not None else 'coordinates are far from 0' if origin.any() else 'coordinates are in range'
+    choices.choose('origin', ','.join(map(plain, origin)), why)
     gap = texture.distance * unit
-    choices.choose('unit', unit, 'given' if args.unit else f'points are {gap:.0f} units apart')
+    choices.choose('unit', unit, 'given' if args.unit else f'the spacing is {gap:.0f} units')
     if gap < 20:
-        choices.warn(f'points are {gap:.1f} units apart, so rounding shows: recon-tiles cuts such a scan, each tile with an origin of its own')
+        choices.warn(f'the spacing is only {gap:.1f} units, so rounding is visible: ' + ('use a larger --unit' if unit < fitting.unit else
+                     'build parts of the scan, each with its own origin (recon-scan with from=, to= and origin=)'))
     return origin, unit
 
 
@@ -183,9 +186,9 @@ def built(scan: Scan, args: Any, folder: Path, choices: Choices) -> Surface:
         surface = built_at(smooth, scan, args, folder, choices)
         if 2 * surface.counts['faces'] >= surface.counts['points']:
             break
-        choices.warn(f'at smooth={smooth} there are only {surface.counts["faces"]:,} faces for {surface.counts["points"]:,} points')
-    why = ('given' if args.smooth is not None else 'at 3 it vanishes' if surface.smooth != usual else
-           'sights along normals are short' if cloud.is_made_up else 'positions are known')
+        choices.warn(f'smooth={smooth} gives only {surface.counts["faces"]:,} faces for {surface.counts["points"]:,} points')
+    why = ('given' if args.smooth is not None else 'the surface vanishes at 3' if surface.smooth != usual else
+           'lines of sight along normals are short' if cloud.is_made_up else 'scanner positions are known')
     choices.choose('smooth', surface.smooth, why)
     choices.timed('build')
     if not surface.counts['faces']:
@@ -193,8 +196,8 @@ def built(scan: Scan, args: Any, folder: Path, choices: Choices) -> Surface:
     against = surface.votes_against_per_sight
     choices.tell(f'{against:.3f} contradictions for each line of sight')
     if against > LOOK:
-        choices.warn(f'{against:.2f} contradictions for each line of sight, over {LOOK}: look at '
-                     + ('the normals' if cloud.is_made_up else 'the positions of the scanners'))
+        choices.warn(f'{against:.2f} contradictions for each line of sight, more than {LOOK}: check '
+                     + ('the normals' if cloud.is_made_up else 'the scanner positions'))
     return surface
 
 
@@ -209,7 +212,7 @@ def built_at(smooth: int, scan: Scan, args: Any, folder: Path, choices: Choices)
     surface = build_tiles(cloud.points, cloud.scanners, cloud.sights, most=min(args.max_points, MOST_OF_A_TILE), tell=choices.tell, **given)
     assert surface.joined is not None
     choices.tell(str(surface.joined))
-    choices.choose('tiles', len(surface.names), f'{choices.chosen["tiles"].why}; each is built and checked, the whole is not: {surface.joined.open_edges} '
+    choices.choose('tiles', len(surface.names), f'{choices.chosen["tiles"].why}; each tile is checked, the joined mesh is not: {surface.joined.open_edges} '
                    f'edges at seams are open, filled by {(surface.joined.filled or (0, 0))[0]} faces')
     return surface
 
@@ -229,7 +232,7 @@ def wishes_for(surface: Surface, scan: Scan, args: Any, choices: Choices) -> Wis
     sizes = np.sort(np.bincount(part))[::-1]
     least = max(50.0, 0.01 * sizes[0], 100.0 if scan.surround else 0.0)
     kept = args.pieces or max(1, int((sizes >= least).sum()))
-    choices.choose('pieces', kept, 'given' if args.pieces else f'of {len(sizes)}, those of {least:.0f} faces or more')
+    choices.choose('pieces', kept, 'given' if args.pieces else f'of {len(sizes)}, those with at least {least:.0f} faces')
     apart, noise = scan.texture
     # steps that are asked for move vertices of a scan without noise too
     least_move = 0.1 * apart if args.steps else 0.0
@@ -239,18 +242,19 @@ def wishes_for(surface: Surface, scan: Scan, args: Any, choices: Choices) -> Wis
     steps, flips = steps if within else 0, not args.no_flips
     smoothing = len(surface.faces) * steps / SMOOTHED_A_SECOND
     if args.steps is None and smoothing > args.patience:
-        choices.warn(f'not smoothed, which would take some {smoothing / 60:.0f} minutes (--patience SECONDS)')
+        choices.warn(f'not smoothed: it would take about {smoothing / 60:.0f} minutes (--patience SECONDS allows it)')
         steps = 0
     if mesh_program_path() is None:
-        choices.warn('the program recon-mesh is not there (make run builds it): the mesh is as it was built')
+        choices.warn('the program recon-mesh was not found (make run builds it): the mesh is not finished')
         steps, flips, kept = 0, False, 0
-    choices.choose('flips', 'yes' if flips else 'no', 'given' if args.no_flips else 'edges lie better' if flips else 'recon-mesh is not there')
+    choices.choose('flips', 'yes' if flips else 'no', 'given' if args.no_flips else 'reduces the angles between faces' if flips else 'recon-mesh was not found')
     if steps:
-        choices.choose('steps', steps, 'given' if args.steps is not None else f'noise of {noise:.2g} at {apart:.2g} apart')
+        choices.choose('steps', steps, 'given' if args.steps is not None else f'noise {noise:.2g} at spacing {apart:.2g}')
         choices.choose('within', f'{within:g}', 'given' if args.within is not None else 'twice the noise' if 2 * noise >= least_move
-                       else f'a tenth of {apart:.2g}')
+                       else f'a tenth of the spacing {apart:.2g}')
     else:
-        choices.choose('steps', 0, 'given' if args.steps == 0 else 'patience' if within else f'noise {noise:.2g} is small beside {apart:.2g}')
+        choices.choose('steps', 0, 'given' if args.steps == 0 else 'it would exceed --patience' if within else
+                       f'the noise {noise:.2g} is small compared to the spacing {apart:.2g}')
     return Wishes(scan.unit, scan.origin.tolist(), kept or None, flips=flips, steps=steps, within=within if steps else 0.0, seen=True)
 
 
@@ -271,7 +275,7 @@ def refuse_own_inputs(args: Any) -> None:
     for name in args.input:
         path = name if os.path.exists(name) else name.rpartition('=')[0]
         if os.path.realpath(path) in written:
-            raise Refusal(f'{path} is read, and would be written over: choose another name for -o')
+            raise Refusal(f'{path} is an input, and would be overwritten: choose another name for -o')
 
 
 def made(args: Any, choices: Choices, folder: Path) -> Made:
@@ -297,43 +301,43 @@ def made(args: Any, choices: Choices, folder: Path) -> Made:
 def parser() -> argparse.ArgumentParser:
     shape = argparse.RawDescriptionHelpFormatter
     top = argparse.ArgumentParser(prog='recon-surface', description=__doc__, formatter_class=shape)
-    top.add_argument('input', nargs='+', help='a scan; FILE=X,Y,Z for each station; or a workspace of COLMAP')
-    top.add_argument('-o', '--output', required=True, metavar='MESH', help='the mesh, as .ply, .stl, .glb or .obj')
-    group = top.add_argument_group('who saw the points')
-    group.add_argument('--scanner', type=triple, metavar='X,Y,Z', help='one position that all points were seen from')
-    group.add_argument('--normals', action='store_true', help='scanners along the normals of the points')
-    group.add_argument('--above', action='store_true', help='one position far above, as of airborne scans')
-    group.add_argument('--estimate-normals', action='store_true', help='scanners along estimated normals')
-    group.add_argument('--far', type=length, metavar='D', help='how far off the points scanners along normals stand (default: one spacing)')
-    for name, what in (('positions', 'a table of scanner positions'), ('index', 'the property that numbers the scanners'),
+    top.add_argument('input', nargs='+', help='a scan, FILE=X,Y,Z for each station, or a workspace folder of COLMAP')
+    top.add_argument('-o', '--output', required=True, metavar='MESH', help='write the mesh to MESH: .ply, .stl, .glb or .obj')
+    group = top.add_argument_group('scanner positions')
+    group.add_argument('--scanner', type=triple, metavar='X,Y,Z', help='one scanner position that saw all points')
+    group.add_argument('--normals', action='store_true', help='synthesise a scanner along the normal of each point')
+    group.add_argument('--above', action='store_true', help='synthesise one position far above, for airborne scans')
+    group.add_argument('--estimate-normals', action='store_true', help='estimate normals, and synthesise scanners along them')
+    group.add_argument('--far', type=length, metavar='D', help='distance of a synthesised scanner from its point (default: one spacing)')
+    for name, what in (('positions', 'a table of scanner positions'), ('index', 'the property with the scanner index of each point'),
                        ('table', 'a table of stations and their files'), ('images', "COLMAP's images.bin or .txt"),
-                       ('position', 'header or matrix: which position of a PTX counts'),
+                       ('position', 'header or matrix: which scanner position of a PTX is used'),
                        ('flight', 'a table of times and positions of an airborne scan')):
-        group.add_argument('--' + name, help=what + ', as for recon-scan')
-    group = top.add_argument_group('what is chosen from the data otherwise')
-    group.add_argument('--divide', type=length, metavar='N', help='divide all coordinates by N first, as 1000 for micrometers')
-    group.add_argument('--origin', type=triple, metavar='X,Y,Z', help='the place that is taken off all coordinates')
-    group.add_argument('--unit', type=within(1, 1_000_000), metavar='U', help='coordinates are rounded to 1/U')
+        group.add_argument('--' + name, help=what + ' (see recon-scan --help)')
+    group = top.add_argument_group('processing (default: chosen from the data)')
+    group.add_argument('--divide', type=length, metavar='N', help='divide all coordinates by N first (1000 for micrometers)')
+    group.add_argument('--origin', type=triple, metavar='X,Y,Z', help='subtract this origin from all coordinates')
+    group.add_argument('--unit', type=within(1, 1_000_000), metavar='U', help='round coordinates to 1/U')
     group.add_argument('--side', type=length, metavar='S', help='keep one point in each cube of this side')
     group.add_argument('--max-points', type=within(4, 1_048_576), default=MOST, metavar='N', help='thin above N points (default: %(default)s)')
-    group.add_argument('--tiles', action='store_true', help='above that keep all points: cut the scan into tiles, build and check each, join them')
-    group.add_argument('--no-clean', action='store_true', help='keep lone points')
+    group.add_argument('--tiles', action='store_true', help='above N points, keep all: split the scan into tiles, build and check each tile, join the meshes')
+    group.add_argument('--no-clean', action='store_true', help='keep outliers (default: remove points that are far from all others)')
     group.add_argument('--surround', type=lambda word: 0.0 if word == '0' else length(word), metavar='D',
-                       help='put eight points D outside of a scan from inside; 0 for none')
+                       help='add eight points at distance D around a scan from inside, so that walls become solid (0: none)')
     group.add_argument('--smooth', type=within(0, 65535), metavar='L', help='area weight of a face')
-    group.add_argument('--vote', type=within(1, 65535), default=8, metavar='V', help='weight of a sight (default: %(default)s)')
-    group.add_argument('--pieces', type=within(1, 10 ** 9), metavar='N', help='keep the N largest pieces')
-    group.add_argument('--no-flips', action='store_true', help='leave edges as they are')
-    group.add_argument('--steps', type=within(0, MOST_STEPS), metavar='N', help='steps of smoothing')
-    group.add_argument('--within', type=length, metavar='D', help='how far a vertex may go by smoothing')
-    group.add_argument('--patience', type=length, default=120.0, metavar='SECONDS', help='how long smoothing may take (default: %(default)g)')
-    group = top.add_argument_group('the run')
-    group.add_argument('--sweep', type=within(2, 64), metavar='N', help='the page gets a slider over smooth=0 to N-1')
+    group.add_argument('--vote', type=within(1, 65535), default=8, metavar='V', help='visibility weight of a line of sight (default: %(default)s)')
+    group.add_argument('--pieces', type=within(1, 10 ** 9), metavar='N', help='keep the N largest connected components')
+    group.add_argument('--no-flips', action='store_true', help='do not flip edges')
+    group.add_argument('--steps', type=within(0, MOST_STEPS), metavar='N', help='number of smoothing steps')
+    group.add_argument('--within', type=length, metavar='D', help='the most that smoothing may move a vertex')
+    group.add_argument('--patience', type=length, default=120.0, metavar='SECONDS', help='skip smoothing that would take longer (default: %(default)g)')
+    group = top.add_argument_group('run')
+    group.add_argument('--sweep', type=within(2, 64), metavar='N', help='add a slider over smooth=0 to N-1 to the page')
     group.add_argument('--no-check', action='store_true', help='do not run recon check')
-    group.add_argument('--force', action='store_true', help='end with 0 where positions look wrong')
-    group.add_argument('--keep', metavar='FOLDER', help='where scan, mesh and certificate go (default: MESH.recon)')
-    group.add_argument('--program', metavar='PATH', help='the program recon')
-    group.add_argument('-q', '--quiet', action='store_true', help='no progress')
+    group.add_argument('--force', action='store_true', help='exit with status 0 even if positions or normals look wrong')
+    group.add_argument('--keep', metavar='FOLDER', help='folder for scan, mesh and certificate (default: MESH.recon)')
+    group.add_argument('--program', metavar='PATH', help='path of the program recon')
+    group.add_argument('-q', '--quiet', action='store_true', help='print no progress')
     return top
 
 
@@ -345,7 +349,7 @@ def triple(word: str) -> str:
 
 def length(word: str) -> float:
     if not IS_NUMBER(word) or not 0 < float(word) < 1e30:
-        raise argparse.ArgumentTypeError(f'{word} is not a number over 0')
+        raise argparse.ArgumentTypeError(f'{word} is not a number greater than 0')
     return float(word)
 
 
@@ -353,7 +357,7 @@ def within(least: int, most: int) -> Any:
     """The type of a whole number in a range."""
     def whole(word: str) -> int:
         if not word.isdecimal() or not least <= int(word) <= most:
-            raise argparse.ArgumentTypeError(f'{word} is not a whole number from {least} to {most:,}')
+            raise argparse.ArgumentTypeError(f'{word} is not an integer from {least} to {most:,}')
         return int(word)
     return whole
 
@@ -381,7 +385,7 @@ def run(words: Sequence[str]) -> int:
     try:
         form_of(args.output)
         if args.tiles and (args.sweep or args.side):
-            raise Refusal('--tiles goes without --sweep and --side')
+            raise Refusal('--tiles cannot be combined with --sweep or --side')
         refuse_own_inputs(args)
         # what is not finite is looked for where it matters
         with tempfile.TemporaryDirectory(prefix='.recon-', dir=os.path.dirname(args.output) or '.') as folder, np.errstate(all='ignore'):
@@ -395,12 +399,12 @@ def run(words: Sequence[str]) -> int:
     except (Refusal, Invalid, Refused) as error:
         return failed(1, f'error: {error}')
     except ArithmeticError:
-        return failed(1, 'error: a number is far out of range')
+        return failed(1, 'error: a number is out of range')
     except OSError as error:
         return failed(1, f'error: {error.strerror}: {error.filename or "writing"}' if error.strerror else f'error: {error}')
     against = result.surface.votes_against_per_sight
     if against > WRONG and not args.force:
-        return failed(4, f'{against:.2f} contradictions for each line of sight: positions or normals look wrong (--force)')
+        return failed(4, f'{against:.2f} contradictions for each line of sight: positions or normals look wrong (status 0 with --force)')
     return 0
 
 

@@ -79,13 +79,13 @@ class Written(InFolder):
         written()
         with open('mesh.html', 'rb') as file:
             before = file.read()
-        for part, make in (('names a vertex', lambda: page.PageMesh('a', vertices, faces + 1)),
-                           ('names a vertex', lambda: page.PageMesh('a', np.zeros((0, 3)), faces)),
+        for part, make in (('has a vertex index that is out of range', lambda: page.PageMesh('a', vertices, faces + 1)),
+                           ('has a vertex index that is out of range', lambda: page.PageMesh('a', np.zeros((0, 3)), faces)),
                            ('not finite', lambda: page.PageMesh('a', vertices * np.nan, faces)),
                            ('shape (8, 3), not (8)', lambda: page.PageMesh('a', vertices, faces[:8], None, vertices > 0)),
                            ('shape (7, 3), not (8, 3)', lambda: page.PageMesh('a', vertices, faces, vertices[:7])),
                            ('a page needs a mesh', lambda: written(meshes=[])),
-                           ('far out of range', lambda: written(meshes=[page.PageMesh('a', (vertices - 0.5) * 1.7e308 * 2, faces)])),
+                           ('out of range', lambda: written(meshes=[page.PageMesh('a', (vertices - 0.5) * 1.7e308 * 2, faces)])),
                            ('scanners have the shape (3,)', lambda: written(scanners=np.zeros(3))),
                            ('lines of sight are not finite', lambda: written(sights=np.full((1, 2, 3), np.inf)))):
             with self.assertRaisesRegex(ValueError, re.escape(part)):

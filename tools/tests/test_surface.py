@@ -52,7 +52,7 @@ class Surfaces(InFolder):
         points = sphere(300)
         write('in.ply', scan_text(points, SCANNERS, nearest(points)))
         report = made('in.ply')
-        equal(chosen(report, 'sights', 'origin', 'unit', 'smooth', 'pieces', 'surround'), ['as the file says', '0,0,0', '1000', '3', '1', '0'])
+        equal(chosen(report, 'sights', 'origin', 'unit', 'smooth', 'pieces', 'surround'), ['as the file states', '0,0,0', '1000', '3', '1', '0'])
         equal((report['votes_against_per_sight'], report['figures']['checked'], report['unseen_area']), (0.0, 'yes', 0.0))
         equal(sorted(os.listdir()), ['in.ply', 'mesh-seen.ply', 'mesh.html', 'mesh.ply', 'mesh.recon'])
         equal(sorted(os.listdir('mesh.recon')), ['again.sh', 'mesh.ply', 'report.json', 'scan.cert', 'scan.ply'])
@@ -161,7 +161,7 @@ class Surfaces(InFolder):
         equal(sorted(os.listdir('mesh.recon/tiles')), names)
         top = pathlib.Path('mesh.recon/mesh.ply').read_bytes().split(b'element vertex ')[1].split(b'\n')[0]
         equal(int(top) > 0.95 * len(points), True)
-        refused('--tiles goes without', 'in.ply', '--tiles', '--sweep', '3', '-o', 'mesh.glb')
+        refused('--tiles cannot be combined with', 'in.ply', '--tiles', '--sweep', '3', '-o', 'mesh.glb')
 
     def test_names_of_files_are_any_bytes(self) -> None:
         points = sphere(200)
@@ -188,21 +188,21 @@ class Surfaces(InFolder):
         points = sphere(400)
         write('in.ply', scan_text(points, SCANNERS, 5 - nearest(points)))
         report = made('in.ply', status=4)
-        equal((report['votes_against_per_sight'] > 0.25, any('look at the positions' in text for text in report['warnings'])), (True, True))
+        equal((report['votes_against_per_sight'] > 0.25, any('check the scanner positions' in text for text in report['warnings'])), (True, True))
         made('in.ply', '--force')
 
     def test_errors(self) -> None:
         write('in.ply', scan_text(sphere(50), SCANNERS[:1], np.zeros(50, int)))
-        refused('is read, and would be written over', 'in.ply', '-o', 'in.ply')
+        refused('is an input, and would be overwritten', 'in.ply', '-o', 'in.ply')
         refused('unknown file name extension', 'in.ply', '-o', 'mesh.off')
         refused('No such file or directory: none.ply', 'none.ply', '-o', 'mesh.ply')
         listed('flat.xyz', np.random.default_rng(1).uniform(size=(200, 3)) * [1, 1, 0])
         refused('the surface is empty', 'flat.xyz=0.5,0.5,0', '-o', 'mesh.ply', status=3)
         write('empty.xyz', 'X Y Z\n')
         refused('error:', 'empty.xyz', '-o', 'mesh.ply')
-        refused('--scanner goes with one file', 'in.ply', 'flat.xyz', '--scanner', '1,2,3', '-o', 'mesh.ply')
+        refused('--scanner requires a single FILE', 'in.ply', 'flat.xyz', '--scanner', '1,2,3', '-o', 'mesh.ply')
         refused('is not X,Y,Z', 'in.ply', '-o', 'mesh.ply', '--scanner', '1,2', status=2)
-        refused('a whole number from 1', 'in.ply', '-o', 'mesh.ply', '--unit', '0', status=2)
+        refused('an integer from 1', 'in.ply', '-o', 'mesh.ply', '--unit', '0', status=2)
         equal([name for name in os.listdir() if name.startswith(('mesh', '.recon'))], [])
         text = scan_text(sphere(50), SCANNERS[:1], np.zeros(50, int))
         write('word.ply', text.replace(' 3 7 9 ', ' 3 - 9 '))
@@ -219,7 +219,7 @@ class Words(InFolder):
     def test_words(self) -> None:
         equal(arguments(['a', '--scanner', '-1,2,3', '-o', 'x', '-q']), ['a', '--scanner=-1,2,3', '-o', 'x', '-q'])
         status, said, error = call('surface', '--help')
-        equal((status, error, all(word in said for word in ('--scanner', '--force', 'Status:'))), (0, '', True))
+        equal((status, error, all(word in said for word in ('--scanner', '--force', 'Exit status:'))), (0, '', True))
         options = {word for action in parser()._actions for word in action.option_strings if word.startswith('--')}
         with open(os.path.join(os.path.dirname(os.path.abspath(__file__)), '..', '..', 'docs', 'reference', 'tools.md'), encoding='utf-8') as file:
             section = file.read().split('## `recon-surface`')[1]

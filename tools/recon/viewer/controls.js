@@ -71,7 +71,7 @@ class Page {
     addEventListener('resize', () => this.draw());
     this.listenToPointers();
     this.canvas.addEventListener('keydown', (event) => this.key(event));
-    this.canvas.addEventListener('webglcontextlost', () => fail('the graphics card was lost: load the page again'));
+    this.canvas.addEventListener('webglcontextlost', () => fail('the graphics context was lost: reload the page'));
   }
 
   reset() {
