@@ -27,22 +27,22 @@ BLOCK = 32
 
 
 class Spacing(NamedTuple):
-    """The median distance of a point to its six nearest, and the noise: the median deviation of 24 neighbors from a surface of
-    second degree through them. Both in the points' own units."""
+    """The median distance of a point to its six nearest neighbors, and the noise: the median deviation of 24 neighbors from a
+    quadratic surface fitted to them. Both in the units of the points."""
     distance: float
     noise: float
 
 
 class Frame(NamedTuple):
-    """An origin (3,) and a unit: a coordinate x becomes the whole number nearest to (x - origin) * unit."""
+    """An origin (3,) and a unit: a coordinate x is rounded to the integer nearest to (x - origin) * unit."""
     origin: np.ndarray
     unit: int
 
 
 def spacing(points: np.ndarray, tree: cKDTree | None = None) -> Spacing:
-    """Returns how far the points (n, 3) are apart and how noisy they are, from a sample of 4,000 of them. Detail as small as the
-    spacing counts as noise. Both are 0 for fewer than two different points; the noise is 0 for fewer than 12. `tree` is
-    `tree_of(points)`, if it is known."""
+    """Estimates the spacing and the noise of the points (n, 3) from a sample of 4,000 of them. Detail as small as the spacing counts as
+    noise. Both are 0 for fewer than two different points; the noise is 0 for fewer than 12. `tree` is `tree_of(points)`, if it is
+    known."""
     points = np.asarray(points, float)
     if len(points) < 2:
         return Spacing(0.0, 0.0)
@@ -82,9 +82,9 @@ def box_of(points: np.ndarray) -> tuple[np.ndarray, np.ndarray]:
 
 
 def frame(points: np.ndarray, scanners: np.ndarray, apart: float | None = None) -> Frame:
-    """Returns an origin, 0 if all fits without, and a unit: the power of ten that puts 100 to 1000 units between points, or the
-    largest below it at which points and scanners fit. `apart` is the spacing, if it is known. Raises `Invalid` if they are more than
-    4,194,302 units of 1 across."""
+    """Returns an origin, 0 if all coordinates are in range without one, and a unit: the power of ten at which the spacing is 100 to 1000
+    units, or the largest below it at which points and scanners are in range. `apart` is the spacing, if it is known. Raises `Invalid`
+    if the extent is over 4,194,302."""
     boxes = [box_of(rows) for rows in (np.asarray(points, float).reshape(-1, 3), np.asarray(scanners, float).reshape(-1, 3)) if len(rows)]
     if not boxes:
         return Frame(np.zeros(3), 1)

@@ -22,7 +22,7 @@ components, with the colors of its points. The result is no longer the mesh that
                      first. STL stores none, GLB and OBJ store red, green and blue
 
 Each option may also be written as --unit 1000, --seen or --no-flips. The program `recon-mesh` keeps pieces, splits vertices, flips
-edges and smooths; it is searched beside this program, on the PATH, and in the variable RECON_MESH.
+edges and smooths; it is searched in the variable RECON_MESH, next to this program, and on the PATH.
 """
 from __future__ import annotations
 

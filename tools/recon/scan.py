@@ -1,11 +1,11 @@
-"""Converts point clouds to the scan format of `recon`: a text PLY with points and sensor positions.
+"""Converts point clouds to the scan format of `recon`: a text PLY with points and scanner positions.
 
   recon-scan FILE OUT [index=NAME] [positions=TABLE]        PLY, PCD, LAS or E57
   recon-scan FILE OUT [position=header|matrix]              Leica's PTX
   recon-scan FILE=X,Y,Z [FILE=X,Y,Z ..] OUT                 one file for each station, with its scanner position
   recon-scan OUT table=TABLE                                the same, by a text file with lines `X Y Z FILE`
   recon-scan FILE OUT normals=yes [far=D]                   points with normals, without scanners
-  recon-scan FUSED OUT images=IMAGES                        COLMAP's fused.ply with fused.ply.vis beside it, and images.bin or .txt
+  recon-scan FUSED OUT images=IMAGES                        COLMAP's fused.ply with fused.ply.vis next to it, and images.bin or .txt
   recon-scan MODEL OUT [images=IMAGES]                      COLMAP's sparse points: points3D.bin or .txt, or the folder that has it
   recon-scan FILE OUT flight=TABLE                          airborne LAS, with a table of lines TIME X Y Z
   recon-scan FILE .. OUT above=yes                          airborne scans without positions
@@ -32,14 +32,14 @@ Options for a PLY, PCD, LAS or E57 without a position; all its properties are ke
 If points of a PLY have lists of scanners, all properties except other lists are kept. For several stations only coordinates are kept. A
 PCD states its scanner by VIEWPOINT, or by vp_x, vp_y and vp_z of each point, and an E57 of one station by its pose: then FILE is enough.
 FILE in a table is relative to the table's folder, and `#` starts a comment. The position in a station's header of a PTX and the last row
-of its matrix have to agree within 0.001, or one of them has to be 0 0 0; otherwise position= chooses.
+of its matrix have to agree within 0.001, or one of them has to be 0 0 0; otherwise pass position=.
 
   normals=yes           nx, ny and nz (in a PCD normal_x and so on), or the fourth to sixth number of a list, point outward: each
                         point gets its own scanner at a distance along its normal
   far=D                 that distance (default: the spacing, which is the median distance of a point to its six nearest). Over
                         65,536 points share positions, if they are near each other and have similar normals
 
-  flight=TABLE          positions of the scanner by time, in the numbers of the points' gpstime, ascending. Positions between
+  flight=TABLE          scanner positions by time, in the time scale of the points' gpstime, ascending. Positions between
                         two lines are interpolated. Points before and after the flight are left out
   above=yes             one synthesised position for all points: three widths above their middle. Roofs and ground are
                         correct, walls that no pulse met are synthesised

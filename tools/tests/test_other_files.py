@@ -281,7 +281,7 @@ class OtherFiles(InFolder):
         refuses('scan', 'is not a PLY, PCD, LAS, E57 or PTX', 'in.xyz', 'out.ply')
         refuses('scan', 'in.xyz has no scanner position: pass in.xyz=X,Y,Z', 'in.xyz', 'in.xyz=0,0,0', 'out.ply')
         refuses('scan', 'a=b is neither an option', 'a=b', 'out.ply')
-        refuses('scan', 'index= cannot be used with files of stations', 'in.xyz=0,0,0', 'out.ply', 'index=a')
+        refuses('scan', 'index= cannot be used with FILE=X,Y,Z', 'in.xyz=0,0,0', 'out.ply', 'index=a')
         refuses('scan', 'far= requires normals=yes', 'in.xyz', 'out.ply', 'far=1')
         write('in.ply', binary('<', '\n', [(1, 2, 3, 4)]))
         refuses('scan', 'in.ply has no scanner position: pass in.ply=X,Y,Z', 'in.ply', 'in.xyz=0,0,0', 'out.ply')

@@ -274,7 +274,7 @@ def unpacked(data: bytes, size: int) -> bytearray:
     except (IndexError, ZeroDivisionError):
         raise Refusal('the compressed body of the PCD is invalid') from None
     if len(out) != size:
-        raise Refusal('the compressed body of the PCD has not the stated length')
+        raise Refusal('the unpacked body of the PCD has a different length than stated')
     return out
 
 
@@ -320,7 +320,7 @@ class LasReader(FileReader):
         self.fields = LAS_ROWS[kind]
         known = struct.calcsize('<' + ''.join(code for code, _ in self.fields))
         if size < known:
-            raise Refusal(f'the points of the LAS have {size} bytes, its point format has {known}')
+            raise Refusal(f'a point of the LAS has {size} bytes, its point format needs {known}')
         self.row = struct.Struct('<' + ''.join(code for code, _ in self.fields) + f'{size - known}x')
         self.scales = list(map(whole_and_places, struct.unpack_from('<3d', head, 131)))
         self.starts = list(map(whole_and_places, struct.unpack_from('<3d', head, 155)))

@@ -97,7 +97,7 @@ class Rows(OfReader):
     """Points whose properties are not lists. All are kept."""
 
     def __init__(self, reader: Any, path: str, options: Any) -> None:
-        refuse_others(options, ('index', 'positions', 'open_end'), 'a file of rows')
+        refuse_others(options, ('index', 'positions', 'open_end'), 'a PLY, PCD, LAS or E57 with scanners')
         super().__init__(reader, path, [Property(p.name, p.kind) for p in reader.element('vertex').properties])
         self.counts['without scanner'] = 0
         self.point, self.index = self.places, index_column(self.vertex, options.index)
@@ -154,7 +154,7 @@ class Listed(OfReader):
     has_lists = True
 
     def __init__(self, reader: Any, path: str, options: Any) -> None:
-        refuse_others(options, ('open_end',), 'lists of scanners')
+        refuse_others(options, ('open_end',), 'a PLY with lists of scanners')
         vertex = reader.element('vertex')
         self.named, self.weighed = vertex.column('scanner'), weight_column(vertex)
         if self.named is None or vertex.properties[self.named].count_kind is None or reader.element('scanner') is None:
@@ -192,7 +192,7 @@ class Airborne(OfReader):
     """Points that were seen from a flight, or from far above, and do not say from where. All properties are kept."""
 
     def __init__(self, reader: Any, path: str, options: Any) -> None:
-        refuse_others(options, ('above', 'flight', 'open_end'), 'an airborne scan')
+        refuse_others(options, ('above', 'flight', 'open_end'), 'above= or flight=')
         vertex = reader.element('vertex')
         if vertex.has_lists() or reader.element('scanner') is not None:
             raise Refusal('above= and flight= are for files without scanner positions')

@@ -110,7 +110,7 @@ def in_box(start: str | None, end: str | None, outside: bool) -> Callable[[float
     low_x, low_y, low_z = map(float, three(start, 'from'))
     high_x, high_y, high_z = map(float, three(end, 'to'))
     if low_x > high_x or low_y > high_y or low_z > high_z:
-        raise Refusal('a coordinate of from= is greater than that of to=')
+        raise Refusal('each coordinate of from= must be at most that of to=')
 
     def choose(x: float, y: float, z: float) -> bool:
         return (low_x <= x <= high_x and low_y <= y <= high_y and low_z <= z <= high_z) != outside

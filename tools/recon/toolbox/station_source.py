@@ -163,7 +163,7 @@ class Stations(Source):
     """Files of stations."""
 
     def __init__(self, names: Sequence[str], options: Any) -> None:
-        refuse_others(options, ('table', 'open_end'), 'files of stations')
+        refuse_others(options, ('table', 'open_end'), 'FILE=X,Y,Z or table=')
         self.files, self.open_end = stations(names, options.table), yes(options.open_end, 'open_end')
         super().__init__(scan_columns(), self.files[0][0] if len(self.files) == 1 else number_of(len(self.files), 'file'))
         self.numbers: dict[tuple[str, ...], str] = {}
@@ -225,7 +225,7 @@ class Overhead(Stations):
     """Files of points that were all seen from far above, from one position that is made up."""
 
     def __init__(self, names: Sequence[str], options: Any) -> None:
-        refuse_others(options, ('above', 'open_end'), 'files of an airborne scan')
+        refuse_others(options, ('above', 'open_end'), 'above=')
         self.files, self.open_end = [(name, ('0', '0', '0')) for name in names], yes(options.open_end, 'open_end')
         Source.__init__(self, scan_columns(), names[0] if len(names) == 1 else number_of(len(names), 'file'))
         self.above = Above()
