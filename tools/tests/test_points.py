@@ -150,7 +150,7 @@ class Points(InFolder):
         says('scan', 'read 5 points of in.ply; left out 1 not finite, 2 inside the box; wrote 2 points and 1 scanner to out.ply',
              'in.ply', 'out.ply', 'from=0,0,0', 'to=1,1,1', 'outside=yes', 'origin=0,0,2')
         holds('out.ply', head(2, SCAN, 1) + '1.0000001 1 -1 0\n0.5 0 0 0\n0 0 7\n')
-        refuses('scan', 'greater', 'in.ply', 'out.ply', 'from=0,0,1', 'to=1,1,0')
+        refuses('scan', 'at most', 'in.ply', 'out.ply', 'from=0,0,1', 'to=1,1,0')
         refuses('scan', 'two corners', 'in.ply', 'out.ply', 'from=0,0,1')
         refuses('scan', 'from is not X,Y,Z', 'in.ply', 'out.ply', 'from=0,0', 'to=1,1,0')
 
