@@ -72,20 +72,27 @@ docs:
 	mkdocs build --quiet
 	@echo "site/index.html"
 
-# Times calls of linked cells and walks along sights at 100,000 points, then build and check on scans of 10,000 to 1,000,000 points, run by run
-# with the unverified reference program where there is cargo, or with BESIDE=PROGRAM, and prints a table like those of docs/explain/performance.md (some
-# tens of minutes; the scans are made the first time). Then what users would use instead.
-bench: recon reference
-	@echo "times of calls of linked cells and of walks along sights, 100,000 points"
-	cd crates/cell_bench && rt run -- 100000
-	@echo "times of build and check at growing sizes, into bench_scans/"
+# All tables of docs/explain/performance.md and docs/explain/accuracy.md, in their order (an hour; the scans are made the first time, in bench_scans/).
+# recon runs in turn with the unverified reference program if there is cargo, or with BESIDE=PROGRAM; a missing program is named and left out.
+bench: recon recon-mesh reference
+	@echo "build and check of scans of 10,000 to 1,000,000 points, and of the worst cases"
 	$(PYTHON) dev/bench.py ./recon bench_scans $(if $(BESIDE),beside=$(BESIDE))
+	@echo "recon-surface and the programs that it runs, a million points"
+	$(PYTHON) dev/one_command.py ./recon ./recon-mesh bench_scans/torus.1000000.ply
+	@echo "each command once, a million points"
+	$(PYTHON) dev/commands.py ./recon bench_scans
+	@echo "instructions and cache misses by phase, 100,000 points"
+	$(PYTHON) dev/phases.py ./recon bench_scans $(if $(BESIDE),beside=$(BESIDE))
+	@echo "calls of linked cells and walks along lines of sight, 100,000 points"
+	cd crates/cell_bench && rt run -- 100000
 	$(MAKE) --no-print-directory bench-others
 
-# Seconds, memory, open edges and distance to the object of other programs on the same scans: CGAL, COLMAP and Open3D, where they are installed
-# (Debian: libcgal-dev, colmap, python3-open3d); a missing one is named and left out.
+# Seconds, memory and distance to the object of other programs on the same scans: CGAL, COLMAP and Open3D, if they are installed (Debian: libcgal-dev,
+# libcgal-demo, colmap, python3-open3d). Then what recon-surface chooses for the clouds that Debian packs (also opencv-doc), beside Open3D.
 bench-others: recon recon-mesh
 	$(PYTHON) dev/others.py ./recon bench_scans
+	$(PYTHON) dev/clouds.py ./recon bench_scans/clouds
+	$(PYTHON) dev/clouds_beside.py bench_scans/clouds
 
 # Times build alone on the three worst shapes and on a cube, a room and a torus of a million points, three runs each (ten minutes; BESIDE as
 # above), and prints the table of docs/explain/performance.md that has these.

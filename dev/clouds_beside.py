@@ -165,5 +165,6 @@ def work(names: Sequence[str], options: Any) -> str:
 
 if __name__ == '__main__':
     if not python_with('open3d'):
-        sys.exit('clouds_beside.py: no Python here has open3d (Debian: python3-open3d)')
+        print('clouds_beside.py: Open3D is left out: no Python here has it (Debian: python3-open3d)', file=sys.stderr)
+        sys.exit(0)
     run(work, __doc__, 1, ('only',))

@@ -158,7 +158,7 @@ class Scan:
 
 
 def numbers_in(line: str) -> Dict[str, str]:
-    """Returns the numbers of a line such as `finished points 4 faces 4`, by the words before them."""
+    """Returns the numbers of a line such as `finished points 4 faces 4`, by the keys before them."""
     words = line.split()[1:]
     return dict(zip(words[::2], words[1::2]))
 

@@ -1,0 +1,99 @@
+#!/usr/bin/env python3
+"""Counts the instructions and cache misses of `recon build` by phase, and prints a table for docs/explain/performance.md.
+
+  phases.py RECON FOLDER [scan=NAME.N] [beside=PROGRAM]
+
+  RECON            the built program
+  FOLDER           where the scan is kept and all outputs are written; a scan that is there is not made again
+  scan=NAME.N      a shape of recon-make-scan and its size (default: torus.100000)
+  beside=PROGRAM   the unverified reference program of dev/reference, whose numbers follow in parentheses
+
+`cachegrind` of valgrind runs the program on a simulated processor (first-level data cache 32 KiB, last-level cache 32 MiB, lines of 64 bytes), so
+the numbers do not depend on the machine or on other programs. A function counts for the phase that PHASES names for it. Instructions are in
+billions, misses in millions. It takes some five minutes; where valgrind is missing, that is said and nothing is done (Debian: valgrind).
+"""
+from __future__ import annotations
+
+import collections
+import os
+import re
+import shutil
+import subprocess
+import sys
+from typing import Any, Dict, List, Sequence
+
+from bench import named, scan_of
+from recon.toolbox.ply_text import Refusal
+from recon.toolbox.tool import run
+
+CACHES = ('--I1=32768,8,64', '--D1=32768,8,64', '--LL=33554432,16,64')
+# Each phase with the functions that count for it; the first phase that fits counts.
+PHASES = (
+    ('reading the scan, SHA-256', r'sha2|sha256|scan::|ply_|num_text|numbers::|header'),
+    ('cells', r'delaunay|cavity|curve_order|geo_tie|tetra_store|cells::|curve::|merge'),
+    ('walks along lines of sight', r'sight|beam|tetra_walk|votes::|network_of'),
+    ('flow and labels', r'flow|forest|cell_net|max_flow|labels'),
+    ('mesh and certificate, as text', r'text|surface|certificate|mesh_ply|recon_build|solution'),
+)
+REST = 'system and the rest'
+EVENTS = ('Ir', 'D1', 'LL')
+HEAD = '| Phase | instructions, 10⁹ | first-level misses, 10⁶ | last-level misses, 10⁶ |\n|---|---|---|---|'
+
+
+def phase_of(function: str) -> str:
+    """Returns the phase of a function."""
+    return next((name for name, pattern in PHASES if re.search(pattern, function)), REST)
+
+
+def counts_of(path: str) -> Dict[str, List[int]]:
+    """Returns instructions, first-level and last-level misses of data by function, as cachegrind wrote them."""
+    counts: Dict[str, List[int]] = collections.defaultdict(lambda: [0, 0, 0])
+    function = ''
+    with open(path, encoding='utf-8', errors='replace') as file:
+        for line in file:
+            if line.startswith('fn='):
+                function = line[3:].strip()
+            elif line[0].isdigit():
+                # line, Ir I1mr ILmr Dr D1mr DLmr Dw D1mw DLmw
+                numbers = [int(word) for word in line.split()[1:]]
+                for k, more in enumerate((numbers[0], numbers[4] + numbers[7], numbers[5] + numbers[8])):
+                    counts[function][k] += more
+    return counts
+
+
+def phases_of(program: str, folder: str, scan: str) -> Dict[str, List[int]]:
+    """Runs `build` under cachegrind, and returns the counts by phase."""
+    out = os.path.join(folder, 'phases')
+    words = ['valgrind', '--tool=cachegrind', '--cache-sim=yes', *CACHES, f'--cachegrind-out-file={out}', program, 'build', scan, out + '.ply', out + '.cert']
+    done = subprocess.run(words, capture_output=True, text=True)
+    if done.returncode:
+        raise Refusal(f'{program} under valgrind ended with {done.returncode}: {done.stderr.strip()[-200:]}')
+    phases = {name: [0, 0, 0] for name in [*(name for name, _ in PHASES), REST]}
+    for function, numbers in counts_of(out).items():
+        of_phase = phases[phase_of(function)]
+        for k, number in enumerate(numbers):
+            of_phase[k] += number
+    return {**phases, 'all': [sum(it[k] for it in phases.values()) for k in range(len(EVENTS))]}
+
+
+def work(names: Sequence[str], options: Any) -> str:
+    if shutil.which('valgrind') is None:
+        return 'left out: valgrind is not here (Debian: valgrind)'
+    folder = names[1]
+    os.makedirs(folder, exist_ok=True)
+    (shape, size), = named(options.scan or 'torus.100000')
+    scan = scan_of(folder, shape, size)
+    programs = [os.path.abspath(path) for path in (names[0], options.beside) if path]
+    found = [phases_of(program, folder, scan) for program in programs]
+    print(HEAD)
+    for phase in found[0]:
+        cells = []
+        for k, unit in enumerate((1e9, 1e6, 1e6)):
+            one, *other = (f'{phases[phase][k] / unit:.{2 if k == 0 else 1}f}' for phases in found)
+            cells.append(one + ''.join(f' ({it})' for it in other))
+        print(f'| {phase} | {" | ".join(cells)} |', flush=True)
+    return f'{shape}, {size:,} points'
+
+
+if __name__ == '__main__':
+    run(work, __doc__, 2, ('scan', 'beside'))
