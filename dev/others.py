@@ -287,15 +287,13 @@ def main() -> int:
     options, recon, folder = {**OPTIONS, **given}, os.path.abspath(words[0]), words[1]
     os.makedirs(folder, exist_ok=True)
     objects = options['objects'].split(',') if options['objects'] else all_objects(folder)
+    scans = [Scan(folder, path, options['points'], noise) for noise in options['noise'].split(',') for path in objects]
+    # programs run one after another, so that their seconds are right; then distances are computed side by side
+    made = [(scan, row) for scan in scans for row in of_recon(recon, scan) + of_cgal(folder, scan) + of_colmap(scan) + of_open3d(scan)]
     print(HEAD, flush=True)
-    for noise in options['noise'].split(','):
-        for path in objects:
-            scan = Scan(folder, path, options['points'], noise)
-            rows = of_recon(recon, scan) + of_cgal(folder, scan) + of_colmap(scan) + of_open3d(scan)
-            # programs run one after another, so that their seconds are right; distances are computed side by side
-            with ThreadPoolExecutor(os.cpu_count()) as pool:
-                for line in pool.map(lambda row: line_of(scan, row), rows):
-                    print(line, flush=True)
+    with ThreadPoolExecutor(os.cpu_count()) as pool:
+        for line in pool.map(lambda it: line_of(*it), made):
+            print(line, flush=True)
     return 0
 
 

@@ -29,11 +29,12 @@ from recon.toolbox.tool import run
 CACHES = ('--I1=32768,8,64', '--D1=32768,8,64', '--LL=33554432,16,64')
 # Each phase with the functions that count for it; the first phase that fits counts.
 PHASES = (
-    ('reading the scan, SHA-256', r'sha2|sha256|scan::|ply_|num_text|numbers::|header'),
-    ('cells', r'delaunay|cavity|curve_order|geo_tie|tetra_store|cells::|curve::|merge'),
-    ('walks along lines of sight', r'sight|beam|tetra_walk|votes::|network_of'),
-    ('flow and labels', r'flow|forest|cell_net|max_flow|labels'),
-    ('mesh and certificate, as text', r'text|surface|certificate|mesh_ply|recon_build|solution'),
+    ('sorting, in all phases', r'slice::sort'),
+    ('reading the scan, SHA-256', r'sha2|sha256|\bscan::|ply_head|ply_rows|num_text::decimal|numbers::|header|merge'),
+    ('cells', r'delaunay|cavity|curve|geo_tie|tetra_store|tetra_walk|cells::delaunay|points::'),
+    ('walks along lines of sight', r'sight|beam|tally|scanner|votes::|network_of'),
+    ('flow and labels', r'flow|forest|cell_net|cutting|labels'),
+    ('mesh and certificate, as text', r'text|itoa|num_text::print|surface|certificate|mesh_ply|recon_build|reference::built|reference::mesh'),
 )
 REST = 'system and the rest'
 EVENTS = ('Ir', 'D1', 'LL')
