@@ -77,8 +77,8 @@ docs:
 bench: recon recon-mesh reference
 	@echo "build and check of scans of 10,000 to 1,000,000 points, and of the worst cases"
 	$(PYTHON) dev/bench.py ./recon bench_scans $(if $(BESIDE),beside=$(BESIDE))
-	@echo "recon-surface and the programs that it runs, a million points"
-	$(PYTHON) dev/one_command.py ./recon ./recon-mesh bench_scans/torus.1000000.ply
+	@echo "recon-surface and the programs that it runs, a million points, without smoothing"
+	$(PYTHON) dev/one_command.py ./recon ./recon-mesh bench_scans/torus.1000000.ply steps=0
 	@echo "each command once, a million points"
 	$(PYTHON) dev/commands.py ./recon bench_scans
 	@echo "instructions and cache misses by phase, 100,000 points"

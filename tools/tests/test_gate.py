@@ -56,8 +56,8 @@ def said(text: str, in_turn: bool) -> list[str]:
 
 class Gate(InFolder):
     def test_each_program_has_a_head_that_may_be_cut(self) -> None:
-        for name in ('attack', 'believed', 'bench', 'clouds', 'crates', 'definitions', 'errors', 'examples', 'fail_alloc', 'levels', 'links', 'lint',
-                     'make_example', 'manual', 'measure_surface', 'minutes', 'others', 'pages', 'phrases', 'pictures', 'progress', 'seams', 'surface', 'try', 'wrong_bodies'):
+        for name in ('attack', 'believed', 'bench', 'clouds', 'commands', 'crates', 'definitions', 'errors', 'examples', 'fail_alloc', 'levels', 'links', 'lint',
+                     'make_example', 'manual', 'measure_surface', 'minutes', 'one_command', 'others', 'pages', 'phases', 'phrases', 'pictures', 'progress', 'seams', 'surface', 'try', 'wrong_bodies'):
             line = f'{sys.executable} {os.path.join(DEV, name + ".py")} --help | head -c 1'
             done = subprocess.run(line, shell=True, capture_output=True, text=True)
             equal((name, len(done.stdout), done.stderr), (name, 1, ''))
