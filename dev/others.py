@@ -36,7 +36,8 @@ import tarfile
 import tempfile
 from concurrent.futures import ThreadPoolExecutor
 from dataclasses import dataclass
-from typing import Dict, List, Optional, Sequence
+from itertools import dropwhile, islice
+from typing import Dict, Iterator, List, Optional, Sequence
 
 from report import begun
 from tools_path import PACKAGE
@@ -147,14 +148,21 @@ class Scan:
         if not os.path.exists(self.scan):
             make_scan(path, points, noise, self.scan)
         with open(self.scan, encoding='ascii') as file:
-            head, body = file.read().split('end_header\n')
-        rows = [line.split() for line in body.splitlines()]
-        count = int(head.split('element vertex ')[1].split()[0])
-        self.rows = [([float(w) for w in row[:3]], int(row[3])) for row in rows[:count]]
-        self.scanners = [[float(w) for w in row[:3]] for row in rows[count:]]
-        for name, places in ((self.points, [p for p, _ in self.rows]), (self.seen, [self.scanners[s] for _, s in self.rows])):
-            with open(name, 'w', encoding='ascii') as out:
-                out.writelines('%r %r %r\n' % tuple(p) for p in places)
+            self.count = int(next(line for line in file if line.startswith('element vertex ')).split()[2])
+        scanners = self.scanners()
+        with open(self.points, 'w', encoding='ascii') as points, open(self.seen, 'w', encoding='ascii') as seen:
+            for row in islice(self.rows(), self.count):
+                points.write(' '.join(row[:3]) + '\n')
+                seen.write(' '.join(scanners[int(row[3])]) + '\n')
+
+    def rows(self) -> Iterator[List[str]]:
+        """Yields the rows of the file after its header. They are not kept: a program that is started would count their memory as its own."""
+        with open(self.scan, encoding='ascii') as file:
+            yield from (line.split() for line in dropwhile(lambda line: line != 'end_header\n', file) if line != 'end_header\n')
+
+    def scanners(self) -> List[List[str]]:
+        """Returns the positions of the scanners."""
+        return [row[:3] for row in islice(self.rows(), self.count, None)]
 
 
 def numbers_in(line: str) -> Dict[str, str]:
@@ -211,16 +219,18 @@ def of_colmap(scan: Scan) -> List[Row]:
     with tempfile.TemporaryDirectory() as place:
         sparse = os.path.join(place, 'sparse')
         os.mkdir(sparse)
-        pictures = [f'{k + 1} 1 0 0 0 {-x!r} {-y!r} {-z!r} 1 {k}.png\n\n' for k, (x, y, z) in enumerate(scan.scanners)]
+        pictures = [f'{k + 1} 1 0 0 0 {-float(x)!r} {-float(y)!r} {-float(z)!r} 1 {k}.png\n\n' for k, (x, y, z) in enumerate(scan.scanners())]
         for name, text in (('cameras.txt', '1 PINHOLE 1000 1000 500 500 500 500\n'), ('images.txt', ''.join(pictures)), ('points3D.txt', '')):
             with open(os.path.join(sparse, name), 'w', encoding='ascii') as file:
                 file.write(text)
         types = ['float x', 'float y', 'float z', 'float nx', 'float ny', 'float nz', 'uchar red', 'uchar green', 'uchar blue']
-        head = ['ply', 'format binary_little_endian 1.0', f'element vertex {len(scan.rows)}', *('property ' + t for t in types), 'end_header', '']
+        head = ['ply', 'format binary_little_endian 1.0', f'element vertex {scan.count}', *('property ' + t for t in types), 'end_header', '']
         with open(os.path.join(place, 'fused.ply'), 'wb') as file:
-            file.write('\n'.join(head).encode() + b''.join(struct.pack('<6f3B', *p, 0, 0, 1, 0, 0, 0) for p, _ in scan.rows))
+            file.write('\n'.join(head).encode())
+            file.writelines(struct.pack('<6f3B', *map(float, row[:3]), 0, 0, 1, 0, 0, 0) for row in islice(scan.rows(), scan.count))
         with open(os.path.join(place, 'fused.ply.vis'), 'wb') as file:
-            file.write(struct.pack('<Q', len(scan.rows)) + b''.join(struct.pack('<II', 1, s) for _, s in scan.rows))
+            file.write(struct.pack('<Q', scan.count))
+            file.writelines(struct.pack('<II', 1, int(row[3])) for row in islice(scan.rows(), scan.count))
         mesh = scan.base + '.colmap.ply'
         cost = ran('colmap', 'delaunay_mesher', '--input_path', place, '--input_type', 'dense', '--output_path', mesh,
                    '--DelaunayMeshing.visibility_sigma', '0.3', '--DelaunayMeshing.max_proj_dist', '0', '--DelaunayMeshing.num_threads', '1')
