@@ -21,7 +21,7 @@ from recon.sights import above, along_normals, estimated_normals, lies_flat
 from recon.toolbox.plain_tables import plain_list, plain_ply
 from recon.toolbox.point_files import has_rows
 from recon.toolbox.ply_text import SCANNER_LIMIT, Reader, Refusal
-from recon.toolbox.tool import Options, field, three
+from recon.toolbox.tool import Options, field, number_of, three
 
 COLORS = ('red', 'green', 'blue')
 FAR = 1e150
@@ -238,7 +238,7 @@ def stated(inputs: Inputs, table: Table, how: str) -> Cloud:
     """A cloud whose scanners the file or the options state."""
     if table.sights is None or table.scanners is None:
         raise Refusal('no scanner positions in the file: pass --scanner X,Y,Z or --positions TABLE')
-    inputs.choices.choose('sights', how, f'{len(table.scanners)} positions')
+    inputs.choices.choose('sights', how, number_of(len(table.scanners), 'position'))
     return cloud_of(table)
 
 

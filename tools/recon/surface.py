@@ -37,6 +37,7 @@ from recon.outputs import Made, write_outputs
 from recon.program import Invalid, Refused, program_path
 from recon.toolbox.mesh_files import Column, Finished, form_of
 from recon.toolbox.ply_text import IS_NUMBER, Refusal
+from recon.toolbox.tool import number_of
 
 MOST, MOST_OF_A_TILE = 1_000_000, 800_000
 LOOK, WRONG = 0.1, 0.25
@@ -146,8 +147,8 @@ def prepared(inputs: Inputs) -> Scan:
     if not texture.distance:
         raise NoSurface('most points have the same coordinates')
     low, high = box_of(cloud.points)
-    choices.tell(f'{read:,} points, {len(cloud.scanners):,} scanner positions; spacing {texture.distance:.4g}, noise about {texture.noise:.2g}, '
-                 f'extent {(high - low).max():.4g}')
+    choices.tell(f'{read:,} points, {number_of(len(cloud.scanners), "scanner position")}; spacing {texture.distance:.4g}, '
+                 f'noise about {texture.noise:.2g}, extent {(high - low).max():.4g}')
     cloud = thin(cleaned(cloud, tree, args, choices), texture, args, choices)
     cloud, off = closed_around(cloud, texture, args, choices)
     origin, unit = framed(cloud, texture, args, choices)
