@@ -1,5 +1,5 @@
 #!/usr/bin/env python3
-"""Makes scans of a known object, and measures how far surfaces are from that object. Needs numpy.
+"""Makes scans of a known object, and measures how far surfaces are from that object. Needs numpy and scipy.
 
   measure_surface.py scan OBJECT OUT [points=N] [noise=F] [stray=F] [seed=WORD]
   measure_surface.py compare OBJECT MESH .. [samples=N] [own=yes]
@@ -26,7 +26,7 @@ from typing import Any, Sequence
 
 from report import begun
 if __name__ == '__main__':
-    begun(__doc__, 'numpy')
+    begun(__doc__, 'numpy', 'scipy')
 import numpy as np  # noqa: E402
 
 import triangles

@@ -1,4 +1,4 @@
-"""Meshes of objects to measure by: files read, places drawn on them, and distances to them, by numpy.
+"""Meshes of objects to measure by: files read, places drawn on them, and distances to them, by numpy and scipy.
 
 Names: read_object (places and faces of an OFF or PLY file) · draw_places (drawn evenly on the surface) · distances (from
 places to the nearest triangle, exact) · depths_from, are_seen (what a scanner sees).
@@ -6,6 +6,7 @@ places to the nearest triangle, exact) · depths_from, are_seen (what a scanner 
 from __future__ import annotations
 
 import numpy as np
+from scipy.spatial import cKDTree
 
 import tools_path  # noqa: F401
 from recon.toolbox.ply_text import Reader, Refusal
@@ -13,6 +14,7 @@ from triangles import Grid, boxes_of
 
 FINE = 1 << 20
 VIEW = 1200
+PART = 1000
 
 
 def read_object(path: str) -> tuple[np.ndarray, np.ndarray]:
@@ -81,29 +83,27 @@ class Surface:
         low = places.min(axis=0)
         self.scale = FINE / max(np.ptp(places, axis=0).max(), 1e-300)
         self.low, self.corners = low, [places[faces[:, k]] for k in range(3)]
+        self.vertices = cKDTree(places[np.unique(faces)])
         whole = np.round((places - low) * self.scale).astype(np.int64)
-        least, most = boxes_of(whole, faces)
-        self.grid = Grid(least - 1, most + 1, np.arange(len(faces)))
+        self.least, self.most = (side + step for side, step in zip(boxes_of(whole, faces), (-1, 1)))
+        self.grid = Grid(self.least, self.most, np.arange(len(faces)))
 
     def distances(self, places: np.ndarray) -> tuple[np.ndarray, np.ndarray]:
-        """Returns the distance of each place to the nearest triangle, and that triangle's number."""
+        """Returns the distance of each place to the nearest triangle, and that triangle's number. Only triangles whose boxes are not farther than
+        the nearest vertex are compared. Places with long ways to a vertex meet many boxes, so they come in parts, the nearest first."""
         found, nearest = np.full(len(places), np.inf), np.zeros(len(places), int)
         whole = np.round((places - self.low) * self.scale).astype(np.int64)
-        left, reach = np.arange(len(places)), FINE >> 10
-        while len(left) and reach <= FINE >> 5:
-            row, face = self.grid.meet(whole[left] - reach, whole[left] + reach)
-            far = to_triangles(places[left[row]], *(corner[face] for corner in self.corners))
+        reach = np.ceil(self.vertices.query(places)[0] * self.scale).astype(np.int64) + 2
+        rising = np.argsort(reach)
+        for part in (rising[start:start + PART] for start in range(0, len(rising), PART)):
+            row, face = self.grid.meet(whole[part] - reach[part, None], whole[part] + reach[part, None])
+            row = part[row]
+            gap = np.maximum(np.maximum(self.least[face] - whole[row], whole[row] - self.most[face]), 0)
+            near = (gap ** 2).sum(axis=1) <= reach[row] ** 2
+            row, face = row[near], face[near]
+            far = to_triangles(places[row], *(corner[face] for corner in self.corners))
             order = np.lexsort((-far, row))
-            last = row[order]
-            best = np.full(len(left), np.inf)
-            best[last], nearest[left[last]] = far[order], face[order]
-            found[left] = best
-            left = left[best * self.scale > reach - 2]
-            reach *= 2
-        for k in left:
-            far = to_triangles(np.broadcast_to(places[k], self.corners[0].shape), *self.corners)
-            nearest[k] = far.argmin()
-            found[k] = far[nearest[k]]
+            found[row[order]], nearest[row[order]] = far[order], face[order]
         return found, nearest
 
 

@@ -23,7 +23,7 @@ object's diagonal.
 What is not installed is named and left out (Debian: libcgal-dev and g++, libcgal-demo for the objects, colmap, python3-open3d). Seconds are of
 the processor, the peak is the largest resident memory, both with what comes before (flips with `build`). Distances, mean / 95 of 100 / greatest,
 open edges, angles in degrees and faces are those of `dev/measure_surface.py compare`. Non-manifold edges and pairs of faces that cross are exact for
-`recon` (by `recon-mesh inspect`, with non-manifold vertices), else as `compare` counts them. Needs numpy.
+`recon` (by `recon-mesh inspect`, with non-manifold vertices), else as `compare` counts them. Needs numpy and scipy.
 """
 from __future__ import annotations
 
@@ -78,7 +78,7 @@ def python_with(module: str) -> str:
     return next((it for it in every if subprocess.run([it, '-c', f'import {module}'], capture_output=True).returncode == 0), '')
 
 
-PYTHON = python_with('numpy')
+PYTHON = python_with('scipy')
 
 
 @dataclass
@@ -293,7 +293,7 @@ def main() -> int:
         print((__doc__ or '').strip(), file=sys.stderr)
         return 2
     if not PYTHON:
-        sys.exit('others.py: no Python with numpy is here (Debian: python3-numpy)')
+        sys.exit('others.py: no Python with scipy is here (Debian: python3-scipy)')
     options, recon, folder = {**OPTIONS, **given}, os.path.abspath(words[0]), words[1]
     os.makedirs(folder, exist_ok=True)
     objects = options['objects'].split(',') if options['objects'] else all_objects(folder)
