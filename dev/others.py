@@ -16,7 +16,9 @@ object's diagonal.
 - recon: `build unit=1000 smooth=1`. Then `recon-mesh finish pieces=1`: edge flips; with smooth=3 and smooth=6, no vertex farther than twice the
   noise; and flips with manifold=yes, which moves no vertex.
 - CGAL: the advancing front, with its default parameters; and its Delaunay tetrahedralization alone.
-- COLMAP: delaunay_mesher with visibility_sigma 0.3 and no thinning.
+- COLMAP: delaunay_mesher with visibility_sigma 0.3 and no thinning. Debian's COLMAP lacks it. A build of its source has it, if libcgal-dev is
+  installed: `apt-get build-dep colmap`, `apt-get install libcgal-dev libunwind-dev`, `apt-get source colmap`, then cmake with -DGUI_ENABLED=OFF
+  -DCUDA_ENABLED=OFF, and make colmap_exe. The folder of this colmap has to be the first in PATH.
 - Open3D: normals of 16 neighbors that are turned to the true scanner; screened Poisson at depth 9, without the hundredth with the least density;
   ball pivoting with radii of 2, 4 and 8 spacings.
 
