@@ -72,11 +72,12 @@ docs:
 	mkdocs build --quiet
 	@echo "site/index.html"
 
-# All tables of docs/explain/performance.md and docs/explain/accuracy.md, in their order (an hour; the scans are made the first time, in bench_scans/).
+# All tables of docs/explain/performance.md and docs/explain/accuracy.md, in their order (an hour; the scans are made the first time, in
+# bench_scans/). The first table has one run of each program and scan, or RUNS of them.
 # recon runs in turn with the unverified reference program if there is cargo, or with BESIDE=PROGRAM; a missing program is named and left out.
 bench: recon recon-mesh reference
 	@echo "build and check of scans of 10,000 to 1,000,000 points, and of the worst cases"
-	$(PYTHON) dev/bench.py ./recon bench_scans $(if $(BESIDE),beside=$(BESIDE))
+	$(PYTHON) dev/bench.py ./recon bench_scans runs=$(or $(RUNS),1) $(if $(BESIDE),beside=$(BESIDE))
 	@echo "recon-surface and the programs that it runs, a million points, without smoothing"
 	$(PYTHON) dev/one_command.py ./recon ./recon-mesh bench_scans/torus.1000000.ply steps=0
 	@echo "each command once, a million points"

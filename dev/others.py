@@ -16,7 +16,8 @@ object's diagonal.
 - recon: `build unit=1000 smooth=1`. Then `recon-mesh finish pieces=1`: edge flips; with smooth=3 and smooth=6, no vertex farther than twice the
   noise; and flips with manifold=yes, which moves no vertex.
 - CGAL: the advancing front, with its default parameters; and its Delaunay tetrahedralization alone.
-- COLMAP: delaunay_mesher with visibility_sigma 0.3 and no thinning. Debian's COLMAP lacks it. A build of its source has it, if libcgal-dev is
+- COLMAP: delaunay_mesher with visibility_sigma 0.3 and no thinning (max_proj_dist 0), since each point is seen from one position; then, as `finer`,
+  also with distance_sigma_factor 0.3 and quality_regularization 0.3. Debian's COLMAP lacks it. A build of its source has it, if libcgal-dev is
   installed: `apt-get build-dep colmap`, `apt-get install libcgal-dev libunwind-dev`, `apt-get source colmap`, then cmake with -DGUI_ENABLED=OFF
   -DCUDA_ENABLED=OFF, and make colmap_exe. The folder of this colmap has to be the first in PATH.
 - Open3D: normals of 16 neighbors that are turned to the true scanner; screened Poisson at depth 9, without the hundredth with the least density;
@@ -72,6 +73,11 @@ else:
 o3d.io.write_triangle_mesh(out, mesh, write_ascii=True)
 print(o3d.__version__)
 '''
+
+
+# How COLMAP's mesher is run. By default it is made for points that many pictures show.
+ROUGH = {'visibility_sigma': '0.3', 'max_proj_dist': '0', 'num_threads': '1'}
+COLMAP = {'COLMAP, Delaunay': ROUGH, 'COLMAP, Delaunay, finer': {**ROUGH, 'distance_sigma_factor': '0.3', 'quality_regularization': '0.3'}}
 
 
 def python_with(module: str) -> str:
@@ -214,32 +220,39 @@ def of_cgal(folder: str, scan: Scan) -> List[Row]:
 
 
 def of_colmap(scan: Scan) -> List[Row]:
-    """Runs COLMAP's mesher on a workspace as its dense reconstruction leaves it, with a picture for each scanner."""
+    """Runs COLMAP's mesher, with both settings."""
     if shutil.which('colmap') is None:
         left_out('COLMAP', 'it is not here (Debian: colmap)')
         return []
+    found = []
     with tempfile.TemporaryDirectory() as place:
-        sparse = os.path.join(place, 'sparse')
-        os.mkdir(sparse)
-        pictures = [f'{k + 1} 1 0 0 0 {-float(x)!r} {-float(y)!r} {-float(z)!r} 1 {k}.png\n\n' for k, (x, y, z) in enumerate(scan.scanners())]
-        for name, text in (('cameras.txt', '1 PINHOLE 1000 1000 500 500 500 500\n'), ('images.txt', ''.join(pictures)), ('points3D.txt', '')):
-            with open(os.path.join(sparse, name), 'w', encoding='ascii') as file:
-                file.write(text)
-        types = ['float x', 'float y', 'float z', 'float nx', 'float ny', 'float nz', 'uchar red', 'uchar green', 'uchar blue']
-        head = ['ply', 'format binary_little_endian 1.0', f'element vertex {scan.count}', *('property ' + t for t in types), 'end_header', '']
-        with open(os.path.join(place, 'fused.ply'), 'wb') as file:
-            file.write('\n'.join(head).encode())
-            file.writelines(struct.pack('<6f3B', *map(float, row[:3]), 0, 0, 1, 0, 0, 0) for row in islice(scan.rows(), scan.count))
-        with open(os.path.join(place, 'fused.ply.vis'), 'wb') as file:
-            file.write(struct.pack('<Q', scan.count))
-            file.writelines(struct.pack('<II', 1, int(row[3])) for row in islice(scan.rows(), scan.count))
-        mesh = scan.base + '.colmap.ply'
-        cost = ran('colmap', 'delaunay_mesher', '--input_path', place, '--input_type', 'dense', '--output_path', mesh,
-                   '--DelaunayMeshing.visibility_sigma', '0.3', '--DelaunayMeshing.max_proj_dist', '0', '--DelaunayMeshing.num_threads', '1')
-    if cost is None or not os.path.exists(mesh):
+        write_workspace(scan, place)
+        for name, settings in COLMAP.items():
+            mesh = f'{scan.base}.{name.replace(", ", "_").replace(" ", "_")}.ply'
+            options = [word for key, value in settings.items() for word in (f'--DelaunayMeshing.{key}', value)]
+            cost = ran('colmap', 'delaunay_mesher', '--input_path', place, '--input_type', 'dense', '--output_path', mesh, *options)
+            found += [Row(name, cost, mesh)] if cost is not None and os.path.exists(mesh) else []
+    if not found:
         left_out('COLMAP', 'this one is built without CGAL, or failed')
-        return []
-    return [Row('COLMAP, Delaunay', cost, mesh)]
+    return found
+
+
+def write_workspace(scan: Scan, place: str) -> None:
+    """Writes a workspace as COLMAP's dense reconstruction leaves it, with a picture for each scanner."""
+    sparse = os.path.join(place, 'sparse')
+    os.mkdir(sparse)
+    pictures = [f'{k + 1} 1 0 0 0 {-float(x)!r} {-float(y)!r} {-float(z)!r} 1 {k}.png\n\n' for k, (x, y, z) in enumerate(scan.scanners())]
+    for name, text in (('cameras.txt', '1 PINHOLE 1000 1000 500 500 500 500\n'), ('images.txt', ''.join(pictures)), ('points3D.txt', '')):
+        with open(os.path.join(sparse, name), 'w', encoding='ascii') as file:
+            file.write(text)
+    types = ['float x', 'float y', 'float z', 'float nx', 'float ny', 'float nz', 'uchar red', 'uchar green', 'uchar blue']
+    head = ['ply', 'format binary_little_endian 1.0', f'element vertex {scan.count}', *('property ' + t for t in types), 'end_header', '']
+    with open(os.path.join(place, 'fused.ply'), 'wb') as file:
+        file.write('\n'.join(head).encode())
+        file.writelines(struct.pack('<6f3B', *map(float, row[:3]), 0, 0, 1, 0, 0, 0) for row in islice(scan.rows(), scan.count))
+    with open(os.path.join(place, 'fused.ply.vis'), 'wb') as file:
+        file.write(struct.pack('<Q', scan.count))
+        file.writelines(struct.pack('<II', 1, int(row[3])) for row in islice(scan.rows(), scan.count))
 
 
 def of_open3d(scan: Scan) -> List[Row]:
