@@ -89,22 +89,31 @@ class Surface:
         self.grid = Grid(self.least, self.most, np.arange(len(faces)))
 
     def distances(self, places: np.ndarray) -> tuple[np.ndarray, np.ndarray]:
-        """Returns the distance of each place to the nearest triangle, and that triangle's number. Only triangles whose boxes are not farther than
-        the nearest vertex are compared. Places with long ways to a vertex meet many boxes, so they come in parts, the nearest first."""
+        """Returns the distance of each place to the nearest triangle, and that triangle's number. Most places are near to one. The others come in
+        parts, the nearest first, since there may be many triangles that are not farther than the nearest vertex."""
         found, nearest = np.full(len(places), np.inf), np.zeros(len(places), int)
         whole = np.round((places - self.low) * self.scale).astype(np.int64)
-        reach = np.ceil(self.vertices.query(places)[0] * self.scale).astype(np.int64) + 2
+        left = np.arange(len(places))
+        for reach in (FINE >> 10, FINE >> 9, FINE >> 8):
+            self.compare(places, whole, left, np.full(len(left), reach), found, nearest)
+            left = left[found[left] * self.scale > reach - 2]
+        reach = np.ceil(self.vertices.query(places[left])[0] * self.scale).astype(np.int64) + 2
         rising = np.argsort(reach)
         for part in (rising[start:start + PART] for start in range(0, len(rising), PART)):
-            row, face = self.grid.meet(whole[part] - reach[part, None], whole[part] + reach[part, None])
-            row = part[row]
-            gap = np.maximum(np.maximum(self.least[face] - whole[row], whole[row] - self.most[face]), 0)
-            near = (gap ** 2).sum(axis=1) <= reach[row] ** 2
-            row, face = row[near], face[near]
-            far = to_triangles(places[row], *(corner[face] for corner in self.corners))
-            order = np.lexsort((-far, row))
-            found[row[order]], nearest[row[order]] = far[order], face[order]
+            self.compare(places, whole, left[part], reach[part], found, nearest)
         return found, nearest
+
+    def compare(self, places: np.ndarray, whole: np.ndarray, part: np.ndarray, reach: np.ndarray, found: np.ndarray,
+                nearest: np.ndarray) -> None:
+        """Finds, for some places, the nearest of the triangles whose boxes are within their reach."""
+        row, face = self.grid.meet(whole[part] - reach[:, None], whole[part] + reach[:, None])
+        limit, row = reach[row], part[row]
+        gap = np.maximum(np.maximum(self.least[face] - whole[row], whole[row] - self.most[face]), 0)
+        near = (gap ** 2).sum(axis=1) <= limit ** 2
+        row, face = row[near], face[near]
+        far = to_triangles(places[row], *(corner[face] for corner in self.corners))
+        order = np.lexsort((-far, row))
+        found[row[order]], nearest[row[order]] = far[order], face[order]
 
 
 def to_triangles(p: np.ndarray, a: np.ndarray, b: np.ndarray, c: np.ndarray) -> np.ndarray:
