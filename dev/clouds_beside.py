@@ -26,7 +26,7 @@ if __name__ == '__main__':
     begun(__doc__)
 
 from clouds import clouds
-from objects import Surface, to_triangles
+from objects import Surface
 from others import Cost, python_with, ran
 from tools_path import PACKAGE  # noqa: F401
 
@@ -108,13 +108,7 @@ def open_edges(faces: np.ndarray) -> int:
 
 def lost_part(vertices: np.ndarray, faces: np.ndarray, points: np.ndarray, far: float) -> float:
     """The part of the points that are farther than `far` from a surface."""
-    surface = Surface(vertices, faces)
-    reach = int(np.ceil(far * surface.scale)) + 2
-    whole = np.round((points - surface.low) * surface.scale).astype(np.int64)
-    row, face = surface.grid.meet(whole - reach, whole + reach)
-    nearest = np.full(len(points), np.inf)
-    np.minimum.at(nearest, row, to_triangles(points[row], *(corner[face] for corner in surface.corners)))
-    return float((nearest > far).mean())
+    return float((Surface(vertices, faces).distances(points)[0] > far).mean())
 
 
 def cell(vertices: np.ndarray, faces: np.ndarray, points: np.ndarray, apart: float) -> str:

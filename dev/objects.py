@@ -10,11 +10,9 @@ from scipy.spatial import cKDTree
 
 import tools_path  # noqa: F401
 from recon.toolbox.ply_text import Reader, Refusal
-from triangles import Grid, boxes_of
 
-FINE = 1 << 20
 VIEW = 1200
-PART = 1000
+PART = 5000
 
 
 def read_object(path: str) -> tuple[np.ndarray, np.ndarray]:
@@ -80,40 +78,30 @@ class Surface:
     """A mesh that distances are taken to."""
 
     def __init__(self, places: np.ndarray, faces: np.ndarray) -> None:
-        low = places.min(axis=0)
-        self.scale = FINE / max(np.ptp(places, axis=0).max(), 1e-300)
-        self.low, self.corners = low, [places[faces[:, k]] for k in range(3)]
+        self.corners = [places[faces[:, k]] for k in range(3)]
         self.vertices = cKDTree(places[np.unique(faces)])
-        whole = np.round((places - low) * self.scale).astype(np.int64)
-        self.least, self.most = (side + step for side, step in zip(boxes_of(whole, faces), (-1, 1)))
-        self.grid = Grid(self.least, self.most, np.arange(len(faces)))
+        middles = sum(self.corners) / 3
+        radius = np.stack([np.linalg.norm(corner - middles, axis=1) for corner in self.corners]).max(axis=0)
+        sizes = np.frexp(radius)[1]
+        # faces of about one size: their numbers, a tree of their middles, and how far their corners are from these at most
+        self.groups = [(group, cKDTree(middles[group]), radius[group].max()) for group in (np.flatnonzero(sizes == size) for size in np.unique(sizes))]
 
     def distances(self, places: np.ndarray) -> tuple[np.ndarray, np.ndarray]:
-        """Returns the distance of each place to the nearest triangle, and that triangle's number. Most places are near to one. The others come in
-        parts, the nearest first, since there may be many triangles that are not farther than the nearest vertex."""
+        """Returns the distance of each place to the nearest triangle, and that triangle's number."""
         found, nearest = np.full(len(places), np.inf), np.zeros(len(places), int)
-        whole = np.round((places - self.low) * self.scale).astype(np.int64)
-        left = np.arange(len(places))
-        for reach in (FINE >> 10, FINE >> 9, FINE >> 8):
-            self.compare(places, whole, left, np.full(len(left), reach), found, nearest)
-            left = left[found[left] * self.scale > reach - 2]
-        reach = np.ceil(self.vertices.query(places[left])[0] * self.scale).astype(np.int64) + 2
-        rising = np.argsort(reach)
-        for part in (rising[start:start + PART] for start in range(0, len(rising), PART)):
-            self.compare(places, whole, left[part], reach[part], found, nearest)
+        for start in range(0, len(places), PART):
+            part = np.arange(start, min(start + PART, len(places)))
+            reach = self.vertices.query(places[part])[0] * (1 + 1e-9)
+            for group, tree, radius in self.groups:
+                lists = tree.query_ball_point(places[part], reach + radius)
+                row = np.repeat(part, [len(it) for it in lists])
+                face = group[np.concatenate([np.asarray(it, int) for it in lists])]
+                far = to_triangles(places[row], *(corner[face] for corner in self.corners))
+                # the last of a row that is assigned is the least
+                order = np.lexsort((-far, row))
+                order = order[far[order] <= found[row[order]]]
+                found[row[order]], nearest[row[order]] = far[order], face[order]
         return found, nearest
-
-    def compare(self, places: np.ndarray, whole: np.ndarray, part: np.ndarray, reach: np.ndarray, found: np.ndarray,
-                nearest: np.ndarray) -> None:
-        """Finds, for some places, the nearest of the triangles whose boxes are within their reach."""
-        row, face = self.grid.meet(whole[part] - reach[:, None], whole[part] + reach[:, None])
-        limit, row = reach[row], part[row]
-        gap = np.maximum(np.maximum(self.least[face] - whole[row], whole[row] - self.most[face]), 0)
-        near = (gap ** 2).sum(axis=1) <= limit ** 2
-        row, face = row[near], face[near]
-        far = to_triangles(places[row], *(corner[face] for corner in self.corners))
-        order = np.lexsort((-far, row))
-        found[row[order]], nearest[row[order]] = far[order], face[order]
 
 
 def to_triangles(p: np.ndarray, a: np.ndarray, b: np.ndarray, c: np.ndarray) -> np.ndarray:
