@@ -66,7 +66,7 @@ def changed(draw: Draw, name: str, words: list[str]) -> list[str]:
     if how < 0.6:
         return words[:at] + [draw.choice(ODD + ['o1', 'in', 'm', 'q'])] + words[at + 1:]
     if how < 0.8 and name in ('demo', 'sweep', 'slice'):
-        at = draw.randrange(1, min(len(words), 5) or 2)
+        at = draw.randrange(1, max(2, min(len(words), 5)))
         return words[:at] + [number(draw)] + words[at + 1:]
     return draw.sample(words, len(words)) if draw.random() < 0.3 else words[:at] + words[at:][::-1]
 
