@@ -1,20 +1,18 @@
 # recon: builds, runs and tests. Each target says what it does while it does it.
 PREFIX ?= /usr/local
-PROGRAM = crates/recon_main/out/recon_main
-MESH_PROGRAM = crates/mesh_main/out/mesh_main
 
 # The interpreter that has numpy and scipy, which a run and the tests install where they may.
 PYTHON = $(shell sh dev/python)
 MACHINE = $(shell uname -s | tr A-Z a-z)-$(shell uname -m)
 
-.PHONY: run recon recon-mesh python test attack fuzz try reference docs bench bench-short bench-others install dist clean
+.PHONY: run programs recon recon-mesh python test attack fuzz try reference docs bench bench-short bench-others install install-texts dist test-packages clean
 REFERENCE = dev/reference/target/release/recon-reference
 # (looked up when it is used, after it has been built)
 BESIDE ?= $(wildcard $(REFERENCE))
 
-# Proves and builds the program (the first time about twenty minutes on four processors, afterwards seconds), leaves it
+# Proves and builds the programs (the first time about twenty minutes on four processors, afterwards seconds), leaves them
 # as ./recon and ./recon-mesh and runs them on an example.
-run: python recon recon-mesh
+run: python programs
 	@echo "recon build: the surface of the tetrahedron in examples/"
 	./recon build examples/tetrahedron.ply tetrahedron_mesh.ply tetrahedron.cert
 	@echo "recon check: whether mesh and certificate are those of the scan"
@@ -27,15 +25,12 @@ run: python recon recon-mesh
 python:
 	@sh dev/python install >/dev/null
 
-recon:
-	@echo "proving and building the program, a line for each crate; all that rt prints goes to run.log"
-	cd crates/recon_main && python3 ../../dev/progress.py ../../run.log rt run -- demo 1 7
-	cp $(PROGRAM) recon
+# Both programs, or one of them, where they or their sources have changed.
+programs:
+	@python3 dev/programs.py
 
-recon-mesh:
-	@echo "proving and building recon-mesh, a line for each crate; all that rt prints goes to run_mesh.log"
-	cd crates/mesh_main && python3 ../../dev/progress.py ../../run_mesh.log rt run -- finish data/mesh.ply out/finished.ply
-	cp $(MESH_PROGRAM) recon-mesh
+recon recon-mesh:
+	@python3 dev/programs.py $@
 
 # All tests, as the gate runs them: every proof and every test of every crate, the edits that must be refused, the program; then what
 # the documents name, the tests of tools/ and those of the built program. What passed here before and has not changed is not proved again.
@@ -54,9 +49,10 @@ attack:
 fuzz: recon recon-mesh reference
 	$(PYTHON) dev/fuzz seed=$(or $(SEED),1) minutes=$(or $(MINUTES),10)
 
-# Builds the unverified reference program of dev/reference, where there is cargo (less than a minute the first time).
+# Builds the unverified reference program of dev/reference and the judge of meshes of dev/mesh_judge, where there is cargo (less than a
+# minute the first time).
 reference:
-	@if command -v cargo >/dev/null; then cd dev/reference && cargo build --quiet --release --offline; \
+	@if command -v cargo >/dev/null; then for beside in reference mesh_judge; do (cd dev/$$beside && cargo build --quiet --release --offline) || exit 1; done; \
 	else echo "no cargo is here (Debian: apt-get install cargo): what needs the unverified reference program is left out"; fi
 
 # A first surface before anything is proved: builds the reference program and runs it on a scan (a minute).
@@ -66,9 +62,11 @@ try:
 	@$(MAKE) --no-print-directory reference
 	$(PYTHON) dev/try.py $(REFERENCE)
 
-# Builds the documents as a site in site/, where there is mkdocs (a few seconds).
-docs:
+# Prints the pages that are not committed (all definitions, what the libraries guarantee), and builds the documents as a site in site/, where
+# there is mkdocs (a few seconds).
+docs: python
 	@command -v mkdocs >/dev/null || { echo "make docs needs mkdocs (Debian: apt-get install mkdocs)"; exit 1; }
+	$(PYTHON) dev/docs print
 	mkdocs build --quiet
 	@echo "site/index.html"
 
@@ -77,13 +75,13 @@ docs:
 # recon runs in turn with the unverified reference program if there is cargo, or with BESIDE=PROGRAM; a missing program is named and left out.
 bench: recon recon-mesh reference
 	@echo "build and check of scans of 10,000 to 1,000,000 points, and of the worst cases"
-	$(PYTHON) dev/bench.py ./recon bench_scans runs=$(or $(RUNS),1) $(if $(BESIDE),beside=$(BESIDE))
+	$(PYTHON) dev/bench build ./recon bench_scans runs=$(or $(RUNS),1) $(if $(BESIDE),beside=$(BESIDE))
 	@echo "recon-surface and the programs that it runs, a million points, without smoothing"
-	$(PYTHON) dev/one_command.py ./recon ./recon-mesh bench_scans/torus.1000000.ply steps=0
+	$(PYTHON) dev/bench one_command ./recon ./recon-mesh bench_scans/torus.1000000.ply steps=0
 	@echo "each command once, a million points"
-	$(PYTHON) dev/commands.py ./recon bench_scans
+	$(PYTHON) dev/bench commands ./recon bench_scans
 	@echo "instructions and cache misses by phase, 100,000 points"
-	$(PYTHON) dev/phases.py ./recon bench_scans $(if $(BESIDE),beside=$(BESIDE))
+	$(PYTHON) dev/bench phases ./recon bench_scans $(if $(BESIDE),beside=$(BESIDE))
 	@echo "calls of linked cells and walks along lines of sight, 100,000 points"
 	cd crates/cell_bench && rt run -- 100000
 	$(MAKE) --no-print-directory bench-others
@@ -91,36 +89,44 @@ bench: recon recon-mesh reference
 # Seconds, memory and distance to the object of other programs on the same scans: CGAL, COLMAP and Open3D, if they are installed (Debian: libcgal-dev,
 # libcgal-demo, colmap, python3-open3d). Then what recon-surface chooses for the clouds that Debian packs (also opencv-doc), beside Open3D.
 bench-others: recon recon-mesh
-	$(PYTHON) dev/others.py ./recon bench_scans
-	$(PYTHON) dev/clouds.py ./recon bench_scans/clouds
-	$(PYTHON) dev/clouds_beside.py bench_scans/clouds
+	$(PYTHON) dev/bench others ./recon bench_scans
+	$(PYTHON) dev/bench clouds ./recon bench_scans/clouds
+	$(PYTHON) dev/bench clouds_beside bench_scans/clouds
 
 # Times build alone on the three worst shapes and on a cube, a room and a torus of a million points, three runs each (ten minutes; BESIDE as
 # above), and prints the table of docs/explain/performance.md that has these.
 bench-short: recon reference
-	$(PYTHON) dev/bench.py ./recon bench_scans scans=short check=no $(if $(BESIDE),beside=$(BESIDE))
+	$(PYTHON) dev/bench build ./recon bench_scans scans=short check=no $(if $(BESIDE),beside=$(BESIDE))
 
 # Installs the two programs, their manual pages and the programs of tools/ under PREFIX (a second, where they are built; else they
 # are built first). recon-scan and the others run the package in share/recon by any Python 3.8 or later that has numpy and scipy.
-install: recon recon-mesh
+install: programs install-texts
 	install -D -m 755 recon $(DESTDIR)$(PREFIX)/bin/recon
 	install -D -m 755 recon-mesh $(DESTDIR)$(PREFIX)/bin/recon-mesh
-	install -D -m 644 docs/reference/recon.1 $(DESTDIR)$(PREFIX)/share/man/man1/recon.1
-	install -D -m 644 docs/reference/recon-mesh.1 $(DESTDIR)$(PREFIX)/share/man/man1/recon-mesh.1
+
+# The same without the two programs.
+install-texts:
+	$(PYTHON) dev/docs manual $(DESTDIR)$(PREFIX)/share/man/man1
 	install -D -m 755 dev/python $(DESTDIR)$(PREFIX)/share/recon/python
 	sh dev/install_package $(DESTDIR)$(PREFIX)
 
-# Packs what is installed into one archive, for machines of this kind that have no toolchain: unpacked anywhere, its folder bin/ has
-# the program and the tools (a second, where the program is built).
-dist: recon recon-mesh
+# Packs what is installed, for machines of this kind that have no toolchain: into an archive, which is unpacked anywhere and whose folder bin/ has the
+# programs and the tools; into a Debian package; and into a wheel of Python with the programs inside (seconds, where the programs are built).
+dist: programs
 	rm -rf recon-$(MACHINE)
-	$(MAKE) install DESTDIR=$(CURDIR)/ PREFIX=recon-$(MACHINE)
+	$(MAKE) -o programs install DESTDIR=$(CURDIR)/ PREFIX=recon-$(MACHINE)
 	cp -r README.md docs examples recon-$(MACHINE)
 	tar -czf recon-$(MACHINE).tar.gz --owner=0 --group=0 --sort=name recon-$(MACHINE)
 	rm -rf recon-$(MACHINE)
 	@echo "recon-$(MACHINE).tar.gz"
+	@$(PYTHON) dev/packages.py .
+
+# Installs the Debian package and the wheel in a system that has nothing else, and runs the programs there (minutes; needs root, debootstrap and a mirror
+# of Debian).
+test-packages: dist
+	$(PYTHON) dev/test_packages.py .
 
 # Removes what was built and what the proofs kept (a second; the next run proves from nothing). The scans of bench stay.
 clean:
-	rm -rf crates/*/out recon recon-mesh recon-*.tar.gz site tetrahedron_mesh.ply tetrahedron_finished.ply tetrahedron.cert run.log run_mesh.log \
+	rm -rf crates/*/out recon recon-mesh recon-*.tar.gz recon_*.deb recon-*.whl site tetrahedron_mesh.ply tetrahedron_finished.ply tetrahedron.cert run.log run.sum \
 	  try_mesh.ply try.cert test.log attack.log dev/reference/target

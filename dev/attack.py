@@ -2,6 +2,9 @@
 """Tries the mutants of attack/NAME/, which the gate leaves out: none may be verified.
 
 usage: dev/attack.py [CRATE ..]               (at the top of the repository; default: the mutants of all crates)
+       dev/attack.py changed [COMMIT]         (those of crates whose clauses or definitions differ from a commit, as the gate does)
+
+The commit is by default the last tag, or the one that the file .ci/base names. If there is none, or no history, nothing is tried.
 
 Copies the repository to a temporary folder, puts the edits of attack/NAME/ in place of crates/NAME/must-fail/, and runs `rt ci` there, for
 the named crates or for all. So what the gate has proved on this machine is not proved again, edits are tried in parallel, and an edit that was
@@ -15,6 +18,7 @@ from __future__ import annotations
 
 import collections
 import concurrent.futures
+import os
 import pathlib
 import re
 import shutil
@@ -23,7 +27,7 @@ import sys
 import tempfile
 import time
 
-from levels import uses_of
+from docs.sources import uses_of
 from report import begun
 
 TOP = pathlib.Path(__file__).resolve().parent.parent
@@ -31,7 +35,37 @@ LOG = TOP / 'attack.log'
 # A line of `rt help` that says that `rt ci` takes names of crates.
 TAKES_NAMES = re.compile(r'(?m)^ *rt ci +(\[|NAME)')
 SIDE_BY_SIDE = 4
+# A changed line of a clause in src/, and one of a definition in specs/ (no comment and no import).
+CLAUSE, DEFINITION = re.compile(r'[+-]\s*(requires|ensures|(pub )?ghost (?!use))'), re.compile(r'[+-](?!\s*(--|use |pub mod |$))')
 RESULT = re.compile(r'(?:rt: )?must-fail (\w+/\S+)\.edit: (.*)')
+
+
+def git(*words: str) -> str:
+    """Returns what git prints, or nothing if it fails or is not there."""
+    try:
+        return subprocess.run(['git', *words], cwd=TOP, stdin=subprocess.DEVNULL, stderr=subprocess.DEVNULL, stdout=subprocess.PIPE, text=True).stdout
+    except OSError:
+        return ''
+
+
+def changed_in(diff: str) -> set[str]:
+    """Returns the crates in whose clauses or definitions a diff has changed lines."""
+    found, crate, part = set(), '', ''
+    for line in diff.splitlines():
+        if line.startswith(('+++ ', '--- ')):
+            path = pathlib.PurePath(line[6:]).parts
+            crate, part = (path[1], path[2]) if len(path) > 3 and path[0] == 'crates' else ('', '')
+        elif crate and {'src': CLAUSE, 'specs': DEFINITION}.get(part, re.compile('$^')).match(line):
+            found.add(crate)
+    return found
+
+
+def changed_since(commit: str) -> list[str]:
+    """Returns the crates with mutants in attack/ whose clauses or definitions differ from a commit, the last tag, or that of .ci/base."""
+    given = TOP / '.ci/base'
+    base = commit or git('describe', '--tags', '--abbrev=0').strip() or (given.read_text().strip() if given.is_file() else '')
+    changed = changed_in(git('diff', '--unified=0', base, '--', 'crates')) if base else set()
+    return [name for name in crates_of([])[0] if name in changed]
 
 
 def kind_of(said: str) -> str:
@@ -66,7 +100,9 @@ def rt_help() -> str:
 
 def tried(room: pathlib.Path, names: list[str]) -> dict[str, str]:
     """Runs the gate in the copy and returns what was said of each edit."""
-    subprocess.run([sys.executable, str(TOP / 'dev/progress.py'), str(LOG), 'rt', 'ci', *names], cwd=room, stdin=subprocess.DEVNULL)
+    # (under CI=true, rt ci takes no names, since a run with some is not the gate; here it comes beside the gate)
+    where = {name: value for name, value in os.environ.items() if name != 'CI'}
+    subprocess.run([sys.executable, str(TOP / 'dev/progress.py'), str(LOG), 'rt', 'ci', *names], cwd=room, stdin=subprocess.DEVNULL, env=where)
     return results_of(LOG.read_text(encoding='utf-8', errors='replace'))
 
 
@@ -104,7 +140,13 @@ def crates_of(names: list[str]) -> tuple[list[str], list[str]]:
 
 
 def main() -> int:
-    crates, unknown = crates_of(sys.argv[1:])
+    names = sys.argv[1:]
+    if names[:1] == ['changed']:
+        names = changed_since(''.join(names[1:2]))
+        if not names:
+            print('attack: no contract of a crate with more mutants has changed')
+            return 0
+    crates, unknown = crates_of(names)
     if unknown:
         print(f"attack: no edits of {' '.join(unknown)} stand in attack/", file=sys.stderr)
         return 2
@@ -113,7 +155,7 @@ def main() -> int:
     with tempfile.TemporaryDirectory(prefix='attack-') as place:
         room = pathlib.Path(place) / 'copy'
         copied(room, crates)
-        found = tried(room, sys.argv[1:]) if takes_names(rt_help()) else tried_side_by_side(room, crates)
+        found = tried(room, names) if takes_names(rt_help()) else tried_side_by_side(room, crates)
     for crate in crates:
         edits = sorted(it.stem for it in (TOP / 'attack' / crate).glob('*.edit'))
         said = {name: found.get(f'{crate}/{name}', f'NOT TRIED: {LOG.name} says why') for name in edits}

@@ -19,7 +19,8 @@ from collections.abc import Iterator, Sequence
 from report import begun
 from tools_path import PACKAGE  # noqa: F401  (finds the package `recon`)
 from recon.make_scan import Balls, along, less, seen_point
-from recon.toolbox.ply_text import Property, Writer, whole_file
+from recon.toolbox.output_files import whole_file
+from recon.toolbox.ply_text import Property, Writer
 
 OUT = pathlib.Path(__file__).resolve().parent.parent / 'examples' / 'figurine.ply'
 COUNT, SEED = 8000, 'figurine'

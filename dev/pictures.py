@@ -5,7 +5,7 @@
 
   RECON              the built program
   FOLDER             where the pictures are written
-  PICTURE            inside, sight, room, smooth, unit, scanner, slice, finish, kitten, figurine; all of them where none
+  PICTURE            inside, sight, room, smooth, unit, scanner, slice, finish, kitten, figurine, seen; all of them where none
                      is named
 
 Scans are made by recon-make-scan, and drawn by render.py: points on white, surfaces with their outer side warm and their
@@ -32,9 +32,11 @@ from matplotlib.path import Path  # noqa: E402
 from matplotlib.tri import Triangulation  # noqa: E402
 from PIL import Image  # noqa: E402
 
-import objects  # noqa: E402
 import render  # noqa: E402
 from tools_path import PACKAGE  # noqa: E402
+from bench import objects, unseen  # noqa: E402
+from recon.meshes import Mesh  # noqa: E402
+from recon.toolbox.seen import unseen_by_sights  # noqa: E402
 
 DEV = os.path.dirname(os.path.abspath(__file__))
 CGAL = '/usr/share/doc/libcgal-dev/data.tar.gz'
@@ -192,7 +194,7 @@ def surface(recon: str, path: str, *options: str) -> tuple[np.ndarray, np.ndarra
     mesh = path + '.mesh'
     done = subprocess.run([recon, 'build', path, mesh, path + '.cert', *options], check=True, capture_output=True, text=True)
     print(' '.join(options), done.stdout, end='', flush=True)
-    return render.read_mesh(mesh)
+    return objects.read_object(mesh)
 
 
 def is_near(middles: np.ndarray) -> np.ndarray:
@@ -205,7 +207,7 @@ def room(folder: str, recon: str, work: str) -> None:
     path = scan(work, 'room', 'stray=0')
     view, around = render.View(ROOM, (0, 0, -30000), 620000, 760), path + '.around'
     tool('scan', path, around, 'surround=60000')
-    points = render.read_points(path)[0]
+    points = render.read_points(path)
     images = [half(render.points_image(view, points[is_near(points)]))]
     images += [half(render.mesh_image(view, *surface(recon, file), is_near)) for file in (path, around)]
     side_by_side(images, ['100,000 points', 'surface', 'surface after surround='], folder, 'room')
@@ -218,7 +220,7 @@ def smooth(folder: str, recon: str, work: str) -> None:
     done = subprocess.run([recon, 'sweep', path, '0', '1', str(count), *meshes], check=True, capture_output=True, text=True)
     print(done.stdout, end='', flush=True)
     view = render.View(STATUE, (30000, 0, -75000), 600000, 560)
-    images = [half(render.mesh_image(view, *render.read_mesh(mesh))) for mesh in meshes]
+    images = [half(render.mesh_image(view, *objects.read_object(mesh))) for mesh in meshes]
     side_by_side(images, [f'vote=8 smooth={weight}' for weight in range(count)], folder, 'smooth')
 
 
@@ -286,7 +288,7 @@ def finish(folder: str, recon: str, work: str) -> None:
     """A surface as it is built, smooth shading over it, after flips, and after smoothing."""
     scan, mesh, out = (os.path.join(work, name) for name in ('scan.ply', 'mesh.ply', 'out.ply'))
     bunny = debian(work, 'meshes/bunny00.off')
-    subprocess.run([sys.executable, os.path.join(DEV, 'measure_surface.py'), 'scan', bunny, scan], check=True)
+    subprocess.run([sys.executable, os.path.join(DEV, 'bench'), 'surfaces', 'scan', bunny, scan], check=True)
     subprocess.run([recon, 'build', scan, mesh, mesh + '.cert', 'unit=1000', 'smooth=3'], check=True)
     view, images = upright(render.View((0.25, -0.25, -1), (0, 0, 0), 400, 760)), []
     runs: list[tuple[list[str], bool]] = [(['flips=no'], False), (['flips=no'], True), ([], True), (['smooth=3', 'within=1'], True)]
@@ -327,13 +329,32 @@ def figurine(folder: str, recon: str, work: str) -> None:
     subprocess.run([recon, 'build', path, mesh, mesh + '.cert', 'unit=10000', 'smooth=3'], check=True)
     meshes = [finished(mesh, out, 'unit=10000', 'pieces=1', *words) for words in (['flips=no'], ['smooth=3', 'within=0.0006'])]
     view = render.View((0.5, 0.85, -0.25), (0.025, 0, 0.14), 0.165, 760)
-    images = [half(render.points_image(view, render.read_points(path)[0], (0.1, 0.15, 0.25)))]
+    images = [half(render.points_image(view, render.read_points(path), (0.1, 0.15, 0.25)))]
     images += [half(render.mesh_image(view, *each, is_flat=True)) for each in meshes]
     side_by_side(images, ['8,000 points of 8 scanners', 'as built', 'after recon-finish'], folder, 'figurine')
 
 
+def seen(folder: str, recon: str, work: str) -> None:
+    """The closed mesh of a yard and of a flat, and the open one without the faces that no scanner saw. Of the flat, faces are drawn from the
+    front only, so that one looks through ceilings."""
+    os.environ['RECON'] = recon
+    for name, toward, centre, reach in (('court', (0.5, 1, -0.75), (2, 0, 1), 24), ('flat', (0.35, 1, -1.1), (4.5, 3.5, 0.6), 9)):
+        trial = unseen.tried(name)
+        gone = unseen_by_sights(trial.mesh.places, trial.mesh.faces, trial.views)
+        save_seen(trial.mesh.places, trial.mesh.faces, gone, render.View(toward, centre, reach, 840), folder, 'seen_' + name)
+
+
+def save_seen(places: np.ndarray, faces: np.ndarray, gone: np.ndarray, view: render.View, folder: str, name: str) -> None:
+    """Saves a mesh with and without some of its faces."""
+    left = Mesh(places, faces).seen(gone).faces
+    corners = places[left]
+    is_front = np.cross(corners[:, 1] - corners[:, 0], corners[:, 2] - corners[:, 0]) @ view.toward < 0
+    images = [half(render.mesh_image(view, places, part, is_flat=True)) for part in (faces, left[is_front])]
+    side_by_side(images, ['closed', 'without unseen faces'], folder, name)
+
+
 PICTURES = {'inside': inside, 'sight': sight, 'room': room, 'smooth': smooth, 'unit': unit,
-            'scanner': scanner, 'slice': sliced, 'finish': finish, 'kitten': kitten, 'figurine': figurine}
+            'scanner': scanner, 'slice': sliced, 'finish': finish, 'kitten': kitten, 'figurine': figurine, 'seen': seen}
 
 
 def main() -> None:

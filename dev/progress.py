@@ -3,9 +3,9 @@
 
 usage: dev/progress.py LOG COMMAND ..         as dev/progress.py test.log bash .ci/run, at the top or in the folder of a crate
 
-The first line states how long a run from nothing takes here, by the table of docs/dev/contributing.md. Then follows a line for each crate when it
+The first line states how long a run from nothing takes here, by the table of dev/minutes.md. Then follows a line for each crate when it
 is proved, with its number among all and the minutes so far (`proved votes, 22 of 37, 9 min`), one when its tests are proved and one before its
-mutants are tried. A crate that fails is reported with the line of LOG where its text begins. After the gate's last line, and after the line with
+mutants are tried; from the second minute on each also says about how many minutes are left. A crate that fails is reported with the line of LOG where its text begins. After the gate's last line, and after the line with
 which `rt run` starts the program, everything is printed unchanged. The status is the command's.
 """
 from __future__ import annotations
@@ -19,7 +19,7 @@ import sys
 import time
 from typing import Any
 
-from levels import uses_of
+from docs.sources import uses_of
 from report import begun
 
 TOP = pathlib.Path(__file__).resolve().parent.parent
@@ -27,7 +27,7 @@ TOP = pathlib.Path(__file__).resolve().parent.parent
 TOLD = re.compile(r'rt: (FAILED|ok;|waiting |note: bad |warning: )|must-fail .*: (NOT REFUSED|NOT TRIED|BAD EDIT)|.*\.edit: BAD EDIT')
 LAST_OF_THE_GATE = re.compile(r'\d+ passed, \d+ failed')
 # The page with the processor minutes of each crate, and its rows: proofs, tests, edits and their sum.
-PAGE = TOP / 'docs/dev/contributing.md'
+PAGE = TOP / 'dev/minutes.md'
 ROW_OF_PROOFS = re.compile(r'(?m)^\| `(\w+)` \| ([\d.]+) \| [\d.]+ \| [\d.]+ \| [\d.]+ \|')
 ROW_OF_ALL = re.compile(r'(?m)^\| `(\w+)` \| [\d.]+ \| [\d.]+ \| [\d.]+ \| ([\d.]+) \|')
 # `rt run` proves one crate after another, and keeps about this number of processors busy; the gate keeps all busy.
@@ -52,12 +52,21 @@ class Progress:
         self.lines, self.heading, self.is_open = 0, 0, False
         self.done: set[str] = set()
         self.crate: str | None = None
+        # whether no mutants are tried, and the processor minutes that each crate took in the table of the page
+        self.has_proofs_alone = in_turn
+        self.cost: dict[str, float] = {}
 
     def of_all(self, crate: str) -> str:
         """Returns how many crates are done with this one."""
         self.done.add(crate)
         number = self.crates.index(crate) + 1 if self.in_turn and crate in self.crates else len(self.done)
         return f'{number} of {len(self.crates)}'
+
+    def left(self, minutes: int) -> str:
+        """Returns what is said of the minutes that are left, if as much is done for each minute as before; nothing before anything is known."""
+        usual = sum(self.cost.values()) / len(self.cost) if self.cost else 0.0
+        done, total = (sum(self.cost.get(it, usual) for it in crates) for crates in (self.done, self.crates))
+        return f', about {minutes * (total - done) / done:.0f} left' if minutes > 1 and done > 0 else ''
 
     def said(self, line: str, minutes: int) -> str | None:
         """Returns what is to be printed for a line, or None."""
@@ -86,7 +95,7 @@ class Progress:
         if tests:
             return f'proved the tests of {crate}, {minutes} min'
         kept = 'proved here before' if what == 'is kept' else 'proved'
-        return f'{kept} {crate}, {self.of_all(crate)}, {minutes} min'
+        return f'{kept} {crate}, {self.of_all(crate)}, {minutes} min{self.left(minutes)}'
 
     def of_a_library(self, line: str, minutes: int) -> str | None:
         """Returns what is to be said of a line of `rt run`, which proves one crate after another."""
@@ -94,17 +103,22 @@ class Progress:
         if found:
             self.crate = found[1]
         if line.startswith('logic=proved') and self.crate:
-            return f'proved {self.crate}, {self.of_all(self.crate)}, {minutes} min'
+            return f'proved {self.crate}, {self.of_all(self.crate)}, {minutes} min{self.left(minutes)}'
         if line.startswith('logic=not-proved'):
             return f"NOT PROVED {self.crate or 'a crate'}, {minutes} min: {self.log}"
         return None
 
 
+def minutes_in(page: str, seen: Progress) -> dict[str, float]:
+    """Returns the processor minutes of the crates of a run by the table of a page, where it has them."""
+    rows = (ROW_OF_PROOFS if seen.has_proofs_alone else ROW_OF_ALL).findall(page)
+    return {name: float(last) for name, last in rows if name in seen.crates}
+
+
 def expected(page: str, seen: Progress, processors: int) -> str:
     """Returns what is said of the minutes that a run from nothing takes, by the table of a page; nothing where it has none
     of the crates."""
-    minutes = {name: float(last) for name, last in (ROW_OF_PROOFS if seen.in_turn else ROW_OF_ALL).findall(page)}
-    known = [minutes[it] for it in seen.crates if it in minutes]
+    known = list(minutes_in(page, seen).values())
     if not known:
         return ''
     about = sum(known) / (min(processors, BUSY_IN_TURN) if seen.in_turn else processors)
@@ -116,11 +130,15 @@ def tail_of(path: pathlib.Path) -> str:
 
 
 def progress_of(log: pathlib.Path, place: pathlib.Path, command: list[str]) -> Progress:
-    """Returns what follows a run that begins in a folder: of the crates below its crate, below those that the command names, or of all."""
-    uses = uses_of((TOP / 'crates.txt').read_text())
+    """Returns what follows a run that begins in a folder: of the crates below its crate, below those that the command names, or of all that
+    the folder has."""
+    listed = place / 'crates.txt' if (place / 'crates.txt').is_file() else TOP / 'crates.txt'
+    uses = uses_of(listed.read_text())
     in_turn = place.parent == TOP / 'crates' and place.name in uses
     tops = [place.name] if in_turn else [word for word in command if word in uses] or [*uses]
-    return Progress([*dict.fromkeys(it for top in tops for it in proved_in_turn(top, uses))], in_turn, log)
+    seen = Progress([*dict.fromkeys(it for top in tops for it in proved_in_turn(top, uses))], in_turn, log)
+    seen.has_proofs_alone = in_turn or not any(place.glob('crates/*/must-fail'))
+    return seen
 
 
 def main() -> int:
@@ -129,6 +147,7 @@ def main() -> int:
         return 2
     log, began = pathlib.Path(sys.argv[1]).resolve(), time.monotonic()
     seen = progress_of(log, pathlib.Path.cwd(), sys.argv[2:])
+    seen.cost = minutes_in(PAGE.read_text(), seen)
     print(f'{len(seen.crates)} crates{expected(PAGE.read_text(), seen, len(os.sched_getaffinity(0)))}', flush=True)
     # (the command is stopped by the terminal, and what it says then is still to be read)
     signal.signal(signal.SIGINT, signal.SIG_IGN)

@@ -1,7 +1,7 @@
 """Points and meshes drawn from one side, with numpy alone: a depth for each pixel, and shading by the angle to a light.
 
-Names: View (where one looks from) · points_image, mesh_image (arrays of colours) · read_points, read_mesh (text PLY files
-of `recon` as arrays).
+Names: View (where one looks from) · points_image, mesh_image (arrays of colours) · read_points (of a
+text PLY).
 """
 from __future__ import annotations
 
@@ -32,32 +32,12 @@ class View:
         return half + q @ self.right * half / self.reach, half - q @ self.up * half / self.reach, q @ self.toward
 
 
-def body_lines(path: str) -> tuple[dict[str, int], list[str]]:
-    counts = {}
+def read_points(path: str) -> np.ndarray:
+    """Returns the coordinates of the points of a scan."""
     with open(path, encoding='ascii') as file:
-        for line in iter(file.readline, 'end_header\n'):
-            words = line.split()
-            if words[0] == 'element':
-                counts[words[1]] = int(words[2])
-        return counts, file.read().splitlines()
-
-
-def read_points(path: str) -> tuple[np.ndarray, np.ndarray, np.ndarray]:
-    """Coordinates and scanners' numbers of a scan whose columns are x y z scanner, and the scanners' places."""
-    counts, lines = body_lines(path)
-    count = counts['vertex']
-    rows = np.array([line.split() for line in lines[:count]], float)
-    places = np.array([line.split() for line in lines[count:count + counts['scanner']]], float)
-    return rows[:, :3], rows[:, 3].astype(int), places
-
-
-def read_mesh(path: str) -> tuple[np.ndarray, np.ndarray]:
-    """Coordinates and faces of a mesh."""
-    counts, lines = body_lines(path)
-    count = counts['vertex']
-    places = np.array([line.split() for line in lines[:count]], float).reshape(-1, 3)
-    faces = np.array([line.split()[1:] for line in lines[count:]], int).reshape(-1, 3)
-    return places, faces
+        head, body = file.read().split('end_header\n')
+    count = int(head.split('element vertex ')[1].split()[0])
+    return np.array([line.split()[:3] for line in body.splitlines()[:count]], float)
 
 
 def points_image(view: View, places: np.ndarray, tint: tuple[float, float, float] = (0.25, 0.3, 0.4)) -> np.ndarray:

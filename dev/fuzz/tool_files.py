@@ -5,24 +5,14 @@ import math
 import struct
 from typing import NamedTuple, Sequence
 
+import samples
+from samples import ply
+
 from .judge import texts_of
 from .runs import Files
 from .small_files import SCANS
 
 POINTS = [(0.5, -2.5, 1e-7), (3.25, 4, 5), (-1, 0.125, 7.5), (2, 2, 2), (9, -8, 7), (float('nan'), 0, 1)]
-CODES = {'float': 'f', 'double': 'd', 'uchar': 'B', 'short': 'h', 'int': 'i'}
-
-
-def ply(order: str, columns: str, rows: Sequence[Sequence[float]], more: str = '') -> bytes:
-    """Returns a PLY; `columns` are pairs of a type and a name."""
-    words = columns.split()
-    types, names = words[::2], words[1::2]
-    kind = {'': 'ascii', '<': 'binary_little_endian', '>': 'binary_big_endian'}[order]
-    head = ['ply', f'format {kind} 1.0', 'comment by another', f'element vertex {len(rows)}', *(f'property {t} {n}' for t, n in zip(types, names))]
-    text = '\n'.join(head) + '\n' + more + 'end_header\n'
-    if order:
-        return text.encode() + b''.join(struct.pack(order + ''.join(CODES[t] for t in types), *row) for row in rows)
-    return (text + ''.join(' '.join(map(str, row)) + '\n' for row in rows)).encode()
 
 
 def pcd(kind: str) -> bytes:
@@ -39,25 +29,10 @@ def pcd(kind: str) -> bytes:
 
 
 def las(version: int, kind: int) -> bytes:
-    size = 375 if version == 4 else 227
+    """Returns a LAS of three points."""
     row = struct.pack('<iiiHBBbBH', 1, -2, 300, 7, 1, 2, -3, 4, 1) if kind == 0 else \
         struct.pack('<iiiHHBBhHdHHH', 1, -2, 300, 7, 1, 2, 3, -4, 1, 0.5, 1, 2, 3)
-    data = bytearray(size)
-    data[:4], data[24], data[25] = b'LASF', 1, version
-    struct.pack_into('<HII', data, 94, size, size, 0)
-    struct.pack_into('<BHI', data, 104, kind, len(row), 0 if version == 4 else 3)
-    struct.pack_into('<6d', data, 131, 0.001, 0.001, 0.25, 500000, 4000000.5, -7)
-    if version == 4:
-        struct.pack_into('<Q', data, 247, 3)
-    return bytes(data) + row * 3
-
-
-def paged(data: bytes) -> bytes:
-    return b''.join(data[at:at + 1020].ljust(1020, b'\0') + bytes(4) for at in range(0, len(data), 1020))
-
-
-def physical(at: int) -> int:
-    return at // 1020 * 1024 + at % 1020
+    return samples.las(version, kind, [row] * 3)
 
 
 COLUMNS = ('<cartesianX type="Float" precision="single"/><cartesianY type="Float"/>'
@@ -72,16 +47,8 @@ def e57(stated: int = 6, before: str = '', columns: str = COLUMNS, is_empty: boo
     """Returns an E57 of six points; `before` stands before the root of its XML, and an empty one has columns without bytes."""
     z = sum((k % 1006) << (10 * k) for k in range(6)).to_bytes(8, 'little')
     parts = [struct.pack('<6f', *range(6)), struct.pack('<6d', *[k / 4 for k in range(6)]), z, bytes([7] * 6)] if not is_empty else [b''] * 3
-    body = struct.pack(f'<{len(parts)}H', *map(len, parts)) + b''.join(parts)
-    body += b'\0' * (-len(body) % 4 + 2)
-    packet = struct.pack('<BBHH', 1, 0, len(body) + 5, len(parts)) + body
-    section = struct.pack('<B7xQQQ', 1, 32 + len(packet), physical(48 + 32), 0) + packet
-    text = (f'{before}<e57Root type="Structure" xmlns="http://www.astm.org/COMMIT/E57/2010-e57-v1.0"><data3D type="Vector">'
-            f'<vectorChild type="Structure">{POSE}<points type="CompressedVector" fileOffset="{physical(48)}" recordCount="{stated}">'
-            f'<prototype type="Structure">{columns}</prototype><codecs type="Vector"/></points></vectorChild></data3D></e57Root>').encode()
-    at = 48 + len(section)
-    length = len(paged(bytes(at + len(text))))
-    return paged(struct.pack('<8sII4Q', b'ASTM-E57', 1, 0, length, physical(at), len(text), 1024) + section + text)
+    text = before + samples.E57_ROOT + samples.station_xml(samples.physical(48), stated, POSE, columns) + samples.E57_END
+    return samples.e57(samples.section(samples.packet(parts)), text)
 
 
 PTX = '\n'.join(['2', '3', '1 2 3', '1 0 0', '0 1 0', '0 0 1', '0 -1 0 0', '1 0 0 0', '0 0 1 0', '1 2 3 1', '0.5 1 2 0.3', '0 0 0 0.5',
@@ -93,8 +60,8 @@ TABLE = b'# places\n1 2 3\n-4.5 5e0 .5\n7 8 9\n'
 STATIONS = b'# place and file\n1 2 3 a.xyz\n-4 5 6 b.pts\n'
 NORMALS = [(x, y, z, x, y, z) for x in (-1.5, 1.5) for y in (-1, 1) for z in (-1, 0.5, 2)]
 IMAGES_TEXT = b'# pictures\n4 1 0 0 0 0 0 -10 1 b.jpg\n\n1 0.5 0.5 0.5 0.5 1 2 3 1 one\n100 200 -1 5.5 6.5 7\n'
-IMAGES = struct.pack('<Q', 2) + struct.pack('<I7dI', 4, 1, 0, 0, 0, 0, 0, -10, 1) + b'b.jpg\0' + struct.pack('<Q', 0) \
-    + struct.pack('<I7dI', 1, .5, .5, .5, .5, 1, 2, 3, 1) + b'one\0' + struct.pack('<Q', 2) + struct.pack('<ddqddq', 100, 200, -1, 5.5, 6.5, 7)
+IMAGES = samples.images_bin([(4, (1, 0, 0, 0, 0, 0, -10), 'b.jpg', b''),
+                             (1, (.5, .5, .5, .5, 1, 2, 3), 'one', struct.pack('<ddqddq', 100, 200, -1, 5.5, 6.5, 7))])
 VISIBLE = struct.pack('<QIIIIII', 3, 2, 0, 1, 1, 1, 0)
 SLICE = b'loops 2\nloop 3\n0 10 -20 4\n3 11 21 2\n5 7 -8 6\nloop 3\n1 100 -20 4\n4 -11 21 2\n7 -7 8 6\n'
 LABELS = b'answers 4\ninside\noutside\ninside\ninside\n'

@@ -1,14 +1,12 @@
 """Runs a program of the package where it stands: `python3 tools/recon scan ..` is `recon-scan ..`, from any folder."""
 from __future__ import annotations
 
-import importlib
 import importlib.util
 import os
 import subprocess
 import sys
 
 HERE = os.path.dirname(os.path.abspath(__file__))
-PROGRAMS = ('contours', 'finish', 'grid', 'make-scan', 'mesh-to-floats', 'scan', 'surface', 'tiles')
 
 
 def use_fitting_python() -> None:
@@ -27,13 +25,15 @@ def use_fitting_python() -> None:
 def main() -> None:
     if not __package__:
         sys.path[0] = os.path.dirname(HERE)
+    from recon.start import PROGRAMS, ends_at_once, started
     name = sys.argv[1].replace('_', '-') if len(sys.argv) > 1 else ''
+    ends_at_once('recon-' + name)
     if name not in PROGRAMS:
         print(f'usage: recon PROGRAM ARGUMENTS .., where PROGRAM is one of {", ".join(PROGRAMS)}', file=sys.stderr)
         sys.exit(2)
     use_fitting_python()
     sys.argv[:2] = ['recon-' + name]
-    importlib.import_module('recon.' + name.replace('-', '_')).main()
+    started(name)
 
 
 if __name__ == '__main__':

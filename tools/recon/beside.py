@@ -12,6 +12,7 @@ from types import TracebackType
 from typing import Any, Callable, Optional, Type
 
 from recon.library import Surface
+from recon.toolbox.stopping import stop_children
 
 
 def digest(path: Path) -> str:
@@ -24,7 +25,7 @@ def digest(path: Path) -> str:
 
 
 class Beside:
-    """A check and checksums that run beside what the block under `with` does, which does not end before they have."""
+    """A check and checksums that run beside what the block under `with` does, which does not end before they have. If the block fails, they are stopped."""
 
     def __init__(self, surface: Surface, is_checked: bool) -> None:
         self.pool = ThreadPoolExecutor(3)
@@ -54,4 +55,6 @@ class Beside:
         return self
 
     def __exit__(self, kind: Optional[Type[BaseException]], error: Optional[BaseException], trace: Optional[TracebackType]) -> None:
+        if kind is not None:
+            stop_children()
         self.pool.shutdown()

@@ -9,6 +9,10 @@ import time
 from dataclasses import dataclass, field
 from typing import Any, Dict, List
 
+from recon.positions import Verdict
+from recon.toolbox.output_files import user_names
+from recon.toolbox.progress import cleared
+
 
 @dataclass
 class Choice:
@@ -19,7 +23,8 @@ class Choice:
 
 @dataclass
 class Choices:
-    """The choices of a run by name, its warnings, the seconds of each of its steps, and of what ran beside them."""
+    """The choices of a run by name, its warnings, the seconds of each of its steps, and of what ran beside them; and the verdict on its
+    positions."""
     is_quiet: bool = False
     chosen: Dict[str, Choice] = field(default_factory=dict)
     warnings: List[str] = field(default_factory=list)
@@ -27,11 +32,13 @@ class Choices:
     beside: Dict[str, float] = field(default_factory=dict)
     begun: float = field(default_factory=time.monotonic)
     step_begun: float = field(default_factory=time.monotonic)
+    verdict: Verdict = Verdict()
 
     def tell(self, text: str) -> None:
         """A line of progress on standard error."""
         if not self.is_quiet:
-            print(f'recon-surface: {time.monotonic() - self.begun:7.1f} s  {text}', file=sys.stderr, flush=True)
+            cleared()
+            print(f'recon-surface: {time.monotonic() - self.begun:7.1f} s  {user_names(text)}', file=sys.stderr, flush=True)
 
     def choose(self, name: str, value: Any, why: str) -> None:
         self.chosen[name] = Choice(str(value), why)

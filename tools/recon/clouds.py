@@ -107,7 +107,7 @@ def origin_for(low: np.ndarray, high: np.ndarray, unit: int) -> np.ndarray:
         if max(np.abs(low - origin).max(), np.abs(high - origin).max()) * unit <= LIMIT:
             return np.asarray(origin, float)
     raise Invalid(f'the scan is {size * unit:.4g} units across at unit={unit}, over the limit of {2 * LIMIT:,}',
-                  hint='divide its coordinates (--divide)' if unit == 1 else 'use a smaller unit')
+                  hint='divide its coordinates' if unit == 1 else 'use a smaller unit')
 
 
 def tree_of(points: np.ndarray) -> cKDTree:

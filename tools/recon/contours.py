@@ -18,7 +18,8 @@ from decimal import Decimal
 from typing import Any, Sequence, TextIO
 
 from recon.toolbox.exact import READ, text
-from recon.toolbox.ply_text import Refusal, whole_file
+from recon.toolbox.output_files import whole_file
+from recon.toolbox.ply_text import Refusal
 from recon.toolbox.slice_text import Frame, read_loops
 from recon.toolbox.tool import Report, number_of, run
 

@@ -2,7 +2,7 @@
 components, with the colors of its points. The result is no longer the mesh that `recon check` accepts.
 
   recon-finish MESH OUT [unit=U] [origin=X,Y,Z] [pieces=N] [flips=no] [smooth=N within=D] [manifold=yes]
-               [seen=yes] [scan=SCAN] [cert=CERT]
+               [seen=yes] [fill=LENGTH] [scan=SCAN] [cert=CERT]
 
   OUT                binary PLY, STL, GLB or OBJ, by the extension of its name: .ply, .stl, .glb or .obj
   unit=U             divide coordinates by U (default: that of cert=, else of the only certificate (.cert, .cert.gz) in the folder
@@ -16,8 +16,10 @@ components, with the colors of its points. The result is no longer the mesh that
   within=D           move no vertex farther than D, in coordinates of the scan and rounded down to whole units of the mesh; required
                      with smooth=. Twice the noise is usual
   manifold=yes       split vertices and edges at which sheets only touch, so that each edge has two faces
-  seen=yes           also write OUT with -seen in its name: the mesh without faces that span space that no scanner saw, which have
-                     an edge over 8 times the spacing at its corners. It is open. Faces of a PLY get the property `unseen`, 1 or 0
+  seen=yes           also write OUT with -seen in its name: the mesh without faces that span space that no scanner saw. It is open.
+                     Faces of a PLY get the property `unseen`, 1 or 0. With scan= the lines of sight tell which faces these are;
+                     without it, an edge over 8 times the spacing at the corners does
+  fill=LENGTH        keep the faces of holes of the seen mesh up to this wide, in coordinates of the scan (default: 0)
   scan=SCAN          copy colors and other properties of the scan to the vertices; of several points at one position those of the
                      first. STL stores none, GLB and OBJ store red, green and blue
 
@@ -30,9 +32,7 @@ import glob
 import gzip
 import os
 import re
-import sys
 import tempfile
-import time
 from concurrent.futures import ThreadPoolExecutor
 from dataclasses import dataclass
 from decimal import Decimal
@@ -41,67 +41,56 @@ from typing import Any, Callable, List, Optional, Sequence, Tuple
 import numpy as np
 
 from recon.library import rows_at
-from recon.mesh_program import Wanted, Whole, finish_mesh
-from recon.meshes import Mesh, mean_angle, unseen_faces
+from recon.mesh_program import FinishOptions, Whole, finish_mesh
+from recon.meshes import Mesh, mean_angle
 from recon.toolbox.mesh_files import Column, Finished, form_of, read_mesh, rounding_of, write_mesh
+from recon.toolbox.output_files import passing_folder
 from recon.toolbox.ply_text import IS_NUMBER, Refusal
+from recon.toolbox.progress import step
 from recon.toolbox.scan_rows import columns_of
+from recon.toolbox.seen import Views
 from recon.toolbox.tool import Report, number_of, run, three, whole, yes
 
 MOST_STEPS, LONGEST = 100, 1 << 23
-KEYS = ('unit', 'origin', 'pieces', 'flips', 'smooth', 'within', 'manifold', 'seen', 'scan', 'cert')
+# bytes of a face in the text of a mesh, and faces that are finished in a second, for one step
+BYTES_A_FACE, FINISHED_A_SECOND = 35, 150_000
+KEYS = ('unit', 'origin', 'pieces', 'flips', 'smooth', 'within', 'manifold', 'seen', 'fill', 'scan', 'cert')
 STAMP = re.compile(rb'recon certificate 2\nscan [0-9a-f]{64}\nunit ([0-9]{1,7})\n')
 
 
-class Progress:
-    """A line on a terminal that says each second what is done."""
-
-    def __init__(self) -> None:
-        self.last, self.is_on = time.monotonic(), sys.stderr.isatty()
-
-    def tell(self, text: str) -> None:
-        if self.is_on and time.monotonic() - self.last > 1:
-            print(f'\r{text:78.78}', end='', file=sys.stderr, flush=True)
-            self.last = time.monotonic()
-
-    def end(self) -> None:
-        if self.is_on:
-            print('\r' + ' ' * 78 + '\r', end='', file=sys.stderr, flush=True)
-
-
 @dataclass
-class Wishes:
+class Request(FinishOptions):
     """The request, by its options; `unit` and `origin` are those of the scan, `within` a length of it. Of `scan`
     the properties are brought back. `program` is the path of recon-mesh."""
     unit: int = 1
     origin: Sequence[float] = (0.0, 0.0, 0.0)
-    pieces: Optional[int] = None
-    flips: bool = True
-    steps: int = 0
-    within: float = 0.0
-    manifold: bool = False
     seen: bool = False
     scan: Optional[str] = None
     program: Optional[str] = None
+    fill: float = 0.0
 
     @classmethod
-    def of(cls, options: Any) -> Wishes:
+    def of(cls, options: Any) -> Request:
         """Reads the options of the command line."""
         steps = whole(options.smooth or '0', 'smooth', 0, MOST_STEPS)
         if (options.within is None) != (steps == 0):
             raise Refusal('smooth= and within= are required together: the number of steps, and the most that a vertex may move')
         if steps and not (IS_NUMBER(options.within) and 0 < float(options.within) < 1e30):
             raise Refusal('within= must be a number greater than 0')
-        wishes = cls(whole(options.unit or '1', 'unit', 1, 1000000), [float(word) for word in three(options.origin or '0,0,0', 'origin')],
-                   whole(options.pieces, 'pieces', 1, 10 ** 9) if options.pieces else None,
-                   options.flips is None or yes(options.flips, 'flips'), steps, float(options.within or 0),
-                   yes(options.manifold, 'manifold'), yes(options.seen, 'seen'), options.scan)
+        if options.fill and not (IS_NUMBER(options.fill) and 0 <= float(options.fill) < 1e30):
+            raise Refusal('fill= must be a length of 0 or more')
+        if options.fill and not yes(options.seen, 'seen'):
+            raise Refusal('fill= requires seen=yes: it fills holes of the seen mesh')
+        request = cls(whole(options.pieces, 'pieces', 1, 10 ** 9) if options.pieces else None, yes(options.manifold, 'manifold'),
+                      options.flips is None or yes(options.flips, 'flips'), steps, float(options.within or 0),
+                      whole(options.unit or '1', 'unit', 1, 1000000), [float(word) for word in three(options.origin or '0,0,0', 'origin')],
+                      yes(options.seen, 'seen'), options.scan, fill=float(options.fill or 0))
         if steps:
-            wishes.whole_within()
-        return wishes
+            request.whole_within()
+        return request
 
     def whole_within(self) -> int:
-        """How many whole units of the mesh a vertex may go. Raises `Refusal` if that is none."""
+        """Returns how many whole units of the mesh a vertex may move. Raises `Refusal` if that is none."""
         units = min(int(Decimal(repr(self.within)) * self.unit), LONGEST)
         if not units:
             raise Refusal(f'within={self.within:g} is less than one unit of the mesh, {1 / self.unit:g}')
@@ -166,73 +155,87 @@ class Work:
     """A mesh on its way, and the report of it. `recon-mesh` does all that changes it, in files of a folder that goes with the run. `fine` is how
     many units of `places` one unit of the mesh that was read has."""
 
-    def __init__(self, name: str, wishes: Wishes, tell: Callable[[str], None], mesh: tuple[np.ndarray, np.ndarray] | None, folder: str) -> None:
-        self.path, self.wishes, self.tell, self.folder = name, wishes, tell, folder
+    def __init__(self, name: str, request: Request, tell: Callable[[str], None], mesh: tuple[np.ndarray, np.ndarray] | None, folder: str,
+                 views: Views | None = None) -> None:
+        self.path, self.request, self.tell, self.folder, self.views = name, request, tell, folder, views
         self.places, self.corners, self.fine = Whole(*(read_mesh(name) if mesh is None else mesh), 1)
         if not len(self.corners):
             raise Refusal('the mesh has no faces')
         self.vertex_of = np.arange(len(self.places))
-        self.report = FinishReport(name, len(self.places), len(self.corners) // 3, unit=wishes.unit)
+        self.report = FinishReport(name, len(self.places), len(self.corners) // 3, unit=request.unit)
 
-    def change(self, wanted: Wanted, out: str) -> None:
+    def change(self, options: FinishOptions, out: str) -> None:
         """Runs `recon-mesh finish` on the mesh, which becomes what it writes."""
-        self.tell(' '.join(['recon-mesh finish', *wanted.options()]))
+        self.tell(' '.join(['recon-mesh finish', *options.words()]))
         path = os.path.join(self.folder, out)
-        self.places, self.corners, self.fine = finish_mesh(self.path, wanted, path, self.wishes.program)
+        self.places, self.corners, self.fine = finish_mesh(self.path, options, path, self.request.program)
         self.path = path
 
     def keep_and_split(self) -> None:
         """Does what moves no vertex, but leaves flips to a run that smooths: so each vertex is found by its place in the mesh that was read."""
-        wishes, report, before = self.wishes, self.report, self.places
-        wanted = Wanted(wishes.pieces, wishes.manifold, wishes.flips and not wishes.steps)
-        if wanted == Wanted(flips=False):
+        request, report, before = self.request, self.report, self.places
+        options = FinishOptions(request.pieces, request.manifold, request.flips and not request.steps)
+        if options == FinishOptions(flips=False):
             return
-        self.change(wanted, 'kept.ply')
+        self.change(options, 'kept.ply')
         if not np.array_equal(before, self.places):
             self.vertex_of = rows_at(before, self.places)
-        report.kept_pieces = wishes.pieces
+        report.kept_pieces = request.pieces
         report.left_out = report.faces - len(self.corners) // 3
-        if wishes.manifold:
+        if request.manifold:
             report.split = len(self.places) - len(np.unique(self.vertex_of))
 
     def smooth(self) -> None:
         """Flips and smooths; vertices keep their numbers."""
-        wishes, report, homes = self.wishes, self.report, self.places
-        self.change(Wanted(flips=wishes.flips, steps=wishes.steps, within=wishes.whole_within()), 'smoothed.ply')
-        far = np.linalg.norm(self.places / self.fine - homes, axis=1) / wishes.unit
-        report.steps, report.mean_way, report.longest_way = wishes.steps, float(far.mean()), float(far.max())
+        request, report, homes = self.request, self.report, self.places
+        self.change(FinishOptions(flips=request.flips, steps=request.steps, within=request.whole_within()), 'smoothed.ply')
+        far = np.linalg.norm(self.places / self.fine - homes, axis=1) / request.unit
+        report.steps, report.mean_way, report.longest_way = request.steps, float(far.mean()), float(far.max())
 
     def run(self) -> Finished:
         """Finishes the mesh, and brings columns of the scan back."""
-        wishes, report = self.wishes, self.report
+        request, report = self.request, self.report
         with ThreadPoolExecutor(1) as pool:
             before = pool.submit(mean_angle, self.places, self.corners.reshape(-1, 3))
             self.keep_and_split()
             homes = self.places
-            if wishes.steps:
+            if request.steps:
                 self.smooth()
-            report.is_flipped, report.angle_before = wishes.flips, before.result()
+            report.is_flipped, report.angle_before = request.flips, before.result()
         faces = self.corners.reshape(-1, 3)
         report.angle_after = mean_angle(self.places, faces)
         columns: list[Column] = []
-        if wishes.scan is not None:
-            columns = columns_of(wishes.scan, wishes.unit, homes)
+        if request.scan is not None:
+            columns = columns_of(request.scan, request.unit, homes)
             report.columns = [name for name, _, _ in columns]
-        spots = self.places / (self.fine * wishes.unit) + np.array(wishes.origin)
+        spots = self.places / (self.fine * request.unit) + np.array(request.origin)
         face_columns: list[Column] = []
-        if wishes.seen:
-            unseen = unseen_faces(spots, faces)
+        if request.seen:
+            unseen = Mesh(spots, faces, views=self.views_of_vertices(columns)).unseen()
             report.unseen = int(unseen.sum())
             face_columns.append(('unseen', 'uchar', unseen))
         return Finished(spots, faces, columns, face_columns, self.vertex_of)
 
+    def views_of_vertices(self, columns: list[Column]) -> Views | None:
+        """From where the vertices were seen, as the caller knows or the scan says: its column `scanner`, and its scanners."""
+        if self.views is not None:
+            return self.views.take(self.vertex_of)
+        numbers = next((np.asarray(values, np.int64) for name, _, values in columns if name == 'scanner'), None)
+        if self.request.scan is None or numbers is None:
+            return None
+        from recon.tables import read_table
+        scan, _ = read_table([self.request.scan])
+        if scan.scanners is None or not 0 <= numbers.min(initial=0) <= numbers.max(initial=0) < len(scan.scanners):
+            return None
+        return Views(scan.scanners[numbers] + np.array(self.request.origin), numbers, np.zeros(len(numbers), bool))
 
-def finished(path: str, wishes: Wishes, tell: Callable[[str], None] = lambda text: None,
-             mesh: tuple[np.ndarray, np.ndarray] | None = None) -> tuple[Finished, FinishReport]:
+
+def finished(path: str, request: Request, tell: Callable[[str], None] = lambda text: None,
+             mesh: tuple[np.ndarray, np.ndarray] | None = None, views: Views | None = None) -> tuple[Finished, FinishReport]:
     """Finishes the mesh of a file, and returns it with the report. `tell` gets lines on what is done; `mesh` is what `read_mesh` gives
-    of the file, if it is known."""
-    with tempfile.TemporaryDirectory(prefix='recon-finish-') as folder:
-        work = Work(path, wishes, tell, mesh, folder)
+    of the file, if it is known, and `views` from where its vertices were seen."""
+    with passing_folder(os.path.join(tempfile.gettempdir(), 'finish')) as folder:
+        work = Work(path, request, tell, mesh, folder, views)
         return work.run(), work.report
 
 
@@ -243,10 +246,10 @@ def with_used(faces: np.ndarray, count: int) -> tuple[np.ndarray, np.ndarray]:
     return np.flatnonzero(is_used), (np.cumsum(is_used) - 1)[faces]
 
 
-def seen_part(mesh: Finished) -> Finished:
-    """The open mesh without the faces that span unseen space, with the vertices that are left."""
+def seen_part(mesh: Finished, fill: float = 0.0) -> Finished:
+    """The open mesh without the faces that span unseen space, but with those of holes up to `fill` wide, with the vertices that are left."""
     known = [np.asarray(values, bool) for name, _, values in mesh.face_columns if name == 'unseen']
-    seen = Mesh(mesh.places, mesh.faces).seen(*known).faces
+    seen = Mesh(mesh.places, mesh.faces).seen(known[0] if known else None, fill).faces
     used, faces = with_used(seen, len(mesh.places))
     return Finished(mesh.places[used], faces, [(name, kind, values[used]) for name, kind, values in mesh.columns],
                     vertex_of=mesh.vertex_of[used])
@@ -263,9 +266,9 @@ def seen_path(path: str) -> str:
     return stem + '-seen' + ending
 
 
-def write_seen(path: str, mesh: Finished) -> int:
+def write_seen(path: str, mesh: Finished, fill: float = 0.0) -> int:
     """Writes the seen part of a mesh beside it, and returns how many faces it has. Of 0 faces no file is made."""
-    part = seen_part(mesh)
+    part = seen_part(mesh, fill)
     if len(part.faces):
         write_mesh(seen_path(path), part)
     return len(part.faces)
@@ -294,16 +297,16 @@ def work(names: Sequence[str], options: Any) -> FinishReport:
     stamp = None if options.unit else stamped_unit(names[0], options.cert)
     if stamp is not None:
         options.unit = stamp[0]
-    wishes, progress = Wishes.of(options), Progress()
-    try:
-        mesh, report = finished(names[0], wishes, progress.tell)
-        report.stamp = stamp[1] if stamp else None
+    request = Request.of(options)
+    faces = os.path.getsize(names[0]) / BYTES_A_FACE
+    with step('finishing', seconds=faces * (2 + request.steps) / FINISHED_A_SECOND):
+        mesh, report = finished(names[0], request)
+    report.stamp = stamp[1] if stamp else None
+    with step('writing', seconds=faces / FINISHED_A_SECOND):
         write_mesh(names[1], mesh)
         report.out, report.written = names[1], (len(mesh.places), len(mesh.faces))
         report.rounding = rounding_of(names[1], mesh)
-        report.seen_part = write_seen(names[1], mesh) if wishes.seen else 0
-    finally:
-        progress.end()
+        report.seen_part = write_seen(names[1], mesh, request.fill) if request.seen else 0
     return report
 
 

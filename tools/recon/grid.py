@@ -20,7 +20,8 @@ from decimal import Decimal, ROUND_CEILING
 from typing import Any, Sequence, Tuple
 
 from recon.toolbox.exact import WIDE, text
-from recon.toolbox.ply_text import Refusal, whole_file
+from recon.toolbox.output_files import whole_file
+from recon.toolbox.ply_text import Refusal
 from recon.toolbox.sieve import length_of
 from recon.toolbox.text_lines import Lines
 from recon.toolbox.tool import NotUnderstood, Report, number_of, run, three

@@ -7,10 +7,11 @@ from __future__ import annotations
 import os
 import shutil
 import tempfile
+import warnings
 import weakref
 from dataclasses import dataclass, field
 from pathlib import Path
-from typing import Any, NamedTuple, Sequence, Union
+from typing import Any, Callable, NamedTuple, Sequence, Union
 
 import numpy as np
 
@@ -20,7 +21,9 @@ from recon.program import Invalid, run
 from recon.sights import SCANNER_LIMIT, along_normals
 from recon.toolbox.mesh_files import read_mesh
 from recon.toolbox.orders import first_equal
+from recon.toolbox.output_files import whole_bytes
 from recon.toolbox.ply_text import Refusal
+from recon.toolbox.seen import views_of
 from recon.toolbox.slice_text import read_loops
 
 POINT_LIMIT = 1_048_576
@@ -110,7 +113,7 @@ def write_scan(path: str | Path, points: np.ndarray, sights: Sights, scanners: n
     lines = ['ply', 'format binary_little_endian 1.0', f'element vertex {len(points)}']
     lines += [f'property {kind} {name}' if name else 'property list ushort ushort scanner' for name, kind, _ in fields]
     lines += [f'element scanner {len(scanners)}', 'property int x', 'property int y', 'property int z', 'end_header', '']
-    with open(path, 'wb') as file:
+    with whole_bytes(os.fspath(path)) as file:
         file.write('\n'.join(lines).encode('ascii'))
         file.write(rows.tobytes() if is_single else with_lists(rows, sights))
         file.write(scanners.astype('<i4').tobytes())
@@ -141,7 +144,7 @@ def rows_at(whole: np.ndarray, places: np.ndarray) -> np.ndarray:
     return first_equal(numbers[:len(whole)], numbers[len(whole):])
 
 
-@dataclass
+@dataclass(repr=False)
 class Surface(Mesh):
     """The best surface of a scan, as `build` returns it.
 
@@ -160,12 +163,17 @@ class Surface(Mesh):
     rows: np.ndarray | None = None
     spots: np.ndarray = field(default_factory=lambda: np.zeros((0, 3), np.int64))
 
+    def __repr__(self) -> str:
+        return (f'<Surface: {len(self.vertices):,} vertices, {len(self.faces):,} faces, unit={self.unit}, smooth={self.smooth}, vote={self.vote}, '
+                f'cost={self.counts.get("cost", 0):,}>')
+
     def load(self) -> None:
         """Reads the mesh, where the program has built it and `rows` are the points of the scan in whole units."""
         if self.rows is not None:
             self.spots, corners = read_mesh(os.fspath(self.mesh))
             self.vertices, self.faces = self.spots / self.unit + self.origin, corners.reshape(-1, 3)
             self.source, self.rows = rows_at(self.rows, self.spots), None
+            self.views = None if self.views is None else self.views.take(self.source)
 
     @property
     def scan(self) -> Path:
@@ -244,15 +252,17 @@ class Surface(Mesh):
         is_known = len(self.spots) == len(self.vertices)
         return self.spots if is_known else np.rint((self.vertices - self.origin) * self.unit).astype(np.int64), self.faces.ravel()
 
-    def finish(self, pieces: int | None = None, flips: bool = True, smooth: int = 0, within: float | None = None,
+    def finish(self, pieces: int | None = None, flips: bool = True, steps: int = 0, within: float | None = None,
                manifold: bool = False) -> Mesh:
-        """Returns a less rough mesh, as `recon-finish` writes it: keeps the largest pieces, flips edges, and smooths in `smooth` steps that move
+        """Returns a less rough mesh, as `recon-finish` writes it: keeps the largest pieces, flips edges, and smooths in a number of `steps` that move
         no vertex farther than `within`. The result is no longer the surface that `check` verifies."""
-        from recon.finish import Wishes, finished
-        wishes = Wishes(unit=self.unit, origin=self.origin.tolist(), pieces=pieces, flips=flips, steps=smooth, within=within or 0.0,
+        if (within is None) != (steps == 0):
+            raise Invalid('steps= and within= are required together: the number of steps, and the most that a vertex may move')
+        from recon.finish import Request, finished
+        request = Request(unit=self.unit, origin=self.origin.tolist(), pieces=pieces, flips=flips, steps=steps, within=within or 0.0,
                         manifold=manifold)
-        done, _ = finished(str(self.mesh), wishes, mesh=self.whole())
-        return Mesh(done.places, done.faces)
+        done, _ = finished(str(self.mesh), request, mesh=self.whole())
+        return Mesh(done.places, done.faces, self.source[done.vertex_of], None if self.views is None else self.views.take(done.vertex_of))
 
 
 def check(scan: str | Path, mesh: str | Path, certificate: str | Path, *, smooth: int, vote: int = 8, unit: int = 1,
@@ -283,22 +293,29 @@ def build(points: Any, scanners: Any = None, seen_by: SeenBy | None = None, *, n
     surface = build_files(points, scanners, seen_by, normals=normals, weights=weights, smooth=smooth, vote=vote, unit=unit, origin=origin, far=far,
                           folder=folder, program=program, is_shown=is_shown)
     surface.load()
+    if not len(surface.faces):
+        warnings.warn('the surface is empty: the points lie in a plane, positions are on the wrong side, or smooth= is too large', stacklevel=2)
     return surface
 
 
 def build_files(points: Any, scanners: Any = None, seen_by: SeenBy | None = None, *, normals: Any = None, weights: Any = None, smooth: int = 3,
                 vote: int = 8, unit: int | None = None, origin: Any = None, far: float | None = None, folder: str | Path | None = None,
-                program: str | None = None, is_shown: bool = False) -> Surface:
-    """Does what `build` does, but leaves the mesh to `Surface.load`, so that something else can be done with the files first."""
+                program: str | None = None, is_shown: bool = False, watch: Callable[[str], None] | None = None) -> Surface:
+    """Does what `build` does, but leaves the mesh to `Surface.load`, so that something else can be done with the files first. `watch` gets the text of
+    the program's progress."""
     places = points_of(points, 'points')
-    if not len(places) or len(places) > POINT_LIMIT:
+    if not len(places):
+        raise Invalid('points is empty: it has the shape (0, 3)')
+    if len(places) > POINT_LIMIT:
         raise Invalid(f'{len(places):,} points: a scan has 1 to {POINT_LIMIT:,}', hint='thin them (recon.thinned), or split them into tiles (recon-tiles)')
     stations, sights = stations_of(places, scanners, seen_by, normals, far)
     kept = Path(tempfile.mkdtemp(prefix='recon-') if folder is None else folder)
     scan = written_scan(places, stations, sights, weights, unit, origin, kept)
-    counts = run(['build', kept / 'scan.ply', kept / 'mesh.ply', kept / 'scan.cert', f'smooth={smooth}', f'vote={vote}'], program, is_shown)
+    counts = run(['build', kept / 'scan.ply', kept / 'mesh.ply', kept / 'scan.cert', f'smooth={smooth}', f'vote={vote}'], program, is_shown,
+                 watch)
     none = np.zeros((0, 3))
-    surface = Surface(none, none.astype(np.int64), np.zeros(0, np.int64), scan.unit, scan.origin, smooth, vote, counts, kept, program, scan.points)
+    views = views_of(places, stations, sights.counts, sights.scanners)
+    surface = Surface(none, none.astype(np.int64), np.zeros(0, np.int64), views, scan.unit, scan.origin, smooth, vote, counts, kept, program, scan.points)
     if folder is None:
         weakref.finalize(surface, shutil.rmtree, kept, True)
     return surface

@@ -23,7 +23,9 @@ import random
 from dataclasses import dataclass
 from typing import Any, Iterator, Sequence, Tuple
 
-from recon.toolbox.ply_text import IS_NUMBER, SCANNER_LIMIT, Property, Refusal, Writer, whole_file
+from recon.toolbox.output_files import whole_file
+from recon.toolbox.ply_text import IS_NUMBER, SCANNER_LIMIT, Property, Refusal, Writer
+from recon.toolbox.progress import step
 from recon.toolbox.tool import Report, number_of, run
 
 Place = Sequence[float]
@@ -267,8 +269,9 @@ def work(names: Sequence[str], options: Any) -> MadeScan:
     with whole_file(out) as file:
         writer = Writer(file, columns, 'make_scan')
         writer.begin(True)
-        for p, index in itertools.islice(rows_of(draw, shape, noise, stray), count):
-            writer.row(scaled(p, scale) + [str(index)])
+        with step('simulating', lambda: writer.count / count):
+            for p, index in itertools.islice(rows_of(draw, shape, noise, stray), count):
+                writer.row(scaled(p, scale) + [str(index)])
         writer.finish([scaled(place, scale) for place in shape.scanners])
     return MadeScan(names[0], out, count, len(shape.scanners))
 

@@ -1,6 +1,6 @@
-"""The program `recon-mesh`: where it is, and meshes that it finishes.
+"""The program `recon-mesh`: where it is, and meshes that it finishes and simplifies.
 
-Names: mesh_program_path · Wanted (what of a mesh is to be finished) · Whole (a mesh of whole numbers) · finish_mesh.
+Names: mesh_program_path · FinishOptions · Whole (a mesh of whole numbers) · finish_mesh · simplify_mesh.
 """
 from __future__ import annotations
 
@@ -25,19 +25,20 @@ def mesh_program_path(path: str | None = None) -> str | None:
 
 
 @dataclass
-class Wanted:
-    """What is to be finished, as `recon-mesh finish` has it: how many of the largest pieces are kept, whether vertices are split where sheets
-    touch, whether edges are flipped, and in how many steps the mesh is smoothed, with the whole units that a vertex may move."""
+class FinishOptions:
+    """The options of finishing: how many of the largest pieces are kept, whether vertices are split where sheets touch, whether edges are
+    flipped, and in how many steps the mesh is smoothed, with the length that a vertex may move."""
     pieces: Optional[int] = None
     manifold: bool = False
     flips: bool = True
     steps: int = 0
-    within: int = 0
+    within: float = 0.0
 
-    def options(self) -> List[str]:
+    def words(self) -> List[str]:
+        """Returns the options as `recon-mesh finish` takes them; `within` has to be in whole units of the mesh."""
         words = [f'pieces={self.pieces}'] if self.pieces else []
         words += (['manifold=yes'] if self.manifold else []) + ([] if self.flips else ['flips=no'])
-        return words + ([f'smooth={self.steps}', f'within={self.within}'] if self.steps else [])
+        return words + ([f'smooth={self.steps}', f'within={self.within:.0f}'] if self.steps else [])
 
 
 class Whole(NamedTuple):
@@ -48,14 +49,26 @@ class Whole(NamedTuple):
     fine: int
 
 
-def finish_mesh(path: str, wanted: Wanted, out: str, program: Optional[str] = None) -> Whole:
+def finish_mesh(path: str, options: FinishOptions, out: str, program: Optional[str] = None) -> Whole:
     """Finishes the mesh of a file into another file without comments, and returns it. Raises `Refusal` with the program's error, or without the program."""
+    done = changed(['finish', path, out, *options.words()], program)
+    return Whole(*read_mesh(out, FINEST), done.get('fine', 1))
+
+
+def simplify_mesh(path: str, within: int, faces: int, out: str, program: Optional[str] = None) -> tuple[np.ndarray, np.ndarray]:
+    """Simplifies the mesh of a file into another file without comments, down to a number of faces, while no corner is farther than `within` whole units
+    from the mesh. Returns its places and corners, as `read_mesh` does; raises `Refusal` as `finish_mesh` does."""
+    changed(['simplify', path, out, f'within={within}', *([f'faces={faces}'] if faces else [])], program)
+    return read_mesh(out, FINEST)
+
+
+def changed(words: List[str], program: Optional[str]) -> dict[str, int]:
+    """Runs the program, without comments in what it writes, and returns the numbers of its line."""
     found = mesh_program_path(program)
     if found is None:
         raise Refusal('the program recon-mesh was not found: add it to the PATH, or set the environment variable RECON_MESH to its path')
     try:
-        done = run(['finish', path, out, *wanted.options(), 'comments=no'], found)
+        return run([*words, 'comments=no'], found)
     except Refused as error:
         is_open = error.line.startswith('refused 28 unbalanced')
         raise Refusal(f'the mesh is not closed: recon-mesh printed {error.line}' if is_open else f'recon-mesh: {error}') from None
-    return Whole(*read_mesh(out, FINEST), done.get('fine', 1))

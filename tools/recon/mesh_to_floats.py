@@ -14,7 +14,8 @@ from decimal import Decimal
 from typing import Any, Sequence, TextIO
 
 from recon.toolbox.exact import quotients
-from recon.toolbox.ply_text import ARE_THREE, Element, Property, Reader, Refusal, plain_names, whole_file
+from recon.toolbox.output_files import whole_file
+from recon.toolbox.ply_text import ARE_THREE, Element, Property, Reader, Refusal, plain_names
 from recon.toolbox.tool import Report, number_of, run, three, whole
 
 

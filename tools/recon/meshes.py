@@ -5,7 +5,7 @@ Names: Mesh · unseen_faces (faces that span space that no scanner saw) · areas
 from __future__ import annotations
 
 from dataclasses import dataclass
-from typing import Any, Iterator, NamedTuple
+from typing import TYPE_CHECKING, Any, Iterator, NamedTuple
 
 import numpy as np
 from scipy.spatial import cKDTree
@@ -13,6 +13,9 @@ from scipy.spatial import cKDTree
 from recon.clouds import tree_of
 from recon.toolbox.orders import ascending
 from recon.toolbox.vectors import Vector, angle, axes, normal
+
+if TYPE_CHECKING:
+    from recon.toolbox.seen import Views
 
 NEAR = 6
 FACTOR = 8.0
@@ -31,24 +34,34 @@ class Sides(NamedTuple):
     both: np.ndarray
 
 
-@dataclass
+@dataclass(repr=False)
 class Mesh:
     """Vertices (n, 3) in the scan's numbers, and faces (m, 3) as rows of vertices. `source` (n,) is the row of the scan that each
-    vertex is, where the vertices are points of a scan."""
+    vertex is, where the vertices are points of a scan; `views` are from where they were seen, where that is known."""
     vertices: np.ndarray
     faces: np.ndarray
     source: np.ndarray | None = None
+    views: Views | None = None
+
+    def __repr__(self) -> str:
+        return f'<Mesh: {len(self.vertices):,} vertices, {len(self.faces):,} faces>'
 
     def unseen(self) -> np.ndarray:
-        """Returns which faces (m,) span space that no scanner saw; see `unseen_faces`."""
-        return unseen_faces(self.vertices, self.faces)
+        """Returns which faces (m,) span space that no scanner saw: by the lines of sight to their corners, or, where these are not known, by the
+        lengths of edges (`unseen_faces`)."""
+        if self.views is None:
+            return unseen_faces(self.vertices, self.faces)
+        from recon.toolbox.seen import unseen_by_sights
+        return unseen_by_sights(self.vertices, self.faces, self.views)
 
-    def seen(self, unseen: np.ndarray | None = None) -> Mesh:
+    def seen(self, unseen: np.ndarray | None = None, fill: float = 0.0) -> Mesh:
         """Returns the open mesh without the faces that span unseen space, and without pieces under 20 faces that are left of it. All
-        vertices stay. `unseen` is what `unseen` returned, if it is known."""
-        faces = self.faces[~(self.unseen() if unseen is None else unseen)]
+        vertices stay. Holes up to `fill` wide keep their faces. `unseen` is what `unseen` returned, if it is known."""
+        from recon.toolbox.seen import filled
+        left_out = filled(self.vertices, self.faces, self.unseen() if unseen is None else unseen, fill)
+        faces = self.faces[~left_out]
         part = pieces(faces, len(self.vertices))
-        return Mesh(self.vertices, faces[np.bincount(part)[part] >= LEAST_PIECE] if len(faces) else faces, self.source)
+        return Mesh(self.vertices, faces[np.bincount(part)[part] >= LEAST_PIECE] if len(faces) else faces, self.source, self.views)
 
     def to_open3d(self) -> Any:
         """Returns an `open3d.geometry.TriangleMesh`."""
@@ -92,8 +105,8 @@ def longest_edges(vertices: np.ndarray, faces: np.ndarray) -> np.ndarray:
 
 def unseen_faces(vertices: np.ndarray, faces: np.ndarray, factor: float = FACTOR) -> np.ndarray:
     """Returns which faces have an edge over `factor` times the spacing around their corners: the mean distance of a vertex to its six
-    nearest, at least half the median (of a sample of 4,000). Points are nowhere so far apart where a scanner saw a surface, so such faces
-    close the surface over what no scanner saw."""
+    nearest, at least half the median (of a sample of 4,000), of the corner where that is neither least nor greatest. Points are nowhere so far
+    apart where a scanner saw a surface, so such faces close the surface over what no scanner saw. A corner alone makes no long edge usual."""
     if not len(faces):
         return np.zeros(0, bool)
     is_used = np.zeros(len(vertices), bool)
@@ -107,7 +120,7 @@ def unseen_faces(vertices: np.ndarray, faces: np.ndarray, factor: float = FACTOR
     corners, at = np.unique(faces[long], return_inverse=True)
     near = np.maximum(near_distances(tree, vertices[corners]), least)
     unseen = np.zeros(len(faces), bool)
-    unseen[long] = longest[long] > factor * near[at.reshape(-1, 3)].mean(axis=1)
+    unseen[long] = longest[long] > factor * np.median(near[at.reshape(-1, 3)], axis=1)
     return unseen
 
 

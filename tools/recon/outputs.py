@@ -7,7 +7,6 @@ from __future__ import annotations
 import json
 import os
 import shlex
-import shutil
 import sys
 from dataclasses import dataclass
 from pathlib import Path
@@ -18,15 +17,20 @@ import numpy as np
 from recon.beside import Beside
 from recon.choices import Choices
 from recon.clouds import Spacing
-from recon.finish import FinishReport, coarse, seen_path, write_seen
-from recon.inputs import Cloud
-from recon.library import Surface
+from recon.finish import FinishReport, coarse, seen_path
+from recon.inputs import MODELS, Cloud
+from recon.library import Surface, rows_at
+from recon.light import light_path
 from recon.meshes import Mesh, areas
 from recon.page import PageMesh, write_page
 from recon.toolbox.mesh_files import Finished, rounding_of, write_mesh
+from recon.toolbox.output_files import place_all, refuse_inputs, refuse_place, whole_bytes
+from recon.toolbox.station_source import files_of_table
+from recon.which_mesh import closed_path, is_open_first, write_both
 
 SIGHTS = 400
 HERE = os.path.dirname(os.path.abspath(__file__))
+KEPT = ('scan.ply', 'mesh.ply', 'scan.cert', 'report.json', 'again.sh')
 
 
 @dataclass
@@ -45,6 +49,7 @@ class Made:
     finish: FinishReport
     sweep: List[Mesh]
     choices: Choices
+    light: Optional[Finished] = None
 
     def kept(self) -> Path:
         """The folder in which scan, mesh and certificate are left."""
@@ -55,28 +60,55 @@ class Made:
         return np.asarray(next(values for name, _, values in self.mesh.face_columns if name == 'unseen'), bool)
 
 
+def places_of(args: Any) -> list[str]:
+    """Returns the paths of all files that a run may write, or remove because an earlier run wrote them, but those of tiles."""
+    out = Path(args.output)
+    kept = Path(args.keep or out.with_suffix('.recon'))
+    mine = [out, *(Path(path(os.fspath(out))) for path in (seen_path, closed_path, light_path)), out.with_suffix('.html')]
+    return [os.fspath(path) for path in (*mine, *(kept / name for name in KEPT))]
+
+
+def inputs_of(args: Any) -> list[str]:
+    """Returns the paths of all files that a run reads, as far as the arguments name them."""
+    names = list(map(os.fspath, args.input))
+    paths = [name if os.path.exists(name) or '=' not in name else name.rpartition('=')[0] for name in names]
+    paths += [os.path.join(path, name) for path in paths if os.path.isdir(path) for name in (*MODELS, 'fused.ply', 'fused.ply.vis')]
+    paths += [path + '.vis' for path in paths] + [path for path in (args.positions, args.images, args.flight) if path]
+    return paths + (files_of_table(args.table) if args.table else [])
+
+
+def refuse_places(args: Any) -> None:
+    """Stops before a file that is read would be lost, or a folder stands where a file is to be."""
+    places, inputs = places_of(args), inputs_of(args)
+    refuse_inputs(inputs, places)
+    if args.tiles:
+        tiles = os.path.realpath(Path(args.keep or Path(args.output).with_suffix('.recon')) / 'tiles')
+        refuse_inputs(inputs, [path for path in inputs if os.path.dirname(os.path.realpath(path)) == tiles])
+    for path in places:
+        refuse_place(path)
+
+
 def write_outputs(made: Made, beside: Beside) -> None:
     """Writes all files of a run, beside their places, and moves them there when the check has passed."""
     choices, unseen = made.choices, made.unseen()
     sizes = areas(made.mesh.places, made.mesh.faces)
     part = float(sizes[unseen].sum() / max(float(sizes.sum()), 1e-300))
-    if part > 0.05:
-        choices.warn(f'{part:.0%} of the area spans space that no scanner saw ({int(unseen.sum()):,} long faces): '
-                     f'{os.path.basename(seen_path(os.fspath(made.out)))} is the mesh without them, and is open')
-    files = {made.folder / ('out' + made.out.suffix): made.out, made.folder / 'out.html': made.out.with_suffix('.html')}
+    is_open = is_open_first(made.args, unseen, part, choices)
     digests, figures = beside.digests(), figures_of(made, part)
-    write_again(made, digests)
+    if made.args.input:
+        write_again(made, digests)
     page = beside.start(write_page, os.fspath(made.folder / 'out.html'), meshes=page_meshes(made, unseen), scanners=made.cloud.scanners,
                         sights=some_sights(made.cloud), figures=figures, choices=[(name, it.value, it.why) for name, it in choices.chosen.items()],
-                        digests=digests, commands=verifying(made), title=made.out.stem)
-    write_mesh(os.fspath(next(iter(files))), made.mesh)
+                        digests=digests, commands=verifying(made), title=made.out.stem, shows_unseen=not is_open)
+    files, count = write_both(made.mesh, made.args, made.folder, is_open, choices)
+    files[made.folder / 'out.html'] = made.out.with_suffix('.html')
     rounding = rounding_of(os.fspath(made.out), made.mesh)
     if rounding:
         choices.warn(coarse(made.out.name, rounding))
-    if write_seen(os.fspath(next(iter(files))), made.mesh):
-        files[made.folder / ('out-seen' + made.out.suffix)] = Path(seen_path(os.fspath(made.out)))
-    else:
-        choices.warn(f'nearly all faces span space that no scanner saw: {os.path.basename(seen_path(os.fspath(made.out)))} is not written')
+    if made.light is not None:
+        path = made.folder / ('out-light' + made.out.suffix)
+        write_mesh(os.fspath(path), made.light)
+        files[path] = Path(light_path(os.fspath(made.out)))
     page.result()
     choices.timed('write')
     passed = beside.checked()
@@ -86,22 +118,31 @@ def write_outputs(made: Made, beside: Beside) -> None:
         choices.tell(f'check: yes, {"each tile was checked after it was built" if made.surface.tiles() else of_whole}')
         choices.beside['check'] = round(passed, 3)
     write_report(made, figures, digests, part)
-    files.update({made.folder / name: made.kept() / name for name in (*made.surface.files(), 'report.json', 'again.sh')})
-    for end in files.values():
-        end.parent.mkdir(parents=True, exist_ok=True)
-    for start, end in files.items():
-        shutil.move(os.fspath(start), os.fspath(end))
-    choices.tell(f'wrote {made.out} ({len(made.mesh.faces):,} faces), {seen_path(os.fspath(made.out))}, {made.out.with_suffix(".html")} and '
-                 f'{made.kept()}/')
+    files.update({made.folder / name: made.kept() / name for name in (*made.surface.files(), 'report.json', *(['again.sh'] if made.args.input else []))})
+    stale = set(places_of(made.args)) - {os.fspath(path) for path in files.values()}
+    place_all({os.fspath(start): os.fspath(end) for start, end in files.items()}, stale)
+    shown = [os.fspath(path) for path in files.values() if path != made.out and path.parent == made.out.parent]
+    shown.sort(key=lambda name: name.endswith('.html'))
+    choices.tell(f'wrote {made.out} ({count:,} faces), {", ".join(shown)} and {made.kept()}/')
 
 
 def page_meshes(made: Made, unseen: np.ndarray) -> list[PageMesh]:
-    """The finished mesh, and those of a sweep."""
+    """The light mesh, if there is one, the finished one, and those of a sweep."""
     meshes = [PageMesh('finished', made.mesh.places, made.mesh.faces, made.colors, unseen)]
+    if made.light is not None:
+        colors = [values for name, _, values in made.light.columns if name in ('red', 'green', 'blue')]
+        meshes.insert(0, PageMesh('light', made.light.places, made.light.faces, np.stack(colors, axis=1) if colors else None,
+                                  np.asarray(made.light.face_columns[0][2], bool)))
     for number, mesh in enumerate(made.sweep):
         if len(mesh.faces):
-            meshes.append(PageMesh(f'smooth={number}', mesh.vertices, mesh.faces, None, mesh.unseen()))
+            meshes.append(PageMesh(f'smooth={number}', mesh.vertices, mesh.faces, None, viewed(made, mesh).unseen()))
     return meshes
+
+
+def viewed(made: Made, mesh: Mesh) -> Mesh:
+    """A mesh of the same scan, with from where its vertices were seen."""
+    whole, spots = (np.rint((places - made.surface.origin) * made.surface.unit).astype(np.int64) for places in (made.cloud.points, mesh.vertices))
+    return Mesh(mesh.vertices, mesh.faces, views=made.cloud.views().take(rows_at(whole, spots)))
 
 
 def some_sights(cloud: Cloud) -> np.ndarray:
@@ -115,10 +156,12 @@ def some_sights(cloud: Cloud) -> np.ndarray:
 def figures_of(made: Made, unseen: float) -> list[tuple[str, str]]:
     """The figures of the run, for the page and the report."""
     counts, against = made.surface.counts, made.surface.votes_against_per_sight
-    verdict = 'check the positions' if against > 0.1 else 'usual for right positions'
+    verdict = f'check the {"normals" if made.cloud.is_made_up else "positions"}' if made.choices.verdict.is_suspect else 'usual for right positions'
     return [('points read', f'{made.read:,}'), ('points', f'{counts["points"]:,}'), ('scanners', f'{counts["scanners"]:,}'),
             ('sights', f'{counts["sights"]:,}'), ('faces as built', f'{counts["faces"]:,}'), ('faces', f'{len(made.mesh.faces):,}'),
+            *([('faces of the light mesh', f'{len(made.light.faces):,}')] if made.light is not None else []),
             ('cost', f'{counts["cost"]:,}'), ('contradictions a line of sight', f'{against:.3f} ({verdict})'),
+            *([] if made.cloud.is_made_up else [('lines of sight that are blocked', f'{made.choices.verdict.blocked:.1%}')]),
             ('spacing', f'{made.texture.distance:.4g}'), ('noise', f'{made.texture.noise:.2g}'),
             ('area that no scanner saw', f'{unseen:.0%}'), *([('tiles', str(len(made.surface.tiles())))] if made.surface.tiles() else []),
             ('checked', 'each tile' if made.surface.tiles() else 'no' if made.args.no_check else 'yes')]
@@ -151,9 +194,11 @@ def again_words(made: Made) -> list[str]:
         value = getattr(args, key)
         if value is not None:
             words.append(f'--{key}={os.path.abspath(value) if key in ("positions", "table", "images", "flight") else value}')
-    for key in ('normals', 'above', 'estimate_normals', 'no_clean', 'no_check', 'tiles'):
+    words += [f'--{key}={value}' for key, value in (('from', args.from_), ('to', args.to)) if value is not None]
+    for key in ('outside', 'normals', 'above', 'estimate_normals', 'no_clean', 'no_check', 'tiles'):
         words += ['--' + key.replace('_', '-')] if getattr(args, key) else []
-    for key in ('divide', 'far', 'origin', 'unit', 'side', 'surround', 'smooth', 'pieces', 'steps', 'within'):
+    words += ['--' + chosen['mesh'].value] + ([f'--fill={args.fill}'] if args.fill else [])
+    for key in ('divide', 'far', 'origin', 'unit', 'side', 'surround', 'smooth', 'pieces', 'steps', 'within', 'faces', 'faces-within'):
         words += [f'--{key}={chosen[key].value}'] if key in chosen else []
     words += [f'--max-points={args.max_points}', f'--vote={args.vote}'] + (['--no-flips'] if chosen['flips'].value == 'no' else [])
     return words + ([f'--sweep={args.sweep}'] if args.sweep else []) + ['--force']
@@ -165,24 +210,30 @@ def absolute(name: str) -> str:
     return os.path.abspath(path) + equals + place if equals else os.path.abspath(name)
 
 
+def printable(name: str) -> str:
+    """A name in letters that stand in a comment of a script: one line of ASCII."""
+    return ''.join(letter if ' ' <= letter <= '~' else '?' for letter in name)
+
+
 def write_again(made: Made, digests: dict[str, str]) -> None:
     """again.sh: the same run from the original files, and whether scan, mesh and certificate are the same bytes."""
     ending = made.out.suffix
     sums = '\n'.join(f'{total}  {name}' for name, total in digests.items())
-    place = shlex.join([sys.executable, HERE, 'surface'])
     text = f"""#!/bin/sh
-# again.sh [FOLDER]: repeats the run that made {made.out.name.encode('ascii', 'replace').decode()} from the original files, with the same
+# again.sh [FOLDER]: repeats the run that made {printable(made.out.name)} from the original files, with the same
 # choices, in FOLDER (default: again), and compares the SHA-256 of scan, mesh and certificate.
 folder=${{1:-again}}
-mkdir -p "$folder" || exit 1
-run="{place}"
-command -v recon-surface >/dev/null && run=recon-surface
-$run {shlex.join(again_words(made))} -o "$folder/mesh{ending}" --keep "$folder/mesh.recon" || exit
-cd "$folder/mesh.recon" && sha256sum -c - <<SUMS
+mkdir -p -- "$folder" || exit 1
+if command -v recon-surface >/dev/null; then
+  set -- recon-surface
+else
+  set -- {shlex.join([sys.executable, HERE, 'surface'])}
+fi
+"$@" {shlex.join(again_words(made))} -o "$folder/mesh{ending}" --keep "$folder/mesh.recon" || exit
+cd -- "$folder/mesh.recon" && sha256sum -c - <<'SUMS'
 {sums}
 SUMS
 """
-    path = made.folder / 'again.sh'
     # names of files are any bytes
-    path.write_bytes(os.fsencode(text))
-    path.chmod(0o755)
+    with whole_bytes(os.fspath(made.folder / 'again.sh'), 0o777) as file:
+        file.write(os.fsencode(text))

@@ -3,9 +3,9 @@
 The page draws by WebGL 2 (`viewer/`), and unpacks the meshes by `DecompressionStream`: Chrome 80, Firefox 113, Safari 16.4 or
 later. A mesh takes some 4.4 bytes a face, and with colors 5.3: its vertices are rounded to 65,536 steps along the longest side of
 all meshes and sorted along a curve through cubes, its faces are fans around their least vertices, colors have 64 steps a channel;
-all are written as differences, deflated, in base64.
+all are written as differences, deflated, in base64. A mesh of over 500,000 faces comes with a preview, which is shown first.
 
-Names: PageMesh · write_page · page_text (the page as text).
+Names: PageMesh · write_page · page_text (the page as text) · preview (a light mesh in place of a large one).
 """
 from __future__ import annotations
 
@@ -23,14 +23,17 @@ from typing import Any, Sequence
 import numpy as np
 
 from recon.toolbox.orders import ascending, curve_order, turned
+from recon.toolbox.output_files import whole_bytes
 
 VIEWER = os.path.join(os.path.dirname(os.path.abspath(__file__)), 'viewer')
-SCRIPTS = ('decode.js', 'camera.js', 'scene.js', 'controls.js')
+SCRIPTS = ('decode.js', 'camera.js', 'scene.js', 'measure.js', 'controls.js')
 STEPS = 65535
 CURVE_BITS = 10
 FAN = 64
 COLOR_SHIFT = 2
 SPOTS = 500
+# a mesh of more faces has a preview, of at most that many faces
+MANY, LIGHT = 500_000, 200_000
 SIGHTS = 2000
 
 
@@ -166,6 +169,32 @@ def packed(mesh: PageMesh, frame: Frame) -> tuple[dict[str, Any], str]:
     return head, base64.b64encode(deflated(data)).decode('ascii')
 
 
+def preview(mesh: PageMesh, frame: Frame, most: int = LIGHT) -> PageMesh:
+    """Returns a mesh of at most some `most` faces that looks like a large one: vertices in one cube become their mean, and faces that are left
+    with two corners in one cube go (clustering of vertices). It is for display alone: sheets may touch, and small parts go."""
+    used = np.unique(mesh.faces)
+    places = (mesh.vertices[used] - frame.low) / frame.side
+    count = STEPS + 1
+    while True:
+        cells = np.minimum((places * count).astype(np.int64), count - 1)
+        keys, cell = np.unique((cells[:, 0] * count + cells[:, 1]) * count + cells[:, 2], return_inverse=True)
+        if 2 * len(keys) <= most or count < 4:
+            break
+        # a surface has as many cubes as the square of what divides its sides
+        count = min(int(count * 0.95), max(int(count * (most / (2 * len(keys))) ** 0.5), count // 8))
+    sizes = np.bincount(cell)
+    means = [np.bincount(cell, column) / sizes for column in mesh.vertices[used].T]
+    of_vertex = np.zeros(len(mesh.vertices), np.int64)
+    of_vertex[used] = cell
+    corners = of_vertex[mesh.faces]
+    rows = np.flatnonzero((corners[:, 0] != corners[:, 1]) & (corners[:, 1] != corners[:, 2]) & (corners[:, 2] != corners[:, 0]))
+    a, b, c = (column.astype(np.int64) for column in turned(corners[rows]))
+    rows = rows[np.sort(np.unique((a * len(keys) + b) * len(keys) + c, return_index=True)[1])]
+    colors = None if mesh.colors is None else np.stack([np.bincount(cell, mesh.colors[used, k]) / sizes for k in range(3)], axis=1)
+    return PageMesh(mesh.name, np.stack(means, axis=1), corners[rows], None if colors is None else colors.astype(np.uint8),
+                    None if mesh.unseen is None else mesh.unseen[rows])
+
+
 def sampled(rows: np.ndarray, most: int) -> np.ndarray:
     """Returns the rows, or the given number of them, evenly spread."""
     return rows if len(rows) <= most else rows[np.linspace(0, len(rows) - 1, most).astype(int)]
@@ -210,16 +239,22 @@ def source_of(text: str) -> str:
 
 
 def page_text(meshes: Sequence[PageMesh], scanners: np.ndarray, sights: np.ndarray, figures: Sequence[tuple[str, str]],
-              choices: Sequence[tuple[str, str, str]], digests: dict[str, str], commands: Sequence[str], title: str) -> str:
+              choices: Sequence[tuple[str, str, str]], digests: dict[str, str], commands: Sequence[str], title: str,
+              shows_unseen: bool = True) -> str:
     """Returns the page that write_page writes."""
     if not meshes:
         raise ValueError('a page needs a mesh')
     frame = Frame.of(meshes)
-    heads, texts = zip(*(packed(mesh, frame) for mesh in meshes))
+    heads, texts = [], {}
+    for number, mesh in enumerate(meshes):
+        head, texts[f'mesh-{number}'] = packed(mesh, frame)
+        if len(mesh.faces) > MANY:
+            head['preview'], texts[f'preview-{number}'] = packed(preview(mesh, frame), frame)
+        heads.append(head)
     spots = sampled(rows_of(scanners, (3,), float, 'scanners'), SPOTS)
     segments = sampled(rows_of(sights, (2, 3), float, 'lines of sight'), SIGHTS)
-    scene = {'meshes': heads, 'box': [float(x) for x in frame.box / frame.side], 'scanners': frame.near(spots),
-             'sights': frame.near(segments)}
+    scene = {'meshes': heads, 'box': [float(x) for x in frame.box / frame.side], 'low': [float(x) for x in frame.low], 'side': frame.side,
+             'scanners': frame.near(spots), 'sights': frame.near(segments), 'showsUnseen': shows_unseen}
     style, script = viewer_file('viewer.css'), "'use strict';\n" + ''.join(map(viewer_file, SCRIPTS))
     policy = f"default-src 'none'; script-src {source_of(script)}; style-src {source_of(style)}; base-uri 'none'; form-action 'none'"
     return Template(viewer_file('viewer.html')).substitute(
@@ -227,26 +262,20 @@ def page_text(meshes: Sequence[PageMesh], scanners: np.ndarray, sights: np.ndarr
         figures='<h2>Run</h2>\n' + table(figures) if figures else '',
         choices='<h2>Choices</h2>\n' + table(choices) if choices else '',
         verification=verification_of(digests, commands),
-        meshes=''.join(f'<script type="text/plain" id="mesh-{k}">{text}</script>\n' for k, text in enumerate(texts)))
+        meshes=''.join(f'<script type="text/plain" id="{name}">{text}</script>\n' for name, text in texts.items()))
 
 
 def write_page(path: str, *, meshes: list[PageMesh], scanners: np.ndarray, sights: np.ndarray, figures: list[tuple[str, str]],
-               choices: list[tuple[str, str, str]], digests: dict[str, str], commands: list[str], title: str) -> None:
+               choices: list[tuple[str, str, str]], digests: dict[str, str], commands: list[str], title: str, shows_unseen: bool = True) -> None:
     """Writes a page that shows the meshes: the first at once and the others by a slider.
 
     `scanners` (n, 3) and `sights` (m, 2, 3), a sample of lines of sight from scanner to point, are in the coordinates of the
     vertices; at most 500 and 2,000 of them, evenly spread, go into the page. `figures` are names and values of the run,
-    `choices` names, values and reasons, `digests` the SHA-256 of files by name, `commands` the lines that verify them again.
+    `choices` names, values and reasons, `digests` the SHA-256 of files by name, `commands` the lines that verify them again. Unseen faces are
+    shown at first if `shows_unseen`.
     All texts are escaped. What stood at the path is replaced when the page is whole. Raises ValueError if an array has a wrong
     shape or numbers that are not finite, or a face names a vertex that is not there, and OSError if the file cannot be written.
     """
-    data = page_text(meshes, scanners, sights, figures, choices, digests, commands, title).encode('utf-8')
-    part = path + '.part'
-    with open(part, 'wb') as file:
-        try:
-            file.write(data)
-        except BaseException:
-            file.close()
-            os.unlink(part)
-            raise
-    os.replace(part, path)
+    data = page_text(meshes, scanners, sights, figures, choices, digests, commands, title, shows_unseen).encode('utf-8')
+    with whole_bytes(path) as file:
+        file.write(data)

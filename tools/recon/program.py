@@ -9,7 +9,9 @@ import os
 import re
 import shutil
 import subprocess
-from typing import Sequence
+from typing import Callable, Sequence
+
+from recon.toolbox.stopping import run_child, run_watched
 
 HERE = os.path.dirname(os.path.abspath(__file__))
 MEANINGS = {1: 'the check failed', 2: 'invalid arguments', 3: 'invalid file', 4: 'a file could not be read or written',
@@ -47,19 +49,19 @@ def program_path(path: str | None = None) -> str:
 
 def found_program(name: str, crate: str) -> str | None:
     """Returns the path of a program of this repository that was built or installed beside this package, or is on the PATH."""
-    for place in (f'../../{name}', f'../../crates/{crate}/out/{crate}', f'../../../bin/{name}'):
+    for place in (f'programs/{name}', f'../../{name}', f'../../crates/{crate}/out/{crate}', f'../../../bin/{name}'):
         beside = os.path.normpath(os.path.join(HERE, place))
         if os.path.isfile(beside) and os.access(beside, os.X_OK):
             return beside
     return shutil.which(name)
 
 
-def run(words: Sequence[object], program: str | None = None, is_shown: bool = False) -> dict[str, int]:
+def run(words: Sequence[object], program: str | None = None, is_shown: bool = False, watch: Callable[[str], None] | None = None) -> dict[str, int]:
     """Runs the program with these arguments, and returns the numbers of the line that it prints, by their keys: `points 4 faces 4`
     is {'points': 4, 'faces': 4}. Raises `Refused` if it ends with another status than 0. With `is_shown` its progress goes to
-    standard error."""
-    done = subprocess.run([program_path(program), *map(str, words)], stdout=subprocess.PIPE,
-                          stderr=None if is_shown else subprocess.PIPE, text=True, errors='replace')
+    standard error; with `watch` that gets the text of its progress."""
+    command = [program_path(program), *map(str, words)]
+    done = run_watched(command, watch) if watch else run_child(command, stdout=subprocess.PIPE, stderr=None if is_shown else subprocess.PIPE)
     if done.returncode:
         said = [line[7:] if line.startswith('recon: ') else line for line in (done.stderr or '').splitlines()]
         raise Refused(done.returncode, done.stdout.strip(), '; '.join(said))

@@ -3,6 +3,7 @@
   recon-scan FILE OUT [index=NAME] [positions=TABLE]        PLY, PCD, LAS or E57
   recon-scan FILE OUT [position=header|matrix]              Leica's PTX
   recon-scan FILE=X,Y,Z [FILE=X,Y,Z ..] OUT                 one file for each station, with its scanner position
+  recon-scan FILE OUT scanner=X,Y,Z                         one file of any kind that was seen from one position
   recon-scan OUT table=TABLE                                the same, by a text file with lines `X Y Z FILE`
   recon-scan FILE OUT normals=yes [far=D]                   points with normals, without scanners
   recon-scan FUSED OUT images=IMAGES                        COLMAP's fused.ply with fused.ply.vis next to it, and images.bin or .txt
@@ -18,6 +19,7 @@ Options with all formats:
                         first point
   origin=X,Y,Z          subtract this offset from all points and scanners. Other options are in the original coordinates
   divide=N              divide all coordinates by N, a power of ten (1000 for micrometers), after subtracting the origin
+  unit=U                multiply all coordinates by U after that, and round them to integers, as `recon` does with unit=U
   surround=D            add eight points around a scan made from inside, such as a room, so that its walls become solid: the
                         corners of a box at distance D from the points, each seen by a scanner at distance D from the box
   open_end=yes          accept a missing final newline of a text file (default: treated as truncated)
@@ -29,8 +31,9 @@ Options for a PLY, PCD, LAS or E57 without a position; all its properties are ke
   positions=TABLE       a text file of lines X Y Z, one for each scanner in the order of its index, for a file without an element
                         `scanner`. With one line and no index property, that scanner saw all points
 
-If points of a PLY have lists of scanners, all properties except other lists are kept. For several stations only coordinates are kept. A
-PCD states its scanner by VIEWPOINT, or by vp_x, vp_y and vp_z of each point, and an E57 of one station by its pose: then FILE is enough.
+If points of a PLY have lists of scanners, all properties except other lists are kept. Of stations with positions, coordinates are kept, and
+colors, intensity and normals if all files have them. In a text a heading names them (r, g, b, red, .., intensity, nx, ny, nz); without one, three
+integers up to 255 are a color, and three numbers with length 1 a normal. PTS and PTX have intensity in column 4, and then colors. A PCD states its scanner by VIEWPOINT, or by vp_x, vp_y and vp_z of each point, and an E57 of one station by its pose: then FILE is enough.
 FILE in a table is relative to the table's folder, and `#` starts a comment. The position in a station's header of a PTX and the last row
 of its matrix have to agree within 0.001, or one of them has to be 0 0 0; otherwise pass position=.
 
@@ -44,29 +47,33 @@ of its matrix have to agree within 0.001, or one of them has to be 0 0 0; otherw
   above=yes             one synthesised position for all points: three widths above their middle. Roofs and ground are
                         correct, walls that no pulse met are synthesised
 
-LAZ is read if the Python packages laspy and lazrs are installed, and E57 with spherical coordinates if pye57 is.
+LAZ is read if the Python packages laspy and lazrs, or the program pdal, are installed, and E57 with spherical coordinates if pye57 is.
 
 Normals are not checked. The cost of the mesh shows the fraction of wrong ones: `(cost - smooth * faces) / vote / sights`. If it is 0.1 or
 more, check the normals.
 
 Left out: points with a coordinate or a scanner that is nan or infinite, empty returns of a PTX, points without a normal, and all
-elements of a PLY except `vertex` and `scanner`. Property names that are not printable ASCII, or occur twice, are changed.
+elements of a PLY except `vertex` and `scanner`. Property names that are not printable ASCII, occur twice or have over 900 letters
+are changed.
 """
 from __future__ import annotations
 
 from dataclasses import dataclass
 from math import isfinite
-from typing import Any, Callable, Dict, Optional, Sequence
+from typing import Any, Callable, Dict, Optional, Sequence, TextIO
 
 import numpy as np
 
-from recon.toolbox.ply_text import SCANNER_LIMIT, Refusal, Writer, whole_file
+from recon.toolbox.blocks import Block
+from recon.toolbox.output_files import whole_file
+from recon.toolbox.ply_text import SCANNER_LIMIT, Refusal, Writer
 from recon.toolbox.scan_source import source_of
 from recon.toolbox.sieve import SIEVING, Passage, Sieve
 from recon.toolbox.sources import READING, Source
+from recon.toolbox.text_columns import NotPlain
 from recon.toolbox.tool import NotUnderstood, Report, left_out, number_of, run
 
-KEYS = READING + SIEVING + ('origin', 'divide')
+KEYS = READING + SIEVING + ('origin', 'divide', 'unit')
 FEW, MANY = 20, 1000
 ROOM = 0.8
 
@@ -89,30 +96,45 @@ def add_corners(source: Source, sieve: Sieve, writer: Writer, positions: list[Se
 
 
 class Sample:
-    """Some of the rows that were written, evenly spread: every `step`-th one, at most 2 * `MOST`."""
+    """Some of the points that were written, evenly spread: every `step`-th one, at most 2 * `MOST`. Each is x, y, z and the number of its scanner, that of a
+    list the last one."""
     MOST = 20000
 
-    def __init__(self, write: Callable[[list[str]], None]) -> None:
-        self.write, self.step, self.count = write, 1, 0
-        self.rows: list[list[str]] = []
+    def __init__(self, source: Source, write: Callable[[list[str]], None]) -> None:
+        self.source, self.write, self.step, self.count = source, write, 1, 0
+        self.rows = np.zeros((0, 4))
 
     def row(self, words: list[str]) -> None:
-        if self.count % self.step == 0:
-            self.rows.append(list(words))
-            if len(self.rows) == 2 * self.MOST:
-                self.rows, self.step = self.rows[::2], 2 * self.step
+        if self.count % self.step == 0 and self.source.scanner is not None:
+            point = [float(words[k]) for k in self.source.point]
+            self.add(np.array([[*point, float(words[self.source.scanner].split()[-1])]]))
         self.count += 1
         self.write(words)
 
-    def surrounded(self, source: Source, positions: Sequence[Sequence[str]]) -> float:
+    def add(self, rows: np.ndarray) -> None:
+        """Adds rows of the sample."""
+        self.rows = np.r_[self.rows, rows]
+        while len(self.rows) >= 2 * self.MOST:
+            self.rows, self.step = self.rows[::2], 2 * self.step
+
+    def block(self, block: Block, rows: np.ndarray) -> None:
+        """Takes these rows of a block."""
+        at = rows[-self.count % self.step::self.step]
+        self.count += len(rows)
+        if self.source.scanner is not None:
+            self.add(np.stack([block.columns[k].floats()[at] for k in (*self.source.point, self.source.scanner)], axis=1))
+
+    def surrounded(self, positions: Sequence[Sequence[str]]) -> float:
         """In which part of the directions around the scanner with the most points there are points."""
         # scipy takes a while to load, and is not needed otherwise
         from recon.clouds import surrounding
-        assert source.scanner is not None
-        seen_by = [words[source.scanner].split()[-1] for words in self.rows]
-        busiest = max(set(seen_by), key=seen_by.count) if len(set(seen_by)) < 1000 else seen_by[0]
-        points = [[float(words[k]) for k in source.point] for words, number in zip(self.rows, seen_by) if number == busiest]
-        return surrounding(np.array(points), np.array(list(map(float, positions[int(busiest)])))) if int(busiest) < len(positions) else 0.0
+        seen_by = self.rows[:, 3].astype(np.int64)
+        if not len(seen_by):
+            return 0.0
+        busiest = int(np.bincount(seen_by).argmax()) if int(seen_by.max()) < SCANNER_LIMIT else int(seen_by[0])
+        if busiest >= len(positions):
+            return 0.0
+        return surrounding(self.rows[seen_by == busiest, :3], np.array(list(map(float, positions[busiest]))))
 
 
 def remark_of(sieve: Sieve, part: float) -> str:
@@ -148,23 +170,68 @@ class ScanReport(Report):
         return line + ': no point is left' if self.is_empty else line
 
 
+class Conversion:
+    """A scan on its way from files into a text PLY."""
+
+    def __init__(self, names: Sequence[str], options: Any, file: TextIO) -> None:
+        self.sieve, self.source = Sieve(options), source_of(names, options)
+        self.writer, self.part = Writer(file, self.source.columns, 'scan'), 0.0
+        self.writer.begin(self.source.has_scanners)
+        self.sample = Sample(self.source, self.writer.row)
+
+    def run(self) -> None:
+        """Passes on the points row by row."""
+        self.source.run(Passage(self.source, self.sieve, self.sample.row if self.sieve.off else self.writer.row))
+
+    def run_blocks(self) -> None:
+        """Passes on the points in blocks. Raises `NotPlain`, also after some, where only row by row is read."""
+        try:
+            for block in self.source.blocks():
+                self.write(block, self.sieve.kept(self.source, block))
+        finally:
+            self.source.close()
+
+    def write(self, block: Block, rows: np.ndarray) -> None:
+        """Writes these rows of a block."""
+        if self.sieve.off:
+            self.sample.block(block, rows)
+        if not len(rows):
+            return
+        source, some = self.source, None if len(rows) == block.count else rows
+        point = self.sieve.moved_words([block.columns[k] for k in source.point], some)
+        words = [[] if k in source.point else column.words(some) for k, column in enumerate(block.columns)]
+        for k, column in zip(source.point, point):
+            words[k] = column
+        self.writer.rows(words)
+
+    def finish(self) -> list[Sequence[str]]:
+        """Writes the scanners and the eight points around, and returns where the scanners stood."""
+        positions: list[Sequence[str]] = [self.sieve.moved(position) for position in self.source.positions]
+        if self.sieve.off:
+            self.part = self.sample.surrounded(positions)
+            add_corners(self.source, self.sieve, self.writer, positions)
+        self.writer.finish(positions)
+        return positions
+
+
 def work(names: Sequence[str], options: Any) -> ScanReport:
     """Writes the scan of some files, the last name being its own."""
     if not names:
         raise NotUnderstood
-    sieve, source = Sieve(options), source_of(names[:-1], options)
     with whole_file(names[-1]) as file:
-        writer = Writer(file, source.columns, 'scan')
-        writer.begin(source.has_scanners)
-        sample, part = Sample(writer.row), 0.0
-        source.run(Passage(source, sieve, sample.row if sieve.off else writer.row))
-        positions: list[Sequence[str]] = [sieve.moved(position) for position in source.positions]
-        if sieve.off:
-            part = sample.surrounded(source, positions) if sample.rows and source.scanner is not None else 0.0
-            add_corners(source, sieve, writer, positions)
-        writer.finish(positions)
+        conversion = Conversion(names[:-1], options, file)
+        try:
+            conversion.run_blocks()
+        except (NotPlain, Refusal):
+            # row by row, which finds the places of errors
+            file.seek(0)
+            file.truncate()
+            conversion = Conversion(names[:-1], options, file)
+            conversion.run()
+        positions = conversion.finish()
+    source, sieve, writer = conversion.source, conversion.sieve, conversion.writer
     return ScanReport(names[-1], source.read(), writer.count, len(positions) if source.has_scanners else None,
-                      {**source.counts, **sieve.counts}, source.remark() + remark_of(sieve, part))
+                      {**source.counts, **sieve.counts}, source.remark() + remark_of(sieve, conversion.part))
 
 
 def main() -> None:

@@ -3,13 +3,17 @@
 Chooses the source of the lines of sight, origin, unit, thinning, smoothing and finishing from the data; each choice has an option that
 overrides it. Runs `recon build` and `recon check`, and writes next to the mesh MESH.ply:
 
-  MESH-seen.ply    the mesh without the faces that span space that no scanner saw; it is open
+  MESH-light.ply   with --faces: a mesh with fewer faces, from which no vertex of the mesh is farther than a distance
+  MESH-seen.ply    the mesh without the faces that span space that no scanner saw; it is open. If these faces are over a third of the
+                   area, MESH.ply is this mesh, and MESH-closed.ply is the closed one (--closed and --seen choose)
   MESH.html        a page that shows both meshes in a browser, without a network
   MESH.recon/      scan.ply, mesh.ply and scan.cert, the files that `recon check` reads; report.json with choices, reasons and figures;
                    again.sh, which repeats the run from the original files
 
-Exit status: 0 success, 1 error, 2 invalid arguments, 3 empty surface, 4 success, but positions or normals look wrong: more than 0.25
-contradictions for each line of sight (0 with --force).
+Options may also be written as those of `recon` and of the other tools: scanner=X,Y,Z, unit=1000, normals=yes, flips=no.
+
+Exit status: 0 success, 1 error, 2 invalid arguments, 3 empty surface, 4 success, but positions or normals look wrong (0 with
+--force).
 """
 from __future__ import annotations
 
@@ -17,7 +21,8 @@ import argparse
 import os
 import shutil
 import sys
-import tempfile
+import types
+import warnings
 from dataclasses import dataclass
 from pathlib import Path
 from typing import Any, Sequence
@@ -25,22 +30,30 @@ from typing import Any, Sequence
 import numpy as np
 from scipy.spatial import cKDTree
 
+from recon.advice import blocked_of, looked_at, too_few, why_empty, without_repeats
 from recon.beside import Beside
 from recon.choices import Choices
 from recon.clouds import SAMPLE, Spacing, box_of, curve_of, frame, lone_points, spacing, surrounding, thinned, thinning_side, tree_of
-from recon.finish import MOST_STEPS, Wishes, finished, seen_path
+from recon.finish import MOST_STEPS, Request, finished
 from recon.inputs import Cloud, Inputs, read_cloud
 from recon.library import Surface, build_files
+from recon.light import light_mesh
 from recon.mesh_program import mesh_program_path
 from recon.meshes import pieces
-from recon.outputs import Made, write_outputs
+from recon.outputs import Made, inputs_of, refuse_places, write_outputs
+from recon.positions import far_positions
 from recon.program import Invalid, Refused, program_path
 from recon.toolbox.mesh_files import Column, Finished, form_of
+from recon.toolbox.one_form import dashed, version_line
+from recon.toolbox.output_files import passing_folder, user_names
 from recon.toolbox.ply_text import IS_NUMBER, Refusal
+from recon.toolbox.progress import build_part, read_part, signs_of_life, step
+from recon.toolbox.stopping import Stopped, stoppable
 from recon.toolbox.tool import number_of
 
 MOST, MOST_OF_A_TILE = 1_000_000, 800_000
-LOOK, WRONG = 0.1, 0.25
+# seconds a point that looking at the points and building usually take
+LOOKED_AT, BUILT = 8e-6, 4e-5
 # faces that recon-mesh smooths in a second, for one step
 SMOOTHED_A_SECOND = 150_000
 ROOM = 0.8
@@ -135,11 +148,23 @@ def closed_around(cloud: Cloud, texture: Spacing, args: Any, choices: Choices) -
 def prepared(inputs: Inputs) -> Scan:
     """Reads the files, and chooses all that makes the scan."""
     args, choices = inputs.args, inputs.choices
-    cloud = divided(read_cloud(inputs), args, choices)
-    read = len(cloud.points)
+    with step('reading', read_part(inputs_of(args))):
+        cloud = divided(read_cloud(inputs), args, choices)
     choices.timed('read')
-    if not read:
+    if not len(cloud.points):
         raise NoSurface('no point is left')
+    with step('looking at the points', seconds=LOOKED_AT * len(cloud.points)):
+        scan = fitted(cloud, args, choices)
+    choices.timed('choose')
+    return scan
+
+
+def fitted(cloud: Cloud, args: Any, choices: Choices) -> Scan:
+    """Cleans and thins the cloud, and chooses how it becomes a scan."""
+    read = len(cloud.points)
+    cloud = without_repeats(cloud, choices)
+    if too_few(cloud.points):
+        raise NoSurface(too_few(cloud.points))
     # in this order all that looks at points, vertices and faces finds near ones near each other in memory
     cloud = cloud.take(curve_of(cloud.points))
     tree = tree_of(cloud.points)
@@ -152,14 +177,19 @@ def prepared(inputs: Inputs) -> Scan:
     cloud = thin(cleaned(cloud, tree, args, choices), texture, args, choices)
     cloud, off = closed_around(cloud, texture, args, choices)
     origin, unit = framed(cloud, texture, args, choices)
-    choices.timed('choose')
     return Scan(cloud, texture, origin, unit, read, off)
 
 
 def framed(cloud: Cloud, texture: Spacing, args: Any, choices: Choices) -> tuple[np.ndarray, int]:
     """The origin and the scale."""
     given = None if args.origin is None else np.array([float(word) for word in args.origin.split(',')])
-    fitting = frame(*((cloud.points, cloud.scanners) if given is None else (cloud.points - given, cloud.scanners - given)), texture.distance)
+    far = None if cloud.is_made_up else far_positions(cloud.points, cloud.scanners)
+    try:
+        fitting = frame(*((cloud.points, cloud.scanners) if given is None else (cloud.points - given, cloud.scanners - given)), texture.distance)
+    except Invalid as error:
+        raise Refusal(far or str(error)) from None
+    if far:
+        choices.warn(far)
     origin, unit = fitting.origin if given is None else given, args.unit or fitting.unit
     why = 'given' if given is not None else 'coordinates are far from 0' if origin.any() else 'coordinates are in range'
     choices.choose('origin', ','.join(map(plain, origin)), why)
@@ -187,18 +217,15 @@ def built(scan: Scan, args: Any, folder: Path, choices: Choices) -> Surface:
         surface = built_at(smooth, scan, args, folder, choices)
         if 2 * surface.counts['faces'] >= surface.counts['points']:
             break
-        choices.warn(f'smooth={smooth} gives only {surface.counts["faces"]:,} faces for {surface.counts["points"]:,} points')
+        if surface.counts['faces']:
+            choices.warn(f'smooth={smooth} gives only {surface.counts["faces"]:,} faces for {surface.counts["points"]:,} points')
     why = ('given' if args.smooth is not None else 'the surface vanishes at 3' if surface.smooth != usual else
            'lines of sight along normals are short' if cloud.is_made_up else 'scanner positions are known')
     choices.choose('smooth', surface.smooth, why)
     choices.timed('build')
     if not surface.counts['faces']:
-        raise NoSurface('the surface is empty: the points lie in a plane, or --smooth is too large')
-    against = surface.votes_against_per_sight
-    choices.tell(f'{against:.3f} contradictions for each line of sight')
-    if against > LOOK:
-        choices.warn(f'{against:.2f} contradictions for each line of sight, more than {LOOK}: check '
-                     + ('the normals' if cloud.is_made_up else 'the scanner positions'))
+        raise NoSurface(why_empty(cloud, args, folder))
+    choices.verdict = looked_at(surface, cloud, blocked_of(cloud, scan.texture), args, folder, choices)
     return surface
 
 
@@ -207,7 +234,9 @@ def built_at(smooth: int, scan: Scan, args: Any, folder: Path, choices: Choices)
     cloud, given = scan.cloud, {'smooth': smooth, 'vote': args.vote, 'unit': scan.unit, 'origin': scan.origin, 'weights': scan.cloud.weights,
                                 'folder': folder, 'program': args.program}
     if 'tiles' not in choices.chosen:
-        return build_files(cloud.points, cloud.scanners, lists_of(cloud), is_shown=sys.stderr.isatty() and not args.quiet, **given)
+        watch, part = build_part()
+        with step('building', part, BUILT * len(cloud.points)):
+            return build_files(cloud.points, cloud.scanners, lists_of(cloud), watch=None if args.quiet else watch, **given)
     from recon.tiled import build_tiles
     shutil.rmtree(folder / 'tiles', ignore_errors=True)
     surface = build_tiles(cloud.points, cloud.scanners, cloud.sights, most=min(args.max_points, MOST_OF_A_TILE), tell=choices.tell, **given)
@@ -227,7 +256,7 @@ def lists_of(cloud: Cloud) -> Any:
     return rows
 
 
-def wishes_for(surface: Surface, scan: Scan, args: Any, choices: Choices) -> Wishes:
+def request_for(surface: Surface, scan: Scan, args: Any, choices: Choices) -> Request:
     """How the mesh is finished: pieces, flips and steps of smoothing."""
     part = pieces(surface.faces, len(surface.vertices))
     sizes = np.sort(np.bincount(part))[::-1]
@@ -254,9 +283,9 @@ def wishes_for(surface: Surface, scan: Scan, args: Any, choices: Choices) -> Wis
         choices.choose('within', f'{within:g}', 'given' if args.within is not None else 'twice the noise' if 2 * noise >= least_move
                        else f'a tenth of the spacing {apart:.2g}')
     else:
-        choices.choose('steps', 0, 'given' if args.steps == 0 else 'it would exceed --patience' if within else
+        choices.choose('steps', 0, 'given' if args.steps == 0 else 'recon-mesh was not found' if not kept else 'it would exceed --patience' if within else
                        f'the noise {noise:.2g} is small compared to the spacing {apart:.2g}')
-    return Wishes(scan.unit, scan.origin.tolist(), kept or None, flips=flips, steps=steps, within=within if steps else 0.0, seen=True)
+    return Request(kept or None, flips=flips, steps=steps, within=within if steps else 0.0, unit=scan.unit, origin=scan.origin.tolist(), seen=True)
 
 
 def colored(mesh: Finished, surface: Surface, cloud: Cloud) -> np.ndarray | None:
@@ -269,14 +298,20 @@ def colored(mesh: Finished, surface: Surface, cloud: Cloud) -> np.ndarray | None
     return np.asarray(colors)
 
 
-def refuse_own_inputs(args: Any) -> None:
-    """Stops before a file that is read would be written over."""
-    out = os.fspath(args.output)
-    written = {os.path.realpath(path) for path in (out, seen_path(out), os.path.splitext(out)[0] + '.html')}
-    for name in args.input:
-        path = name if os.path.exists(name) else name.rpartition('=')[0]
-        if os.path.realpath(path) in written:
-            raise Refusal(f'{path} is an input, and would be overwritten: choose another name for -o')
+def lightened(mesh: Finished, scan: Scan, args: Any, choices: Choices) -> Finished | None:
+    """The mesh with fewer faces, where it is asked for."""
+    if not args.faces:
+        return None
+    apart, noise = scan.texture
+    usual = max(float(f'{(noise if noise > 0.05 * apart else apart / 2):.2g}'), 1 / scan.unit)
+    reach = args.faces_within or usual
+    choices.choose('faces', args.faces, 'given')
+    choices.choose('faces-within', f'{reach:g}', 'given' if args.faces_within else 'the noise' if noise > 0.05 * apart else 'half of the spacing')
+    light = light_mesh(mesh, scan.unit, scan.origin.tolist(), reach, args.faces)
+    if len(light.faces) > args.faces + 1:
+        choices.warn(f'the light mesh has {len(light.faces):,} faces: with fewer a vertex would be farther than {reach:g} from it, or faces would intersect')
+    choices.timed('simplify')
+    return light
 
 
 def made(args: Any, choices: Choices, folder: Path) -> Made:
@@ -287,15 +322,21 @@ def made(args: Any, choices: Choices, folder: Path) -> Made:
     with Beside(surface, is_checked=not args.no_check) as beside:
         surface.load()
         choices.timed('read mesh')
-        wishes = wishes_for(surface, scan, args, choices)
+        request = request_for(surface, scan, args, choices)
         choices.tell(f'finishing {len(surface.faces):,} faces')
-        mesh, report = finished(os.fspath(surface.mesh), wishes, mesh=surface.whole())
+        surface.views = scan.cloud.views().take(surface.source)
+        with step('finishing', seconds=len(surface.faces) * (2 + request.steps) / SMOOTHED_A_SECOND):
+            mesh, report = finished(os.fspath(surface.mesh), request, mesh=surface.whole(), views=surface.views)
         colors = colored(mesh, surface, scan.cloud)
         choices.timed('finish')
-        sweep = surface.sweep(0, 1, args.sweep) if args.sweep else []
+        with step('simplifying', seconds=len(surface.faces) / SMOOTHED_A_SECOND):
+            light = lightened(mesh, scan, args, choices)
+        with step('building the meshes of the slider', seconds=BUILT * len(scan.cloud.points) * (1 + (args.sweep or 0) / 3)):
+            sweep = surface.sweep(0, 1, args.sweep) if args.sweep else []
         choices.timed('sweep')
-        done = Made(args, Path(args.output), folder, scan.cloud, scan.read, scan.texture, surface, mesh, colors, report, sweep, choices)
-        write_outputs(done, beside)
+        done = Made(args, Path(args.output), folder, scan.cloud, scan.read, scan.texture, surface, mesh, colors, report, sweep, choices, light)
+        with step('writing, and waiting for the check', seconds=len(mesh.faces) / SMOOTHED_A_SECOND):
+            write_outputs(done, beside)
     return done
 
 
@@ -316,6 +357,9 @@ def parser() -> argparse.ArgumentParser:
                        ('flight', 'a table of times and positions of an airborne scan')):
         group.add_argument('--' + name, help=what + ' (see recon-scan --help)')
     group = top.add_argument_group('processing (default: chosen from the data)')
+    group.add_argument('--from', dest='from_', type=triple, metavar='X,Y,Z', help='with --to: keep only points in this box, its boundary included')
+    group.add_argument('--to', type=triple, metavar='X,Y,Z', help='the other corner of the box')
+    group.add_argument('--outside', action='store_true', help='keep only points outside of the box')
     group.add_argument('--divide', type=length, metavar='N', help='divide all coordinates by N first (1000 for micrometers)')
     group.add_argument('--origin', type=triple, metavar='X,Y,Z', help='subtract this origin from all coordinates')
     group.add_argument('--unit', type=within(1, 1_000_000), metavar='U', help='round coordinates to 1/U')
@@ -332,7 +376,17 @@ def parser() -> argparse.ArgumentParser:
     group.add_argument('--steps', type=within(0, MOST_STEPS), metavar='N', help='number of smoothing steps')
     group.add_argument('--within', type=length, metavar='D', help='the most that smoothing may move a vertex')
     group.add_argument('--patience', type=length, default=120.0, metavar='SECONDS', help='skip smoothing that would take longer (default: %(default)g)')
+    group.add_argument('--faces', type=within(4, 10 ** 9), metavar='N', help='also write MESH-light, a mesh of N faces from vertices of MESH, and show it first')
+    group.add_argument('--faces-within', type=length, metavar='D', help='the most that a vertex of MESH may be from MESH-light, which has more than N faces '
+                       'where it has to (default: the noise, or half of the spacing)')
+    either = group.add_mutually_exclusive_group()
+    either.add_argument('--closed', action='store_true', help='write the closed mesh to MESH, whatever part of it no scanner saw')
+    either.add_argument('--seen', action='store_true', help='write the mesh without faces that no scanner saw to MESH')
+    group.add_argument('--fill', type=length, default=0.0, metavar='LENGTH', help='keep the faces of holes of the seen mesh up to this wide')
+    # a scan in arrays, in place of files
+    top.set_defaults(arrays=None)
     group = top.add_argument_group('run')
+    group.add_argument('--version', action='version', version=version_line('recon-surface'), help='print the version')
     group.add_argument('--sweep', type=within(2, 64), metavar='N', help='add a slider over smooth=0 to N-1 to the page')
     group.add_argument('--no-check', action='store_true', help='do not run recon check')
     group.add_argument('--force', action='store_true', help='exit with status 0 even if positions or normals look wrong')
@@ -375,42 +429,58 @@ def arguments(words: Sequence[str]) -> list[str]:
 
 
 def failed(status: int, text: object) -> int:
-    print(f'recon-surface: {text}', file=sys.stderr)
+    print(f'recon-surface: {user_names(str(text))}', file=sys.stderr)
     return status
 
 
 def run(words: Sequence[str]) -> int:
     """Runs the program, and returns its status."""
-    args = parser().parse_args(arguments(words))
+    args = parser().parse_args(arguments(dashed(words, parser())))
     choices = Choices(args.quiet)
     try:
         form_of(args.output)
         if args.tiles and (args.sweep or args.side):
             raise Refusal('--tiles cannot be combined with --sweep or --side')
-        refuse_own_inputs(args)
+        if args.faces_within and not args.faces:
+            raise Refusal('--faces-within requires --faces')
+        refuse_places(args)
         # what is not finite is looked for where it matters
-        with tempfile.TemporaryDirectory(prefix='.recon-', dir=os.path.dirname(args.output) or '.') as folder, np.errstate(all='ignore'):
+        warnings.simplefilter('ignore', RuntimeWarning)
+        with stoppable(), signs_of_life('recon-surface', choices.tell, args.quiet), passing_folder(os.fspath(args.output)) as folder, \
+                np.errstate(all='ignore'):
             result = made(args, choices, Path(folder))
     except MemoryError:
         return failed(1, 'error: out of memory')
-    except KeyboardInterrupt:
-        return failed(130, 'interrupted')
+    except Stopped as error:
+        return failed(error.status, error)
     except NoSurface as error:
         return failed(3, error)
     except (Refusal, Invalid, Refused) as error:
-        return failed(1, f'error: {error}')
+        return failed(1, f'error: {error}'.replace('divide its coordinates', 'divide its coordinates (--divide)'))
     except ArithmeticError:
         return failed(1, 'error: a number is out of range')
     except OSError as error:
         return failed(1, f'error: {error.strerror}: {error.filename or "writing"}' if error.strerror else f'error: {error}')
     against = result.surface.votes_against_per_sight
-    if against > WRONG and not args.force:
-        return failed(4, f'{against:.2f} contradictions for each line of sight: positions or normals look wrong (status 0 with --force)')
+    if choices.verdict.is_wrong and not args.force:
+        return failed(4, f'{against:.2f} contradictions for each line of sight: {"normals" if result.cloud.is_made_up else "positions"} look wrong '
+                         '(status 0 with --force)')
     return 0
 
 
 def main() -> None:
     sys.exit(run(sys.argv[1:]))
+
+
+class Called(types.ModuleType):
+    """This module as a function: `recon.surface(points, scanners)` does all of this from Python (`recon.one_call`)."""
+
+    def __call__(self, *arguments: Any, **options: Any) -> Any:
+        from recon import one_call
+        return one_call.surface(*arguments, **options)
+
+
+sys.modules[__name__].__class__ = Called
 
 
 if __name__ == '__main__':

@@ -12,7 +12,8 @@ the tiles; and the commands that build and check each tile, as `jobs.txt`, one c
   spacings=K         the same in mean spacings of the points, estimated from a sample (default: 20)
   through=N          the most halo points of a tile, whose lines of sight enter its box (default: a tenth of points=)
   unit=, vote=, smooth=   options of `recon` for the jobs
-  index=, positions=, position=, table=, images=, normals=, far=, above=, origin=, open_end=   how the scan is read, as in recon-scan
+  scanner=, index=, positions=, position=, table=, images=, normals=, far=, above=, flight=, origin=, from=, to=, outside=, open_end=
+                     how the scan is read, as in recon-scan
 
 FILE .. are all files that recon-scan reads, with the same arguments. Properties that `recon` does not read are left out.
 
@@ -32,7 +33,7 @@ from recon.toolbox.ply_text import IS_NUMBER, Refusal
 from recon.toolbox.scan_feeds import KEYS
 from recon.toolbox.tile_join import join
 from recon.toolbox.tile_split import Wanted, split
-from recon.toolbox.tool import NotUnderstood, Report, run, whole, yes
+from recon.toolbox.tool import NotUnderstood, Report, field, run, whole, yes
 
 SPLIT = ('points', 'overlap', 'spacings', 'through', 'unit', 'vote', 'smooth') + KEYS
 JOIN = ('fill', 'report')
@@ -46,7 +47,7 @@ def length(text: str, key: str) -> float:
 
 def refuse_others(options: Any, mine: tuple[str, ...], others: tuple[str, ...], command: str) -> None:
     for key in others:
-        if key not in mine and getattr(options, key) is not None:
+        if key not in mine and getattr(options, field(key)) is not None:
             raise Refusal(f'{key}= is not an option of {command}')
 
 

@@ -168,8 +168,9 @@ class Browser:
     def mouse(self, kind: str, place: tuple[float, float], **words: Any) -> None:
         self.call('Input.dispatchMouseEvent', type=kind, x=place[0], y=place[1], **words)
 
-    def click(self, name: str) -> None:
-        place = self.spot(name)
+    def click(self, name: str, right: float = 0.5, down: float = 0.5) -> None:
+        self.ask(f'document.getElementById("{name}").scrollIntoView({{block: "nearest"}})')
+        place = self.spot(name, right, down)
         for kind in ('mousePressed', 'mouseReleased'):
             self.mouse(kind, place, button='left', clickCount=1)
 
@@ -187,7 +188,7 @@ class Browser:
             self.call('Input.dispatchTouchEvent', type='touchStart' if not k else 'touchMove' if points else 'touchEnd', touchPoints=points)
 
     def key(self, key: str, modifiers: int = 0) -> None:
-        code = {'ArrowLeft': 37, 'ArrowUp': 38, 'ArrowRight': 39, 'ArrowDown': 40, 'Home': 36, 'Tab': 9, ' ': 32}.get(key, ord(key[0]))
+        code = {'ArrowLeft': 37, 'ArrowUp': 38, 'ArrowRight': 39, 'ArrowDown': 40, 'Home': 36, 'Tab': 9, 'Escape': 27, ' ': 32}.get(key, ord(key[0]))
         text = {'text': key} if len(key) == 1 else {}
         self.call('Input.dispatchKeyEvent', type='keyDown', key=key, windowsVirtualKeyCode=code, modifiers=modifiers, **text)
         self.call('Input.dispatchKeyEvent', type='keyUp', key=key, windowsVirtualKeyCode=code, modifiers=modifiers)
@@ -196,5 +197,6 @@ class Browser:
         """Returns what an element shows, after the next two frames."""
         self.ask('new Promise(done => requestAnimationFrame(() => requestAnimationFrame(() => done(1))))')
         (left, top), (right, bottom) = self.spot(name, 0, 0), self.spot(name, 1, 1)
-        clip = {'x': left, 'y': top, 'width': right - left, 'height': bottom - top, 'scale': 1}
-        return pixels_of(base64.b64decode(self.call('Page.captureScreenshot', format='png', clip=clip)['data']))
+        across, down = self.ask('[scrollX, scrollY]')
+        clip = {'x': left + across, 'y': top + down, 'width': right - left, 'height': bottom - top, 'scale': 1}
+        return pixels_of(base64.b64decode(self.call('Page.captureScreenshot', format='png', clip=clip, captureBeyondViewport=True)['data']))

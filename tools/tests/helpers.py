@@ -52,12 +52,14 @@ def call(program: str, *words: str) -> Any:
 
 def command(program: str) -> list[str]:
     """Returns the arguments that run a program of tools/ or dev/, from any folder."""
+    if program in ('docs', 'bench'):
+        return [sys.executable, os.path.join(DEV, program)]
     return [sys.executable, PACKAGE, program] if is_packed(program) else [sys.executable, os.path.join(DEV, program + '.py')]
 
 
 def is_packed(program: str) -> bool:
-    """Returns whether a program is one of the package, and not one of dev/. Both have a `surface`; the package's is meant."""
-    return program == 'surface' or not os.path.exists(os.path.join(DEV, program + '.py'))
+    """Returns whether a program is one of the package, and not one of dev/."""
+    return not os.path.exists(os.path.join(DEV, program + '.py'))
 
 
 def spoken(program: str) -> str:

@@ -5,7 +5,7 @@ import os
 import pathlib
 
 from helpers import ROOT, InFolder, call, equal, write
-import believed
+from docs import believed
 
 LOW = """-- Numbers.
 use Rattle.std.specs.Prelude.{ℕ, ◌≡◌}
@@ -57,6 +57,8 @@ pub enum Kind {
     Small,
 }
 
+/// The
+/// bound.
 pub const MOST: u8 = 8;
 """
 SOURCE = """# Few: {count}, {lines} lines
@@ -67,12 +69,9 @@ SOURCE = """# Few: {count}, {lines} lines
 
 ## Numbers & `others`
 
-| Crate | File | Definition | What it says |
-|---|---|---|---|
-| `low` | `Numbers` | `other` | The next number. |
-| `low` | `src/limits.rt` | `MOST` | Eight. |
-| `low` | `src/limits.rt` | `Kind` | One kind. |
-| `high` | `Weights` | `IsFew` | At most 8. |
+- `low/Numbers`: `other`
+- `low/src/limits.rt`: `MOST`, `Kind`
+- `high/Weights`: `IsFew`
 """
 PAGE = believed.PRINTED + """
 # Few: 2, 4 lines
@@ -83,35 +82,31 @@ PAGE = believed.PRINTED + """
 
 ## Numbers & `others`
 
-**`other`** (`low`, `Numbers`). The next number.
+**`other`** (`low`, `Numbers`). the other one
 
 ```text
--- the other one
 abbrev pub other : ℕ → ℕ
 other n = n + 1
 ```
 
-**`MOST`** (`low`, `src/limits.rt`). Eight.
+**`MOST`** (`low`, `src/limits.rt`). The bound.
 
 ```text
 pub const MOST: u8 = 8;
 ```
 
-**`Kind`** (`low`, `src/limits.rt`). One kind.
+**`Kind`** (`low`, `src/limits.rt`). Sizes.
 
 ```text
-/// Sizes.
 pub enum Kind {
     /// little
     Small,
 }
 ```
 
-**`IsFew`** (`high`, `Weights`). At most 8.
+**`IsFew`** (`high`, `Weights`). at most MOST, whatever it is
 
 ```text
--- at most MOST,
--- whatever it is
 pub record IsFew (n : ℕ) : Type 0 where
   -- the bound
   pub few : other n ≤ MOST little
@@ -156,21 +151,18 @@ class Believed(InFolder):
         finally:
             believed.CRATES = crates
         equal(believed.audit_page(SOURCE, audited), (PAGE, []))
+        equal(believed.audit_page(believed.source_of(PAGE), audited), (PAGE, []))
         for old, new, faults in (
-                ('| `low` | `Numbers` | `other` | The next number. |\n', '', ['high Weights IsFew comes before low Numbers other, which it uses',
-                                                                              'low Numbers other has no sentence']),
-                ('`MOST`', '`LEAST`', ['low src/limits.rt LEAST has a sentence and is not used',
+                ('- `low/Numbers`: `other`\n', '', ['high Weights IsFew comes before low Numbers other, which it uses',
+                                                                              'low Numbers other has no row']),
+                ('`MOST`', '`LEAST`', ['low src/limits.rt LEAST has a row and is not used',
                                        'high Weights IsFew comes before low src/limits.rt MOST, which it uses',
-                                       'low src/limits.rt MOST has no sentence']),
-                ('| `high`', '| `low` | `Numbers` | `other` | Again. |\n| `high`',
-                 ['low Numbers other has a sentence twice']),
+                                       'low src/limits.rt MOST has no row']),
+                ('- `high', '- `low/Numbers`: `other`\n- `high',
+                 ['low Numbers other has a row twice']),
                 ('`≤`', 'less', ['the text does not explain `≤`'])):
             equal(believed.audit_page(SOURCE.replace(old, new), audited)[1], faults)
 
     def test_the_page_for_auditors_is_as_printed(self) -> None:
-        status, said, error = call('believed', 'audit')
+        status, said, error = call('docs', 'believed')
         equal((status, len(said.splitlines()), error), (0, 1, ''))
-
-    def test_believed_definitions_stand_in_the_promises(self) -> None:
-        promises = pathlib.Path(ROOT, 'docs', 'verification', 'guarantees.md').read_text()
-        equal([line for line in call('believed')[1].splitlines() if line not in promises], [])

@@ -5,8 +5,7 @@ import os
 import pathlib
 
 from helpers import InFolder, call, equal, write
-import definitions
-import levels
+from docs import definitions, levels, sources
 
 USES = '# crates\nlow:\nmid: low slab\nhigh: low mid\n'
 LOW = """-- Numbers.
@@ -39,11 +38,10 @@ Of `low` and of `mid`: `last`. All, at most 1 words:
 
 ## Numbers (`crates/low/specs`)
 
-| Word | In plain words | From |
-|---|---|---|
-| `IsSmall`, `LIMIT` | below 2^8, as `LIMIT` has it | a paper |
-| `first`, `last` | | |
-| `last` (in `mid`) | | |
+{words, from}
+- `IsSmall`, `LIMIT` | below 2^8, as `LIMIT` has it | a paper
+- `first`, `last`
+- `last` (in `mid`)
 
 ## Others
 
@@ -97,9 +95,9 @@ class Definitions(InFolder):
         equal(self.words.bare(), ['low Numbers bare'])
 
     def test_what_is_not_there_is_told(self) -> None:
-        equal(self.faults(SOURCE.replace('`first`, `last` |', '`frist` | the ends |')),
+        equal(self.faults(SOURCE.replace('`first`, `last`\n', '`frist` | the ends\n')),
               ['frist is defined nowhere in what its row or its heading names: ## Numbers (`crates/low/specs`)'])
-        equal(self.faults(SOURCE.replace('`first`, `last`', '`first`, `bare`')), ['nothing is said of bare'])
+        equal(self.faults(SOURCE.replace('- `first`, `last`', '- `first`, `bare`')), ['nothing is said of bare'])
         equal(self.faults(SOURCE.replace('`mid`: `last`', '`mid`: `last`, `first`')), ['first stands above {shared}, and no two crates define it'])
         equal(self.faults(SOURCE.replace('`mid`: `last`', '`mid`: none')), ['last is defined in low and mid, and does not stand above {shared}'])
         equal(self.faults(SOURCE.replace('most 1', 'most 0')), ['1 words stand in more than one crate, above 0'])
@@ -107,7 +105,7 @@ class Definitions(InFolder):
         equal(self.faults(laws), ['low has no other_law, which the laws by name have'])
 
     def test_what_a_crate_stands_on(self) -> None:
-        uses = levels.uses_of(USES)
+        uses = sources.uses_of(USES)
         equal(levels.cells_of(uses, pathlib.Path('crates')), {'low': '1', 'mid': '2: `low`', 'high': '3: `low`'})
         equal(levels.below_each({'low': [], 'mid': ['low'], 'side': ['low'], 'high': ['low', 'mid', 'side']}),
               {'low': [], 'mid': ['low'], 'side': ['low'], 'high': ['mid', 'side']})
@@ -115,6 +113,6 @@ class Definitions(InFolder):
 
 class Pages(InFolder):
     def test_the_pages_are_as_printed(self) -> None:
-        for name in ('definitions', 'levels'):
-            status, said, error = call(name)
+        for name in ('definitions', 'crates', 'interface'):
+            status, said, error = call('docs', name)
             equal((status, len(said.splitlines()), error), (0, 1, ''))

@@ -4,8 +4,8 @@ from __future__ import annotations
 import os
 import pathlib
 
-from helpers import InFolder, call, equal, write
-import examples
+from helpers import InFolder, equal, write
+from docs import examples
 
 PAGE = """//! A crate.
 //!
@@ -63,4 +63,3 @@ class Examples(InFolder):
         equal(faults(PAGE.replace('//! Two:', '//! # Other'), TEST), ['a_crate has a test `example`, and none on its page'])
         for test in ('', TEST.replace('#[test]\n', ''), TEST.replace('example', 'examples')):
             equal(faults(PAGE, test), ['a_crate has one on its page, and no test `example`'])
-        equal(call('examples', 'no_crate'), (1, 'examples: there is no crate no_crate\nexamples: 0 in 0 crates\n', ''))

@@ -16,9 +16,9 @@ from typing import Any, Sequence
 import numpy as np
 
 from helpers import PACKAGE, RECON, RECON_MESH, InFolder, call, equal, head, refuses, write
-from crossing import cross, orient
+from bench.crossing import cross, orient
 from recon.toolbox.vectors import axes, normal
-from triangles import crossing
+from bench.triangles import crossing
 
 
 def mesh_text(places: Sequence[Any], faces: Sequence[Any]) -> str:
@@ -131,7 +131,9 @@ def check_glb(name: str) -> None:
     binary = data[20 + size:]
     equal(struct.unpack_from('<I4s', binary), (len(binary) - 8, b'BIN\0'))
     view = scene['bufferViews'][scene['accessors'][scene['meshes'][0]['primitives'][0]['attributes']['COLOR_0']]['bufferView']]
-    equal(binary[8 + view['byteOffset']:][:8], bytes((1, 2, 3, 255, 4, 5, 6, 255)))
+    equal(struct.unpack_from('<8H', binary, 8 + view['byteOffset']), (20, 40, 60, 65535, 80, 99, 119, 65535))
+    normal = struct.unpack_from('<3f', binary, 8 + scene['bufferViews'][2]['byteOffset'])
+    equal([round(x, 4) for x in normal], [0.5774] * 3)
     first, = struct.unpack_from('<f', binary, 8 + scene['bufferViews'][1]['byteOffset'])
     equal(round(first, 7), 0.1)
 
@@ -176,9 +178,9 @@ class Finish(InFolder):
         equal((status, error, 'copied red, green, blue, intensity from the scan' in said), (0, '', True))
         with open('out.ply', 'rb') as file:
             text, body = file.read().split(b'end_header\n')
-        equal(struct.unpack_from('<dddBBBf', body, 31), (5.1, -0.1, -0.1, 4, 5, 6, 0.25))
-        equal(struct.unpack_from('<dddBBBf', body, 93)[3:], (10, 11, 12, 2.0))
-        equal(struct.unpack_from('<B3i', body, 4 * 31)[0], 3)
+        equal(struct.unpack_from('<dddBBBf', body, 43), (5.1, -0.1, -0.1, 4, 5, 6, 0.25))
+        equal(struct.unpack_from('<dddBBBf', body, 129)[3:], (10, 11, 12, 2.0))
+        equal(struct.unpack_from('<B3i', body, 4 * 43)[0], 3)
         equal(call('finish', 'in.ply', 'out.stl')[0], 0)
         with open('out.stl', 'rb') as file:
             data = file.read()
@@ -191,7 +193,7 @@ class Finish(InFolder):
             ' '.join(map(str, place)) + f' {256 * k + 3} {512 + k} {768} 0.5\n' for k, place in zip((1, 4, 7, 10), SCAN_ROWS)))
         equal(call('finish', 'in.ply', 'out.glb', 'scan=scan.ply')[0], 0)
         with open('out.glb', 'rb') as file:
-            equal(bytes((1, 2, 3, 255, 4, 2, 3, 255, 7, 2, 3, 255)) in file.read(), True)
+            equal(struct.pack('<12H', 20, 40, 60, 65535, 80, 40, 60, 65535, 139, 40, 60, 65535) in file.read(), True)
 
     @unittest.skipUnless(RECON_MESH, 'recon-mesh is not built here')
     def test_coordinates_far_from_0(self) -> None:
@@ -228,7 +230,7 @@ class Finish(InFolder):
         equal((status, error), (0, ''))
         with open('out.ply', 'rb') as file:
             top_of, body = file.read().split(b'end_header\n')
-        marks = [body[24 * len(places) + 14 * k + 13] for k in range(len(sheet + lid))]
+        marks = [body[36 * len(places) + 14 * k + 13] for k in range(len(sheet + lid))]
         equal((b'property uchar unseen' in top_of, sum(marks[:len(sheet)]), sum(marks[len(sheet):]) > 60), (True, 0, True))
         equal(f'; {sum(marks)} faces unseen by all scanners; ' in said, True)
         with open('out-seen.ply', 'rb') as file:
@@ -245,7 +247,7 @@ class Finish(InFolder):
             said = call('finish', 'in.ply', 'out.obj', *words)[1]
             equal(f'unit=250 from {words[0][5:] if words else "scan.cert"}; ' in said, True)
             with open('out.obj', encoding='ascii') as lines:
-                equal([line for line in lines if line[0] == 'v'][0], 'v 0.40000000000000002 0.40000000000000002 0.40000000000000002\n')
+                equal([line for line in lines if line[0] == 'v'][0], 'v 0.4 0.4 0.4\n')
         equal('unit=' in call('finish', 'in.ply', 'out.obj', 'unit=1')[1], False)
         write('other.cert', stamp)
         equal('unit=' in call('finish', 'in.ply', 'out.obj')[1], False)
@@ -262,7 +264,7 @@ class Finish(InFolder):
         equal((status, error, 'copied red, green, blue from the scan' in said), (0, '', True))
         with open('out.obj', encoding='ascii') as lines:
             rows = [line.split() for line in lines]
-        equal((rows[2], rows[-1][0], len(rows)), (['v', '100', '-100', '-100', '0.003922', '0.2', '1'], 'f', 9))
+        equal((rows[2], rows[-1][0], len(rows)), (['v', '100', '-100', '-100', '0.003922', '0.2', '1'], 'f', 13))
 
     def test_meshes_with_comments(self) -> None:
         plain = mesh_text([(0, 0, 0), (9, 0, 0), (0, 9, 0), (0, 0, 9)], TETRAHEDRON)
@@ -298,7 +300,7 @@ class Finish(InFolder):
         said = call('finish', 'in.ply', 'out.ply', 'smooth=3', 'within=2000')[1]
         with open('out.ply', 'rb') as file:
             body = file.read().split(b'end_header\n')[1]
-        moved = [struct.unpack_from('<ddd', body, 24 * k) for k in range(len(places))]
+        moved = [struct.unpack_from('<ddd', body, 36 * k) for k in range(len(places))]
         far = max(sum((x - y) ** 2 for x, y in zip(*pair)) ** 0.5 for pair in zip(moved, places))
         equal((1500 < far <= 2000, '3 steps' in said), (True, True))
         parts = said.split('adjacent faces changed from ')[1].split()
@@ -316,7 +318,7 @@ class Finish(InFolder):
             with open('out.ply', 'rb') as file:
                 top, body = file.read().split(b'end_header\n')
             count = int(top.split(b'element vertex ')[1].split()[0])
-            rows = np.frombuffer(body, [('place', '<f8', 3), ('row', '<i4')], count)
+            rows = np.frombuffer(body, [('place', '<f8', 3), ('row', '<i4'), ('normal', '<f4', 3)], count)
             far = np.linalg.norm(rows['place'] - [0, 0, 1000] - np.array(places)[rows['row']] / 10, axis=1)
             equal((count, 0 < far.max() <= 30, far.max() > 1), (len(set(rows['row'].tolist())), True, True))
 

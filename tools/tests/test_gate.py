@@ -8,9 +8,11 @@ import sys
 
 from helpers import DEV, ROOT, InFolder, equal, write
 import attack
+from bench.__main__ import TABLES
 import minutes
+import programs
 import progress
-import wrong_bodies
+from docs import mutants
 
 EDIT = 'file: src/lib.rt\nold: a < b\nnew: a <= b\n'
 GATE = """== low
@@ -35,17 +37,23 @@ points 4
 """
 
 
+def write_in(path: str, text: str) -> None:
+    """Writes a file, and makes its folder."""
+    os.makedirs(os.path.dirname(path), exist_ok=True)
+    write(path, text)
+
+
 def faults(text: str, source: str = 'if a < b {\n') -> list[str]:
     """Returns the faults of an edit of a crate with one file."""
     os.makedirs('crates/low/src', exist_ok=True)
     os.makedirs('attack/low', exist_ok=True)
     write('crates/low/src/lib.rt', source)
     write('attack/low/an_edit.edit', text)
-    kept, wrong_bodies.TOP = wrong_bodies.TOP, pathlib.Path.cwd()
+    kept, mutants.TOP = mutants.TOP, pathlib.Path.cwd()
     try:
-        return wrong_bodies.faults_of(pathlib.Path.cwd() / 'attack/low/an_edit.edit')
+        return mutants.faults_of(pathlib.Path.cwd() / 'attack/low/an_edit.edit')
     finally:
-        wrong_bodies.TOP = kept
+        mutants.TOP = kept
 
 
 def said(text: str, in_turn: bool) -> list[str]:
@@ -56,9 +64,10 @@ def said(text: str, in_turn: bool) -> list[str]:
 
 class Gate(InFolder):
     def test_each_program_has_a_head_that_may_be_cut(self) -> None:
-        for name in ('attack', 'believed', 'bench', 'clouds', 'commands', 'crates', 'definitions', 'errors', 'examples', 'fail_alloc', 'levels', 'links', 'lint',
-                     'make_example', 'manual', 'measure_surface', 'minutes', 'one_command', 'others', 'pages', 'phases', 'phrases', 'pictures', 'progress', 'seams', 'surface', 'try', 'wrong_bodies'):
-            line = f'{sys.executable} {os.path.join(DEV, name + ".py")} --help | head -c 1'
+        for name in ('attack.py', 'bench', *(f'bench {table}' for table in TABLES), 'docs', 'docs believed', 'docs interface', 'docs manual', 'docs mutants', 'docs pages', 'docs phrases',
+                     'docs printed', 'fail_alloc.py', 'lint.py', 'make_example.py', 'minutes.py', 'pictures.py',
+                     'programs.py', 'progress.py', 'try.py'):
+            line = f'{sys.executable} {os.path.join(DEV, name)} --help | head -c 1'
             done = subprocess.run(line, shell=True, capture_output=True, text=True)
             equal((name, len(done.stdout), done.stderr), (name, 1, ''))
 
@@ -84,6 +93,40 @@ class Gate(InFolder):
         equal(progress.expected(page, progress.Progress(['low', 'high'], False, 'LOG'), 4), f': from nothing about 45 min {behind}')
         equal(progress.expected(page, progress.Progress(['low', 'high'], True, 'LOG'), 4), f': from nothing about 30 min {behind}')
         equal(progress.expected(page, progress.Progress(['host'], True, 'LOG'), 4), '')
+
+    def test_progress_says_what_is_left(self) -> None:
+        seen = progress.Progress(['low', 'mid', 'high'], False, 'LOG')
+        equal(seen.said('rt: low proved', 4), 'proved low, 1 of 3, 4 min')
+        seen.cost = {'low': 1.0, 'high': 3.0}
+        equal(seen.said('rt: mid proved', 6), 'proved mid, 2 of 3, 6 min, about 6 left')
+
+    def test_changed_contracts_name_their_crates(self) -> None:
+        body = '+++ b/crates/low/src/lib.rt\n-    a\n+    b\n+ghost use Rattle.low.specs.A.{b};\n'
+        comment = '+++ b/crates/mid/specs/A.antt\n+-- in words\n+use Rattle.low.specs.A.{b}\n+\n'
+        equal(attack.changed_in(body + comment), set())
+        clause, other = '+++ b/crates/low/src/lib.rt\n-    ensures { a }\n', '+++ b/crates/mid/specs/A.antt\n+a b = c\n'
+        equal(attack.changed_in(body + clause + comment + other), {'low', 'mid'})
+        equal(attack.changed_in('+++ b/dev/a.py\n+    ensures { a }\n'), set())
+
+    def test_programs_are_built_of_copies(self) -> None:
+        for crate in ('low', 'recon_main', 'other'):
+            write_in(f'crates/{crate}/src/lib.rt', crate)
+            write_in(f'crates/{crate}/out/lib', 'made')
+            write_in(f'crates/{crate}/must-fail/a.edit', 'an edit')
+        write('crates.txt', '# all\nlow: std_lib\nother: low\nrecon_main: low\n')
+        write('HANDLES', 'Handles allowed: none.\n')
+        kept, programs.TOP = programs.TOP, pathlib.Path.cwd()
+        try:
+            equal(programs.crates_below(['recon']), ['low', 'recon_main'])
+            programs.copied(['low', 'recon_main'], pathlib.Path('copy'))
+        finally:
+            programs.TOP = kept
+        equal(pathlib.Path('copy/crates.txt').read_text(), 'low: std_lib\nrecon_main: low\n')
+        equal(sorted(str(it) for it in pathlib.Path('copy').rglob('*') if it.is_file()),
+              ['copy/HANDLES', 'copy/crates.txt', 'copy/crates/low/src/lib.rt', 'copy/crates/recon_main/src/lib.rt'])
+        before = programs.sum_of(pathlib.Path('copy'))
+        write('copy/crates/low/src/lib.rt', 'low again')
+        equal(programs.sum_of(pathlib.Path('copy')) == before, False)
 
     def test_progress_keeps_the_status_and_the_text(self) -> None:
         write('gate.txt', GATE)

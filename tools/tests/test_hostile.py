@@ -7,12 +7,14 @@ import struct
 import subprocess
 from typing import Any
 
-from helpers import MESH, InFolder, call, command, equal, head, read, spoken, write
-from test_other_files import COLUMNS, PCD, las, e57, packet, paged, physical, station_xml
+from helpers import MESH, InFolder, call, command, equal, head, holds, read, spoken, write
+from test_other_files import COLUMNS, PCD, POSE, e57
+import samples
+from samples import E57_END, E57_ROOT, las, packet, physical, station_xml
 
 MEMORY = 1 << 30
 SECONDS = 20
-XML = '<e57Root type="Structure" xmlns="http://www.astm.org/COMMIT/E57/2010-e57-v1.0"><data3D type="Vector">{}</data3D></e57Root>'
+XML = E57_ROOT + '{}' + E57_END
 
 
 def limit() -> None:
@@ -40,12 +42,14 @@ def is_error(part: str, program: str, *words: str) -> None:
 
 def e57_of(columns: str, parts: list[bytes], stated: int, xml: str = XML) -> bytes:
     """Returns an E57 of one station of these columns."""
-    packets = packet(parts)
-    section = struct.pack('<B7xQQQ', 1, 32 + len(packets), physical(80), 0) + packets
-    text = xml.format(station_xml(physical(48), stated, columns=columns)).encode('ascii')
-    at = 48 + len(section)
-    length = len(paged(b'\0' * (at + len(text))))
-    return paged(struct.pack('<8sII4Q', b'ASTM-E57', 1, 0, length, physical(at), len(text), 1024) + section + text)
+    text = xml.format(station_xml(physical(48), stated, POSE, columns))
+    return samples.e57(samples.section(packet(parts)), text)
+
+
+def e57_shared(stations: int, stated: int) -> bytes:
+    """Returns an E57 whose stations all name the same bytes."""
+    whole = station_xml(physical(48), stated, POSE, flat(1))
+    return e57_of(flat(1), [bytes((stated + 7) // 8)] * 3, stated, XML.replace('{}', whole * (stations - 1) + '{}'))
 
 
 def flat(bits: int) -> str:
@@ -95,6 +99,21 @@ class Hostile(InFolder):
         is_error('more than 64 bits', 'scan', 'in.e57', 'out.ply')
         write('in.e57', e57(6, lambda text: text.replace('maximum="1000"', f'maximum="{"9" * 5000}"')))
         is_error('the XML section of the E57 is invalid', 'scan', 'in.e57', 'out.ply')
+
+    def test_stations_of_an_e57_that_name_the_same_bytes(self) -> None:
+        for stations in (2, 1000):
+            write('in.e57', e57_shared(stations, 20000))
+            is_error('two stations of the E57 name the same bytes', 'scan', 'in.e57', 'out.ply')
+        # those without points may
+        write('in.e57', e57_of(flat(8), [b'\1\2'] * 3, 2, XML.replace('{}', station_xml(physical(48), 0, POSE, flat(8)) * 5 + '{}')))
+        equal(call('scan', 'in.e57', 'good.ply')[0], 0)
+
+    def test_names_of_a_pcd_over_the_limit_of_a_line(self) -> None:
+        text = 'VERSION .7\nFIELDS x y z {0} {0}\nSIZE 4 4 4 4 4\nTYPE F F F F F\nCOUNT 1 1 1 1 1\nPOINTS 2\nDATA ascii\n1 2 3 4 5\n5 6 7 8 9\n'
+        write('in.pcd', text.format('n' * 5000))
+        equal(call('scan', 'in.pcd', 'long.ply')[0], 0)
+        equal(max(map(len, read('long.ply').splitlines())) <= 1000, True)
+        holds('long.ply', head(2, f'float x, float y, float z, float {"n" * 900}, float {"n" * 900}_2, int scanner', 1) + '1 2 3 4 5 0\n5 6 7 8 9 0\n0 0 0\n')
 
     def test_packets_of_an_e57_that_are_too_short(self) -> None:
         good = e57_of(flat(8), [b'\1\2'] * 3, 2)

@@ -78,7 +78,7 @@ class Arrays(InFolder):
         equal([len(mesh.faces) for mesh in surface.sweep(3, 1, 2)], [796, 796])
         loop, = surface.slice(0.1)
         equal(bool(np.abs(np.linalg.norm(loop, axis=1) - 0.99).max() < 0.1), True)
-        mesh = surface.finish(pieces=1, smooth=1, within=0.01)
+        mesh = surface.finish(pieces=1, steps=1, within=0.01)
         equal((mesh.faces.shape, bool(np.abs(np.linalg.norm(mesh.vertices, axis=1) - 1).max() < 0.02)), ((796, 3), True))
 
     def test_arrays_that_make_no_scan(self) -> None:
@@ -91,7 +91,7 @@ class Arrays(InFolder):
         invalid('seen_by must contain integers', None, points, SCANNERS, np.zeros(10))
         invalid('row 10 of points is not finite', 10, np.r_[points, [[np.nan, 0, 0]]], SCANNERS[0])
         invalid('must have the shape (n, 3)', None, points[:, :2], SCANNERS[0])
-        invalid('0 points: a scan has 1 to 1,048,576', None, points[:0], SCANNERS[0])
+        invalid('points is empty: it has the shape (0, 3)', None, points[:0], SCANNERS[0])
         invalid('the weight of point 1 is 256', 1, points, SCANNERS[0], weights=np.array([1, 256] + [1] * 8))
         invalid('row 0 of scanners is more than 2,097,151 units', 0, points, [9, 0, 0], unit=1000000, origin=[0, 0, 0])
         invalid('is out of range: 1 to 1,000,000', None, points, SCANNERS[0], unit=0)
@@ -120,6 +120,42 @@ class Arrays(InFolder):
     def test_who_saw_what(self) -> None:
         equal([part.tolist() for part in sights_of([[0, 1], [], [1]], 3, 2)], [[2, 0, 1], [0, 1, 1]])
         equal([part.tolist() for part in sights_of(1, 2, 2)], [[1, 1], [1, 1]])
+
+
+@unittest.skipUnless(RECON, 'recon is not built here')
+class OneCall(InFolder):
+    def test_all_that_the_program_does(self) -> None:
+        points = sphere(400)
+        colors = np.clip(128 + 127 * points, 0, 255).astype(np.uint8)
+        found = recon.surface(points, SCANNERS, nearest(points), colors=colors)
+        assert found.source is not None and found.colors is not None and found.surface is not None and found.choices is not None
+        equal((found.faces.shape, (found.colors == colors[found.source]).all(), found.choices['unit']), ((796, 3), True, '1000'))
+        equal((np.abs(points[found.source] - found.vertices).max() < 0.001, found.surface.check(), os.listdir()), (True, True, []))
+        equal((str(found.unseen().sum()), np.einsum('ij,ij->i', found.normals(), points[found.source]).min() > 0.9), ('0', True))
+        equal((repr(found), repr(found.surface)[:32]), ('<Reconstruction: 400 vertices with colors, 796 faces, 0 warnings>', '<Surface: 400 vertices, 796 faces'[:32]))
+        for name in ('m.ply', 'm.glb', 'm.obj', 'm.stl'):
+            found.write(name)
+            found.write('seen-' + name, seen=True)
+        equal(len(os.listdir()), 8)
+        found = recon.surface(points, normals=points, intensity=points[:, 2], out='out.obj', flips=False, steps=0, from_=(-2, -2, -0.5), to=(2, 2, 2))
+        equal((sorted(os.listdir('out.recon')), os.path.exists('out.html'), found.colors is None), (['mesh.ply', 'report.json', 'scan.cert', 'scan.ply'], True, False))
+        again = recon.surface(os.path.join('out.recon', 'scan.ply'), smooth=2, check=False)
+        equal((again.source, again.choices['smooth'] if again.choices else ''), (None, '2'))
+
+    def test_errors_in_the_words_of_python(self) -> None:
+        points = sphere(50)
+        given = {'scanners': SCANNERS, 'seen_by': nearest(points)}
+        for part, options in (('points is empty', {'points': points[:0]}), ('colors have the shape (5, 3): expected (50, 3)', {'colors': points[:5]}),
+                              ('smooth= -1 is not an integer', {'smooth': -1}), ('index 9 is out of range', {'seen_by': 9}),
+                              ('unknown file name extension', {'out': 'a.off'}), ('lie in a plane', {'points': points * [1, 1, 0]})):
+            with self.assertRaises(recon.Invalid) as caught:
+                recon.surface(**{'points': points, **given, **options})
+            equal((part in str(caught.exception), '--' in str(caught.exception)), (True, False))
+        with self.assertRaises(TypeError):
+            recon.surface(points, **given, no_such=1)
+        with self.assertRaises(recon.Invalid):
+            recon.build(points[:0], SCANNERS)
+        equal(os.listdir(), [])
 
 
 class Choosing(unittest.TestCase):

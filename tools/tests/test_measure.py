@@ -32,7 +32,7 @@ def nearest_by_trying(place: list[float], triangle: Sequence[Any], steps: int = 
 class Measure(InFolder):
     @unittest.skipUnless(np is not None, 'numpy is not here')
     def test_distances_to_triangles(self) -> None:
-        import objects
+        from bench import objects
         draw = random.Random(5)
         for _ in range(40):
             rows = [[draw.uniform(-1, 1) for _ in range(3)] for _ in range(4)]
@@ -56,7 +56,7 @@ class Measure(InFolder):
         faces = [tuple(map(int, line.split()[1:])) for line in CUBE.splitlines()[10:]]
         write('same.ply', mesh_text(rows, faces).replace('property int', 'property double'))
         write('open.ply', mesh_text([[x, y, z + 7] for x, y, z in rows], faces[2:4]).replace('property int', 'property double'))
-        status, said, error = call('measure_surface', 'compare', 'cube.off', 'same.ply', 'open.ply', 'samples=500')
+        status, said, error = call('bench', 'surfaces', 'compare', 'cube.off', 'same.ply', 'open.ply', 'samples=500')
         lines = [line.split(' | ') for line in said.splitlines()]
         equal((status, error), (0, ''))
         equal(lines[1][1:], ['0.000 / 0.00 / 0.0', '0.000 / 0.00 / 0.0', '0', '0', '1', '60.0', '0', '12'])
@@ -65,7 +65,7 @@ class Measure(InFolder):
     @unittest.skipUnless(np is not None, 'numpy is not here')
     def test_scans_of_an_object_are_seen_from_outside(self) -> None:
         write('cube.off', CUBE)
-        equal(call('measure_surface', 'scan', 'cube.off', 'out.ply', 'points=300', 'noise=0')[0], 0)
+        equal(call('bench', 'surfaces', 'scan', 'cube.off', 'out.ply', 'points=300', 'noise=0')[0], 0)
         rows = [list(map(float, row.split())) for row in read('out.ply').split('end_header\n')[1].splitlines()]
         points, scanners = rows[:300], rows[300:]
         wide = 1000 / 3 ** 0.5 / 2

@@ -155,7 +155,7 @@ class MeshProgram(InFolder):
                       ('check', 'mesh.ply', 'out.ply', 'flips=no'), ('check', 'mesh.ply', 'out.ply', 'other.ply')):
             status, line, error = mesh_program(*words)
             equal((status, line), (2, 'refused words\n'))
-            usage = 'usage: recon-mesh finish MESH OUT [pieces=N] [manifold=yes] [flips=no] [smooth=N within=D] [comments=no]\nusage: recon-mesh inspect MESH\nusage: recon-mesh check MESH OUT\n'
+            usage = 'usage: recon-mesh finish MESH OUT [pieces=N] [manifold=yes] [flips=no] [smooth=N within=D] [comments=no]\nusage: recon-mesh simplify MESH OUT within=D [faces=N] [comments=no]\nusage: recon-mesh inspect MESH\nusage: recon-mesh check MESH OUT\n'
             equal(usage in error, True)
         equal(os.listdir('.'), ['mesh.ply'])
 

@@ -11,6 +11,8 @@ from helpers import Given, InFolder, binary, call, equal, head, holds, read, ref
 from recon import scan
 from typing import Any, Callable
 from test_all import changed
+import samples
+from samples import las, packet, physical, station_xml
 from recon.toolbox.e57_file import Column
 from recon.toolbox.ply_text import Refusal
 
@@ -42,29 +44,6 @@ COMPRESSED = '\n'.join(['VERSION 0.7', 'FIELDS x y z', 'SIZE 4 4 4', 'TYPE F F F
                         'POINTS 10', 'DATA binary_compressed', '']).encode('ascii')
 
 
-def las(version: int, kind: int, rows: list[bytes], count: None = None, extra: bytes = b'') -> bytes:
-    """Returns a LAS file of the format of the American Society for Photogrammetry."""
-    size = 375 if version == 4 else 227
-    body = b''.join(rows)
-    data = bytearray(size)
-    data[:4], data[24], data[25] = b'LASF', 1, version
-    struct.pack_into('<HII', data, 94, size, size + len(extra), 0)
-    struct.pack_into('<BHI', data, 104, kind, len(rows[0]), 0 if version == 4 else len(rows))
-    struct.pack_into('<6d', data, 131, 0.001, 0.001, 0.25, 500000, 4000000.5, -7)
-    if version == 4:
-        struct.pack_into('<Q', data, 247, len(rows))
-    return bytes(data) + extra + body
-
-
-def paged(data: bytes) -> bytes:
-    """Returns the pages of an E57: 1020 bytes and a checksum each."""
-    return b''.join(data[at:at + 1020].ljust(1020, b'\0') + b'\0\0\0\0' for at in range(0, len(data), 1020))
-
-
-def physical(at: int) -> int:
-    return at // 1020 * 1024 + at % 1020
-
-
 def bits(values: list[int], width: int) -> bytes:
     """Whole numbers packed by bits."""
     packed = sum(value << k * width for k, value in enumerate(values))
@@ -80,17 +59,6 @@ COLUMNS = ('<cartesianX type="Float" precision="single"/><cartesianY type="Float
            '<colorRed type="Integer" minimum="0" maximum="255"/>')
 
 
-def station_xml(offset: int, count: int, pose: str = POSE, columns: str = COLUMNS) -> str:
-    return (f'<vectorChild type="Structure">{pose}<points type="CompressedVector" fileOffset="{offset}" recordCount="{count}">'
-            f'<prototype type="Structure">{columns}</prototype><codecs type="Vector"/></points></vectorChild>')
-
-
-def packet(parts: list[bytes]) -> bytes:
-    body = struct.pack(f'<{len(parts)}H', *map(len, parts)) + b''.join(parts)
-    body += b'\0' * (-len(body) % 4 + 2)
-    return struct.pack('<BBHH', 1, 0, len(body) + 5, len(parts)) + body
-
-
 def e57(count: int, spoil: Callable[..., Any] = lambda text: text) -> bytes:
     """Returns an E57 of one station whose points stand in two packets that divide bytes anywhere."""
     x = struct.pack(f'<{count}f', *range(count))
@@ -98,13 +66,8 @@ def e57(count: int, spoil: Callable[..., Any] = lambda text: text) -> bytes:
     z, state, red = bits([k % 1006 for k in range(count)], 10), bits([int(k == 1) for k in range(count)], 2), bytes([7] * count)
     cut = 3 * count // 7
     parts = [[part[:cut] for part in (x, y, z, state, red)], [part[cut:] for part in (x, y, z, state, red)]]
-    packets = b''.join(map(packet, parts))
-    section = struct.pack('<B7xQQQ', 1, 32 + len(packets), physical(48 + 32), 0) + packets
-    at = 48 + len(section)
-    text = spoil('<e57Root type="Structure" xmlns="http://www.astm.org/COMMIT/E57/2010-e57-v1.0"><data3D type="Vector">'
-                 + station_xml(physical(48), count) + '</data3D></e57Root>').encode('utf-8')
-    length = len(paged(b'\0' * (at + len(text))))
-    return paged(struct.pack('<8sII4Q', b'ASTM-E57', 1, 0, length, physical(at), len(text), 1024) + section + text)
+    text = spoil(samples.E57_ROOT + station_xml(physical(48), count, POSE, COLUMNS) + samples.E57_END)
+    return samples.e57(samples.section(b''.join(map(packet, parts))), text)
 
 
 # three points as PDAL 2.2 wrote them, as LAS 1.4 of the point format 7 and as E57

@@ -6,6 +6,7 @@ import re
 import subprocess
 import sys
 import unittest
+import zipfile
 
 from helpers import DEV, PACKAGE, ROOT, TOOLS, InFolder, equal, write
 
@@ -13,7 +14,7 @@ from helpers import DEV, PACKAGE, ROOT, TOOLS, InFolder, equal, write
 def programs() -> list[str]:
     """Returns the programs that the package installs."""
     with open(os.path.join(TOOLS, 'pyproject.toml'), encoding='utf-8') as file:
-        return re.findall(r'^recon-([a-z-]+) = "recon\.([a-z_]+):main"', file.read(), re.MULTILINE)
+        return re.findall(r'^recon-([a-z-]+) = "recon\.start:([a-z_]+)"', file.read(), re.MULTILINE)
 
 
 def said(words: list[str], **more: str) -> tuple[int, str, str]:
@@ -42,6 +43,32 @@ class Package(InFolder):
         got = said(['./linked', 'sphere', '20', '1', 'out.ply'])
         equal(got, (0, 'recon-make-scan: wrote 20 points and 8 scanners of a sphere to out.ply\n', ''))
 
+    def test_packages_have_the_programs_inside(self) -> None:
+        for name in ('recon', 'recon-mesh'):
+            write(name, f'#!/bin/sh\necho this is {name} $1\n# GLIBC_2.31\n')
+            os.chmod(name, 0o755)
+        os.mkdir('out')
+        status, made, error = said([sys.executable, os.path.join(DEV, 'packages.py'), 'out', 'recon', 'recon-mesh'])
+        equal((status, error, len(made.splitlines())), (0, '', 2))
+        for line in made.splitlines():
+            path = os.path.join('out', line)
+            if line.endswith('.deb'):
+                equal(said(['dpkg-deb', '-x', path, 'deb'])[0], 0)
+                equal(said(['deb/usr/bin/recon', 'x']), (0, 'this is recon x\n', ''))
+                equal([os.path.exists('deb/usr/' + name) for name in ('bin/recon-surface', 'share/man/man1/recon.1', 'share/recon/recon/viewer')], [True] * 3)
+                equal('libc6 (>= 2.31)' in said(['dpkg-deb', '-f', path, 'Depends'])[1], True)
+            elif line.endswith('.whl'):
+                equal('-py3-none-manylinux_2_31_' in line, True)
+                with zipfile.ZipFile(path) as packed:
+                    packed.extractall('wheel')
+                    modes = [packed.getinfo(f'recon/programs/{name}').external_attr >> 16 & 0o111 for name in ('recon', 'recon-mesh')]
+                equal(modes, [0o111] * 2)
+                os.chmod('wheel/recon/programs/recon', 0o755)
+                got = said([sys.executable, '-c', 'import recon.start; recon.start.recon()', 'x'], PYTHONPATH='wheel')
+                equal(got, (0, 'this is recon x\n', ''))
+            else:
+                equal(line[:3], 'no ')
+
     def test_modules_run_by_name(self) -> None:
         got = said([sys.executable, '-m', 'recon.make_scan', 'cube', '9', '1', 'out.ply'], PYTHONPATH=TOOLS)
         equal(got, (0, 'recon-make-scan: wrote 9 points and 8 scanners of a cube to out.ply\n', ''))
@@ -58,7 +85,7 @@ class Package(InFolder):
         equal(status == 1 or found == '/usr/bin/python3\n', True)
 
     def test_the_gate_and_make_look_for_it(self) -> None:
-        for path, line in (('.ci/run', 'dev/python install'), ('Makefile', 'run: python recon'), ('Makefile', 'test: python\n')):
+        for path, line in (('.ci/run', 'dev/python install'), ('Makefile', 'run: python programs'), ('Makefile', 'test: python\n')):
             with open(os.path.join(ROOT, path), encoding='utf-8') as file:
                 equal((path, line in file.read()), (path, True))
 

@@ -114,6 +114,18 @@ class Written(InFolder):
         wheel = np.array([(0, k, k % 100 + 1) for k in range(1, 101)])
         equal(page.fans_of(*page.sorted_faces(wheel, np.zeros(100, bool)))[1].sum() < 40, True)
 
+    def test_a_preview_of_many_faces(self) -> None:
+        vertices, faces = ground(520)
+        colors = np.full((len(vertices), 3), (10, 200, 30), np.uint8)
+        many = page.PageMesh('ground', vertices, faces, colors, np.arange(len(faces)) < 1000)
+        light = page.preview(many, page.Frame.of([many]))
+        corners = light.vertices[light.faces]
+        size = np.linalg.norm(np.cross(corners[:, 1] - corners[:, 0], corners[:, 2] - corners[:, 0]), axis=1).sum() / 2
+        equal((20_000 < len(light.faces) <= page.LIGHT * 1.1, light.faces.max() < len(light.vertices), (light.colors == colors[0]).all()), (True, True, True))
+        equal((0.7 * 519 ** 2 < size < 1.3 * 519 ** 2, 0 < light.unseen.sum() < 1000), (True, True))
+        text = written(meshes=[many], scanners=[], sights=[])
+        equal(('"preview":{' in text, 'id="preview-0"' in text, 'id="preview-0"' in written()), (True, True, False))
+
     def test_no_face_and_no_text(self) -> None:
         empty = page.PageMesh('nothing', np.zeros((0, 3)), np.zeros((0, 3), int))
         text = written(meshes=[empty], scanners=[], sights=[], figures=[], choices=[], digests={}, commands=[])
@@ -153,7 +165,7 @@ class Shown(InFolder):
         unseen = np.arange(len(faces)) % 3 == 0
         written(meshes=[page.PageMesh('ground', vertices, faces, colors, unseen)])
         self.browser.show('mesh.html')
-        told = self.browser.ask('decoded(0, JSON.parse(document.getElementById("scene").textContent).meshes[0]).then(m => '
+        told = self.browser.ask('decoded("mesh-0", JSON.parse(document.getElementById("scene").textContent).meshes[0]).then(m => '
                                 '[m.positions, m.corners, m.colors].map(a => Array.from(a)))')
         places, corners, painted = (np.array(part) for part in told)
         frame = page.Frame.of([page.PageMesh('', vertices, faces)])
@@ -252,6 +264,85 @@ class Shown(InFolder):
         equal(self.browser.ask('typeof hit'), 'undefined')
         told = self.browser.ask('["h1", "pre", "th", "#name"].map(name => document.querySelector(name).textContent)')
         equal(told, [HOSTILE] * 4)
+
+    def value(self, name: str, value: str) -> None:
+        """Sets a switch with values, as a user does."""
+        self.browser.ask(f'(e => {{ e.value = "{value}"; e.dispatchEvent(new Event("input")) }})(document.getElementById("{name}"))')
+
+    def text(self, name: str) -> Any:
+        return self.browser.ask(f'document.getElementById("{name}").textContent')
+
+    def test_a_preview_comes_first(self) -> None:
+        vertices, faces = ground(520)
+        written(meshes=[page.PageMesh('ground', vertices, faces)], scanners=[], sights=[])
+        self.browser.show('mesh.html', '#full=0')
+        equal((self.text('status').startswith('preview by '), self.text('status').endswith(' faces of 538,722 faces, 270,400 vertices')), (True, True))
+        light = self.browser.picture()
+        equal(self.browser.ask('document.getElementById("view").dataset.block'), 'preview-0')
+        self.browser.click('full')
+        self.browser.until('document.getElementById("view").dataset.block === "mesh-0"')
+        equal((self.text('status'), self.browser.picture() != light), ('538,722 faces, 270,400 vertices', True))
+        self.browser.click('full')
+        self.browser.until('document.getElementById("view").dataset.block === "preview-0"')
+        equal(self.browser.picture() == light, True)
+
+    def test_a_section(self) -> None:
+        vertices, faces = cube()
+        written(meshes=[page.PageMesh('cube', vertices * 2 + 10, faces)], scanners=[], sights=[])
+        self.browser.show('mesh.html')
+        whole = self.browser.picture()
+        self.value('section', 'z')
+        half = self.browser.picture()
+        equal((self.text('height'), share(half, is_sand) < share(whole, is_sand)), ('z = 11.0000', True))
+        self.browser.click('turned')
+        upper = self.browser.picture()
+        equal((share(upper, is_sand) > 0, upper != half), (True, True))
+        self.value('at', '0')
+        equal(share(self.browser.picture(), lambda *pixel: pixel != BACKGROUND) > 0.1, True)
+        self.browser.click('turned')
+        equal(share(self.browser.picture(), is_sand) < 0.02, True)
+        self.value('section', 'none')
+        equal(self.browser.picture() == whole, True)
+        self.browser.show('mesh.html', '#section=x&at=0.25')
+        equal(self.text('height'), 'x = 10.5000')
+
+    def test_a_distance(self) -> None:
+        vertices, faces = cube()
+        written(meshes=[page.PageMesh('cube', vertices * 2 + 10, faces)], scanners=[], sights=[])
+        self.browser.show('mesh.html')
+        self.browser.click('view', 0.45, 0.45)
+        equal(self.text('measured'), '')
+        self.browser.click('measure')
+        before = self.browser.picture()
+        self.browser.click('view', 0.02, 0.02)
+        equal(self.text('measured'), '')
+        self.browser.click('view', 0.45, 0.45)
+        first = [float(word) for word in self.text('measured')[5:].split(', ')]
+        on_side = [abs(word - end) < 1e-4 for word in first for end in (10, 12)]
+        equal((any(on_side), all(10 - 1e-4 < word < 12 + 1e-4 for word in first)), (True, True))
+        self.browser.click('view', 0.55, 0.55)
+        found = re.fullmatch(r'distance ([0-9.]+) \(x (-?[0-9.]+), y (-?[0-9.]+), z (-?[0-9.]+)\)', self.text('measured'))
+        assert found
+        long, *way = map(float, found.groups())
+        equal((0.1 < long < 2, abs(long - sum(x * x for x in way) ** 0.5) < 1e-3, self.browser.picture() != before), (True, True, True))
+        self.browser.ask('document.getElementById("view").focus()')
+        self.browser.key('Escape')
+        equal(self.text('measured'), '')
+
+    def test_a_distance_along_an_edge(self) -> None:
+        vertices, faces = cube()
+        written(meshes=[page.PageMesh('cube', vertices * 2 + 10, faces)], scanners=[], sights=[])
+        self.browser.show('mesh.html')
+        self.browser.click('measure')
+        # where the camera sees two corners of the top
+        places = self.browser.ask('(c => [[1, 1], [1, 0]].map(([x, y]) => { const v = c.view(), m = [x * 0.98, y * 0.98 + 0.01, 1, 1];'
+                                  'const p = [0, 1, 2].map(r => v[r] * m[0] + v[4 + r] * m[1] + v[8 + r] * m[2] + v[12 + r]);'
+                                  'const k = Math.min(640, document.getElementById("view").clientHeight) / Math.tan(HALF_ANGLE) / 2;'
+                                  'return [-p[0] / p[2] * k / 640 + 0.5, p[1] / p[2] * k / document.getElementById("view").clientHeight + 0.5] }))'
+                                  '(new Camera([1, 1, 1], []))')
+        for right, down in places:
+            self.browser.click('view', right, down)
+        equal(abs(float(self.text('measured').split()[1]) - 1.96) < 0.03, True)
 
     def test_an_empty_mesh_is_shown(self) -> None:
         written(meshes=[page.PageMesh('nothing', np.zeros((0, 3)), np.zeros((0, 3), int))])

@@ -1,11 +1,13 @@
-"""The commands of the pages for users, run, and what they print compared (dev/pages.py)."""
+"""The commands of the pages for users, run, and what they print compared (dev/docs/pages.py)."""
 from __future__ import annotations
 
 import pathlib
+import subprocess
+import sys
 import unittest
 
-from helpers import InFolder, equal
-import pages
+from helpers import ROOT, InFolder, equal
+from docs import pages
 
 PAGE = '''# A page
 
@@ -46,6 +48,19 @@ class Pages(unittest.TestCase):
         skipped = sum(tally.skipped for tally in tallies)
         if skipped:
             self.skipTest(f'{skipped} commands of pages need recon or recon-mesh, which are not built here')
+
+
+class Files(InFolder):
+    def test_the_files_of_the_page_on_imports(self) -> None:
+        got = subprocess.run([sys.executable, ROOT + '/examples/make_files.py', 'new'], capture_output=True, text=True)
+        equal((got.returncode, got.stdout.split()[0], got.stderr), (0, 'wrote', ''))
+        made = {str(path.relative_to('new')) for path in pathlib.Path('new').rglob('*') if path.is_file() and path.parent.name != 'examples'}
+        equal(made, set(pages.make_files.MADE))
+        page = (pages.TOP / 'docs/howto/import.md').read_text()
+        equal([name for name in ('cloud.xyz', 'scan.ptx', 'cloud.e57', 'stations.txt') if name not in made or name not in page], [])
+        # a folder that is there is left as it is
+        again = subprocess.run([sys.executable, ROOT + '/examples/make_files.py', 'new'], capture_output=True, text=True)
+        equal((again.returncode, 'File exists: new' in again.stderr), (1, True))
 
 
 class Faults(InFolder):

@@ -11,7 +11,7 @@ from unittest.mock import patch
 
 from helpers import MESH, InFolder, call, equal, head, holds, read, refuses, says, write
 from test_hostile import e57_of, error_of, flat
-from test_other_files import las
+from samples import las
 
 VIEWED = ('VERSION 0.7\nFIELDS x y rgb vp_x vp_y z vp_z\nSIZE 4 4 4 4 4 4 4\nTYPE F F U F F F F\nCOUNT 1 1 1 1 1 1 1\nWIDTH 4\nHEIGHT 1\n'
           'VIEWPOINT 0 0 0 1 0 0 0\nPOINTS 4\nDATA {}\n')
@@ -21,7 +21,7 @@ PLAIN = 'VERSION 0.7\nFIELDS x y z\nSIZE 4 4 4\nTYPE F F F\nCOUNT 1 1 1\nVIEWPOI
 POINTS_TEXT = ('# id x y z r g b error track\n7 1.5 2 3 10 20 30 0.5 9 0 4 1 9 2\n8 4 5 6 255 0 1 0.25 4 0\n9 7 8 9 1 2 3 0\n')
 IMAGES_TEXT = '9 1 0 0 0 0 0 -10 1 b.jpg\n\n4 1 0 0 0 -1 -2 -3 1 a.jpg\n1 1 7\n'
 SPARSE = 'double x, double y, double z, uchar red, uchar green, uchar blue, list uint int scanner'
-LASPY = '''import re
+LASPY = '''import io
 class Points:
     def __init__(self, data):
         self.array = self
@@ -32,7 +32,7 @@ class Points:
         return len(self.data) // SIZE
 class File:
     def __init__(self, path):
-        self.data = open(path, 'rb').read()
+        self.data = io.open(path, 'rb').read()
     def __enter__(self):
         return self
     def __exit__(self, *_):
@@ -46,9 +46,7 @@ class File:
         packed = bytes(byte ^ 255 for byte in body)
         for at in range(0, len(packed), 2 * SIZE):
             yield Points(packed[at:at + 2 * SIZE])
-open_ = open
-def open(path, open=open):
-    File.__init__.__globals__['open'] = open
+def open(path):
     return File(path)
 '''
 PYE57 = '''import numpy
@@ -114,7 +112,7 @@ class Viewpoints(InFolder):
         holds('out.ply', head(5, 'double x, double y, double z, int scanner', 3)
               + '1 2 3 0\n4 5 6 1\n7 8 9 0\n1 2 3 2\n5 5 5 1\n9 8 7\n1 2 3\n4 5 6\n')
         says('scan', 'read 1 point of b.pcd; left out nothing; wrote 1 point and 1 scanner to out.ply', 'b.pcd=7,7,7', 'out.ply')
-        holds('out.ply', head(1, 'double x, double y, double z, int scanner', 1) + '5 5 5 0\n7 7 7\n')
+        holds('out.ply', head(1, 'double x, double y, double z, int scanner, uchar red, uchar green, uchar blue', 1) + '5 5 5 0 0 0 0\n7 7 7\n')
         write('a.pcd', viewed('ascii').replace(b'\n1 2 ', b'\nx 2 '))
         refuses('scan', 'a.pcd: vertex row 0: x is not a number', 'a.pcd', 'c.pcd', 'out.ply')
 
@@ -182,7 +180,7 @@ class Models(InFolder):
         with open('done.ply', 'rb') as file:
             text, _, body = file.read().partition(b'end_header\n')
         equal(b'property uchar red\nproperty uchar green\nproperty uchar blue\n' in text, True)
-        equal([tuple(body[27 * k + 24:27 * k + 27]) for k in range(4)], [(k, 2 * k, 200 + k) for k in range(4)])
+        equal([tuple(body[39 * k + 24:39 * k + 27]) for k in range(4)], [(k, 2 * k, 200 + k) for k in range(4)])
 
     def test_lists_of_scanners_keep_the_other_properties(self) -> None:
         text = (head(2, 'uchar red, float y, float x, float z, list uchar int other, list uchar int scanner, int weight, uchar n', 2)
@@ -206,7 +204,7 @@ class Packages(InFolder):
     @unittest.skipIf(find_spec('laspy') or find_spec('pye57'), 'laspy or pye57 is installed')
     def test_packages_that_are_missing_are_named(self) -> None:
         write('in.laz', self.packed)
-        refuses('scan', 'this is LAZ, compressed LAS: install laspy and lazrs, or uncompress it by LAStools or PDAL', 'in.laz=1,1,1', 'out.ply')
+        refuses('scan', 'this is LAZ, compressed LAS: install laspy and lazrs, or PDAL, or uncompress it by LAStools', 'in.laz=1,1,1', 'out.ply')
         write('in.e57', e57_of(SPHERICAL, [b'\0' * 8] * 3, 1))
         refuses('scan', 'spherical ones are not supported: install pye57 to read it', 'in.e57', 'out.ply')
 
@@ -215,13 +213,24 @@ class Packages(InFolder):
         write('in.las', self.plain)
         write('in.laz', self.packed)
         equal((call('scan', 'in.las=1,1,1', 'a.ply')[0], call('scan', 'in.laz=1,1,1', 'b.ply')[0]), (0, 0))
-        equal((read('a.ply') == read('b.ply'), read('b.ply').count('\n')), (True, 19))
+        equal((read('a.ply') == read('b.ply'), read('b.ply').count('\n')), (True, 20))
         write('in.laz', self.packed[:-20])
         refuses('scan', 'truncated: the LAZ ends in point 4 of 5', 'in.laz=1,1,1', 'out.ply')
         write('in.laz', self.packed[:-3])
         refuses('scan', 'laspy cannot unpack the LAZ', 'in.laz=1,1,1', 'out.ply')
         write('in.laz', self.packed[:227] + b'bad')
         refuses('scan', 'laspy cannot unpack the LAZ: no backend, cannot decompress', 'in.laz=1,1,1', 'out.ply')
+
+    @unittest.skipIf(find_spec('laspy'), 'laspy is installed')
+    def test_laz_by_pdal(self) -> None:
+        write('in.las', self.plain)
+        write('in.laz', self.packed)
+        write('pdal', '#!/bin/sh\nfor word; do in=$out; out=$word; done\ntest $in = in.laz && cp in.las "$out"\n')
+        os.chmod('pdal', 0o755)
+        with patch.dict(os.environ, PATH=os.getcwd() + os.pathsep + os.environ['PATH']):
+            equal((call('scan', 'in.las=1,1,1', 'a.ply')[0], call('scan', 'in.laz=1,1,1', 'b.ply')[0], read('a.ply') == read('b.ply')), (0, 0, True))
+            write('pdal', '#!/bin/sh\necho no such luck >&2\nexit 1\n')
+            refuses('scan', 'pdal cannot unpack the LAZ: no such luck', 'in.laz=1,1,1', 'out.ply')
 
     def test_e57_by_pye57(self) -> None:
         write('pye57.py', PYE57)

@@ -46,14 +46,15 @@ class Stations(InFolder):
             write('in.ptx', PTX.replace('\n', end))
             says('scan', 'read 2 stations with 5 rows of in.ptx; left out 1 empty, 1 not finite; wrote 3 points and 2 scanners '
                  'to out.ply', 'in.ptx', 'out.ply')
-            holds('out.ply', head(3, SCAN, 2) + '0.75 2.5 3.125 0\n1 3 3 0\n7.1234567890123456789012345678 8 9 1\n1 2 3\n0 0 5\n')
+            holds('out.ply', head(3, SCAN + ', uchar red, uchar green, uchar blue, double intensity', 2)
+                  + '0.75 2.5 3.125 0 255 0 0 0.5\n1 3 3 0 0 0 0 0.5\n7.1234567890123456789012345678 8 9 1 0 0 0 0.1\n1 2 3\n0 0 5\n')
 
     def test_products_of_a_ptx_are_exact(self) -> None:
         # 0.6, 0.8 is a turn; products by hand: 1.000001 * 0.6 = 0.6000006, 1.000001 * 0.8 = 0.8000008
         station = '1\n1\n0 0 0\n1 0 0\n0 1 0\n0 0 1\n0.6 0.8 0 0\n-0.8 0.6 0 0\n0 0 1 0\n1000.5 0 1e-3 1\n1.000001 0 2 0.5\n'
         write('in.ptx', station)
         equal(call('scan', 'in.ptx', 'out.ply')[0], 0)
-        holds('out.ply', head(1, SCAN, 1) + '1001.1000006 0.8000008 2.001 0\n1000.5 0 1e-3\n')
+        holds('out.ply', head(1, SCAN + ', double intensity', 1) + '1001.1000006 0.8000008 2.001 0 0.5\n1000.5 0 1e-3\n')
         # over 30 digits: 1.1 at 1e-40 beside 1000.5 is rounded away, and nothing else is
         write('in.ptx', station.replace('1.000001 0 2', '1e-40 0 2'))
         equal(call('scan', 'in.ptx', 'out.ply')[0], 0)

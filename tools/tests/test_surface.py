@@ -11,8 +11,9 @@ from typing import Any
 
 import numpy as np
 
-from helpers import RECON, InFolder, binary, call, equal, head, write
-from recon.inputs import load_scan, plain_table
+from helpers import RECON, InFolder, binary, call, equal, head, says, write
+from recon.tables import read_table
+from recon.toolbox.one_form import dashed, version_line
 from recon.surface import arguments, parser, plain
 from test_library import SCANNERS, nearest, sphere
 from test_readers import images_bin, points_bin
@@ -57,8 +58,8 @@ class Surfaces(InFolder):
         equal(sorted(os.listdir()), ['in.ply', 'mesh-seen.ply', 'mesh.html', 'mesh.ply', 'mesh.recon'])
         equal(sorted(os.listdir('mesh.recon')), ['again.sh', 'mesh.ply', 'report.json', 'scan.cert', 'scan.ply'])
         top, body = pathlib.Path('mesh.ply').read_bytes().split(b'end_header\n')
-        equal((b'property uchar red' in top, b'property uchar unseen' in top, len(body)), (True, True, 300 * 27 + 596 * 14))
-        first = np.frombuffer(body, [('place', '<f8', 3), ('color', 'u1', 3)], 300)
+        equal((b'property uchar red' in top, b'property uchar unseen' in top, len(body)), (True, True, 300 * 39 + 596 * 14))
+        first = np.frombuffer(body, [('place', '<f8', 3), ('color', 'u1', 3), ('normal', '<f4', 3)], 300)
         row = int(np.linalg.norm(points - first['place'][5], axis=1).argmin())
         equal((first['color'][5].tolist(), os.path.getsize('mesh.html') > 10000), ([row % 256, 7, 9], True))
         command = report['commands'][0].split()
@@ -197,7 +198,7 @@ class Surfaces(InFolder):
         refused('unknown file name extension', 'in.ply', '-o', 'mesh.off')
         refused('No such file or directory: none.ply', 'none.ply', '-o', 'mesh.ply')
         listed('flat.xyz', np.random.default_rng(1).uniform(size=(200, 3)) * [1, 1, 0])
-        refused('the surface is empty', 'flat.xyz=0.5,0.5,0', '-o', 'mesh.ply', status=3)
+        refused('the points lie in a plane, so there is no surface', 'flat.xyz=0.5,0.5,0', '-o', 'mesh.ply', status=3)
         write('empty.xyz', 'X Y Z\n')
         refused('error:', 'empty.xyz', '-o', 'mesh.ply')
         refused('--scanner requires a single FILE', 'in.ply', 'flat.xyz', '--scanner', '1,2,3', '-o', 'mesh.ply')
@@ -208,7 +209,7 @@ class Surfaces(InFolder):
         write('word.ply', text.replace(' 3 7 9 ', ' 3 - 9 '))
         refused('error: green of point 3 is not a number', 'word.ply', '-o', 'mesh.ply')
         write('lists.ply', text.replace('int scanner', 'list uchar int scanner').replace(' 7 9 0\n', ' 7 9 1 0\n').replace(' 3 7 9 ', ' 3 - 9 '))
-        refused('error: - is not a number', 'lists.ply', '-o', 'mesh.ply')
+        refused('error: green of point 3 is not a number', 'lists.ply', '-o', 'mesh.ply')
         write('fails', '#!/bin/sh\necho refused 5 twice line 3\necho "recon: rename one" >&2\nexit 3\n')
         os.chmod('fails', 0o755)
         got, _, error = call('surface', 'in.ply', '-o', 'mesh.ply', '-q', '--program', './fails')
@@ -225,42 +226,58 @@ class Words(InFolder):
             section = file.read().split('## `recon-surface`')[1]
         stated = set(re.findall('`(--[a-z-]+)', section))
         equal((sorted(stated - options), sorted(options - stated)),
-              ([], ['--help', '--keep', '--no-check', '--output', '--program', '--quiet']))
+              ([], ['--help', '--keep', '--no-check', '--output', '--program', '--quiet', '--version']))
 
-    def test_plain_files_are_read_whole(self) -> None:
-        points = np.random.default_rng(1).normal(size=(50, 3)).round(6)
-        write('in.ply', scan_text(points, SCANNERS, np.arange(50) % len(SCANNERS)))
-        equal(call('scan', 'in.ply', 'slow.ply')[0], 0)
-        slow, quick = load_scan('slow.ply'), plain_table(['in.ply'])
-        assert quick is not None and quick.scanners is not None and slow.scanners is not None and quick.sights and slow.sights
-        equal((list(quick.columns), [column.tolist() for column in quick.columns.values()]),
-              (list(slow.columns), [column.tolist() for column in slow.columns.values()]))
-        equal((quick.scanners.tolist(), quick.sights.scanners.tolist()), (slow.scanners.tolist(), slow.sights.scanners.tolist()))
-        listed('one.xyz', np.c_[points, np.ones(50)])
-        quick = plain_table(['one.xyz=1,2,3', 'one.xyz=4,5,6'])
-        assert quick is not None and quick.scanners is not None and quick.sights
-        equal((quick.points().tolist(), quick.scanners.tolist()), (points.tolist() * 2, [[1, 2, 3], [4, 5, 6]]))
-        equal(quick.sights.scanners.tolist(), [0] * 50 + [1] * 50)
+    def test_one_form_of_options(self) -> None:
+        given = ['a.xyz', 'scanner=1,2,3', 'unit=100', 'normals=yes', 'flips=no', 'clean=yes', 'no_such=1', '-o', 'm.ply', 'from=0,0,0', 'max-points=9']
+        equal(dashed(given, parser()), ['a.xyz', '--scanner=1,2,3', '--unit=100', '--normals', '--no-flips', 'no_such=1', '-o', 'm.ply', '--from=0,0,0',
+                                        '--max-points=9'])
+        write('unit=7', '0 0 0\n')
+        equal(dashed(['unit=7'], parser()), ['unit=7'])
+        for program in ('scan', 'surface', 'finish', 'tiles', 'contours', 'grid', 'make-scan', 'mesh-to-floats'):
+            equal(call(program, '--version'), (0, version_line('recon-' + program) + '\n', ''))
 
-    def test_other_files_are_read_row_by_row(self) -> None:
-        good = scan_text(sphere(4), SCANNERS[:1], np.zeros(4, int))
-        for text in (good[:-1], good + '1\n', good.replace(' 7 9 0', ' 7 9 1', 1), good.replace(' 7 9', ' 7-9 9', 1), good.replace(' 7 9', ' nan 9', 1),
-                     good.replace(' 7 9', ' 1e999 9', 1), good.replace(' 7 9', ' 7.1.2 9', 1), good.replace('int scanner', 'int scalar_scanner'),
-                     good.replace(' 7 9 0', ' 7 9 0.5', 1)):
-            write('in.ply', text)
-            equal(plain_table(['in.ply']), None)
-        for text in ('1 2 3\n4 5\n6\n', '1 2\n3 4\n5 6\n', '1 2 3', '1,2,3\n', '# x\n1 2 3\n', '1 2 3\n\n4 5 6\n', '1 2 nan\n', '3\n1 2 3\n'):
-            write('in.xyz', text)
-            equal(plain_table(['in.xyz=0,0,0']), None)
+    def test_a_box_of_the_points(self) -> None:
+        points = sphere(2000)
+        listed('in.xyz', points)
+        report = made('in.xyz', 'scanner=0,0,5', 'from=-2,-2,0.5', 'to=2,2,2', '--force', '-q')
+        equal(report['counts']['points'] <= int((points[:, 2] >= 0.5).sum()), True)
+        equal('--from=-2,-2,0.5 --to=2,2,2' in pathlib.Path('mesh.recon/again.sh').read_text(), True)
+        says('scan', 'read 2000 points of in.xyz; left out nothing; wrote 2000 points and 1 scanner to out.ply', 'in.xyz', 'out.ply', 'scanner=0,0,5', 'unit=10')
+        first = (pathlib.Path('out.ply').read_text().split('end_header\n')[1].splitlines())[0].split()
+        equal([abs(int(word) - 10 * x) <= 0.5 for word, x in zip(first, points[0])], [True] * 3)
+
+    def test_colors_of_every_format(self) -> None:
+        points, colors = sphere(400), np.random.default_rng(2).integers(0, 256, (400, 3))
+        rows = [f'{x:.6f} {y:.6f} {z:.6f}' for x, y, z in points]
+        words = [f'{r} {g} {b}' for r, g, b in colors]
+        intensity = [f'0.{r:03d}' for r in colors[:, 0]]
+        write('a.xyz', ''.join(f'{row} {word}\n' for row, word in zip(rows, words)))
+        write('b.csv', 'X,Y,Z,i,R,G,B\n' + ''.join(f'{row} {i} {word}\n'.replace(' ', ',') for row, i, word in zip(rows, intensity, words)))
+        write('c.pts', '400\n' + ''.join(f'{row} {i} {word}\n' for row, i, word in zip(rows, intensity, words)))
+        write('d.ptx', '400\n1\n9 9 9\n1 0 0\n0 1 0\n0 0 1\n1 0 0 0\n0 1 0 0\n0 0 1 0\n0 0 0 1\n'
+              + ''.join(f'{row} {i} {word}\n' for row, i, word in zip(rows, intensity, words)))
+        write('e.ply', head(400, 'double x, double y, double z, ushort red, ushort green, ushort blue')
+              + ''.join(f'{row} {257 * r} {257 * g} {257 * b}\n' for row, (r, g, b) in zip(rows, colors)))
+        for name in ('a.xyz=0,0,5', 'b.csv=0,0,5', 'c.pts=0,0,5', 'd.ptx', 'e.ply=0,0,5'):
+            table = read_table([name] if 'ptx' not in name else [name], position='header' if 'ptx' in name else None)[0]  # type: ignore[arg-type]
+            found = table.colors()
+            assert found is not None
+            equal((name, (found == colors).all(), np.abs(table.points() - points).max() < 1e-6), (name, True, True))
+        write('f.pts', '400\n' + ''.join(f'{row} {i}\n' for row, i in zip(rows, intensity)))
+        gray = read_table(['f.pts=0,0,5'])[0].colors()
+        assert gray is not None
+        order = np.argsort(colors[:, 0], kind='stable')
+        equal(((np.diff(gray[order, 0].astype(int)) >= 0).all(), gray.min(), gray.max(), (gray[:, 0] == gray[:, 2]).all()), (True, 0, 255, True))
 
     def test_scans_are_loaded_as_they_were_written(self) -> None:
         write('a.ply', head(2, 'double x, double y, double z, ushort red, ushort green, ushort blue, int scanner', 1)
               + '1 2 3 0 257 65535 0\n4 5 -6e1 0 0 0 0\n7 8 9\n')
-        table = load_scan('a.ply')
+        table = read_table(['a.ply'])[0]
         colors = table.colors()
         assert table.sights is not None and table.scanners is not None and colors is not None
         equal((table.points().tolist(), table.scanners.tolist(), colors.tolist()), ([[1, 2, 3], [4, 5, -60]], [[7, 8, 9]], [[0, 1, 255], [0, 0, 0]]))
         write('b.ply', head(2, 'double x, double y, double z, list uchar int scanner, uchar weight', 2) + '1 2 3 2 0 1 9\n4 5 6 0 1\n0 0 0\n1 1 1\n')
-        table = load_scan('b.ply')
+        table = read_table(['b.ply'])[0]
         assert table.sights is not None
         equal(([part.tolist() for part in table.sights], table.columns['weight'].tolist()), ([[2, 0], [0, 1]], [9, 1]))

@@ -5,11 +5,8 @@ import random
 import unittest
 from typing import Optional
 
-import numpy as np
-
 from helpers import equal
 from recon.toolbox import whole_text
-from recon.toolbox.plain_tables import numbers_in
 from recon.toolbox.whole_text import whole_numbers
 
 GOOD = (b'', b'\n', b' \n  ', b'0\n', b'-0 7\n', b'00000000 99999999\n', b'-99999999\n', b'1 2\n3\n', b'12345678 ', b'1  2\n\n3 ')
@@ -62,11 +59,3 @@ class WholeText(unittest.TestCase):
             digits = [word[1:] if word[:1] == b'-' else word for word in words if word]
             is_good = text[-1:] in (b' ', b'\n') and all(word.isdigit() and len(word) <= 8 for word in digits)
             equal((text, got(text)), (text, [int(word) for word in words if word] if is_good else None))
-
-    def test_numbers_as_floating_point(self) -> None:
-        for text in (b'1 2\t3\r\n', b'123456789 -5\n', b'9007199254740993 1\n', b'1.5 2\n', b'1e2\n', b''):
-            numbers = numbers_in(text)
-            assert numbers is not None
-            equal((text, numbers.dtype, numbers.tolist()), (text, np.dtype(float), [float(word) for word in text.split()]))
-        for text in (b'1 x\n', b'1e999\n', b'nan\n', b'1,2\n', b'- 1\n'):
-            equal((text, numbers_in(text)), (text, None))

@@ -15,7 +15,8 @@ use Rattle.geo_sign.specs.Sights.{is_crossed, is_towards, is_cell_of}
 use Rattle.geo_sign.specs.Tetrahedron.{facet_of}
 use Rattle.geo_sign.proofs.Rewritings.{rewritten_back, same_lying}
 use Rattle.cell_laws.specs.Links.{Side}
-use Rattle.cell_laws.specs.Lists.{IsIn, count, one_if}
+use Rattle.cell_laws.specs.Lists.{IsIn, count}
+use Rattle.geo_sign.specs.Edges.{one_if}
 use Rattle.cell_laws.specs.Paths.{IsOnSight, is_that, entered_facet}
 use Rattle.cell_laws.proofs.Crossings.{left_turned}
 use Rattle.cell_laws.proofs.Scanners.{near_law}

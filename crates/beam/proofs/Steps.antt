@@ -15,7 +15,7 @@ use Rattle.geo_sign.specs.Rational.{displaced}
 use Rattle.geo_sign.specs.Sights.{is_crossed, is_towards}
 use Rattle.geo_sign.specs.Tetrahedron.{facet_of}
 use Rattle.cell_laws.specs.Links.{Side}
-use Rattle.cell_laws.specs.Lists.{one_if}
+use Rattle.geo_sign.specs.Edges.{one_if}
 use Rattle.cell_laws.specs.Paths.{is_that}
 use Rattle.cell_laws.proofs.OneFacet.{same_side}
 use Rattle.cell_laws.proofs.SightPaths.{that_is, that_itself}

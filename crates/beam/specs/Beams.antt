@@ -1,22 +1,31 @@
 -- The lines of sight of one scanner, each followed from there to some cell, and what they are yet to add to the counters.
 --
---   IsPassage s o y p          the cell y as it is left
---   IsWaiting s o y r          a line of sight passes the cell y
---   AreWaiting s o w           so do all of a list
---   AllWait s o waiting        so do all that wait, each its cell
---   total f waiting            the sum of a number over them
---   weight_on s o id k r       the weight that a line of sight adds to facet k of a cell
---   is_yet s o id k y p        1 if it is yet to cross that facet, followed to the cell y; else 0
---   still_added s o id k y r   the weight that it is yet to add to the facet
---   steps_left s o y r         more than how many facets it is yet to cross
---   work s o waiting           more than how many steps a loop over those that wait takes
+--   IsPassage s o y p          p describes the live cell y from which lines of sight leave: its number, its four
+--                              vertices, and how lines of sight came into it (`AreWays`)
+--   IsWaiting s o y r          r is a line of sight of the store (`IsRayIn`), and it passes the live cell y
+--   AreWaiting s o w           w is a live cell with a list of lines of sight, and each of them passes the cell
+--                              (`IsWaiting`)
+--   AllWait s o waiting        each entry of the list is a live cell with lines of sight that pass it (`AreWaiting`)
+--   total f waiting            the sum of a number f over all lines of sight that wait, each with its cell
+--   weight_on s o id k r       the weight of the line of sight if it crosses facet k of the cell, else 0
+--   is_yet s o id k y p        1 if the line of sight of the vertex p, followed from the scanner to the cell y, has
+--                              still to cross the facet of side k of the cell id, else 0. `sides_from` has the facets
+--                              that it has passed
+--   still_added s o id k y r   the weight that the line of sight r, followed from the scanner to the cell y, will still
+--                              add to the facet of side k of the cell id: all of its weight, or 0
+--   steps_left s o y r         an upper bound of the number of facets that the line of sight r, followed from the
+--                              scanner to the cell y, has still to cross: the number of slots of the store plus 1,
+--                              minus the facets between y and the scanner
+--   work s o waiting           an upper bound of the number of steps of a loop over all lines of sight that wait: twice
+--                              the sum of their `steps_left`, plus the number of cells in which some wait
 use Rattle.std.specs.Prelude.{ℕ, ◌≡◌, ◌+◌, ◌-◌, ◌*◌, List, length, if◌then◌else◌}
 use Rattle.std.specs.List.{All, sum_by}
 use Rattle.geo_sign.specs.Point.{Point}
 use Rattle.geo_sign.specs.Rational.{displaced}
 use Rattle.geo_sign.specs.Sights.{is_crossed}
 use Rattle.geo_sign.specs.Tetrahedron.{facet_of}
-use Rattle.cell_laws.specs.Lists.{count, one_if}
+use Rattle.cell_laws.specs.Lists.{count}
+use Rattle.geo_sign.specs.Edges.{one_if}
 use Rattle.cell_laws.specs.Paths.{IsOnSight, is_that}
 use Rattle.tetra_store.specs.Links.{links_of, tetrahedron_from, IsLive}
 use Rattle.tetra_store.specs.Store.{Store, vertices_of}

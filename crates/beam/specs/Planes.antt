@@ -1,9 +1,10 @@
 -- The plane through a scanner and an edge.
 --
---   vector_of d           a vector's coordinates
---   IsRounded n h doubt   a vector in place of a normal n: a product with it over the doubt has the sign of that with n
---   IsPlane w             what a plane keeps
---   IsPlaneOf s b c w     it is that of these points
+--   vector_of d           the vector that a `Direction` of the code is
+--   IsRounded n h doubt   if a product with the rounded normal is over the doubt, it has the sign of the product with
+--                         the exact one
+--   IsPlane w             the plane through the scanner and two points, with a normal that may be rounded
+--   IsPlaneOf s b c w     w is the plane (`IsPlane`) through the scanner s and the points b and c
 use Rattle.std.specs.Prelude.{ℕ, pos, neg_ℤ, ◌≡◌, ◌^◌, ◌<ℤ◌}
 use Rattle.geo_sign.specs.declared.point.TheConstants.{BOX_LIMIT}
 use Rattle.geo_sign.specs.Point.{Point, point, IsWithin, step, cross, dot}

@@ -1,15 +1,25 @@
 -- The side through which a line of sight came into a cell, by what the cell looks like from the scanner.
 --
---   IsRayIn s r               a line of sight of an inserted data point
---   IsCrossing q a b c p      the line of sight from p crosses the facet a b c
---   AreKnown s v              the four vertices of a cell exist
---   IsTurn u                  the facets of three sides turn around a vertex
---   IsAhead v q t k           the scanner is on the inner side of the facet of side k
---   AreAhead v q t ahead      for which sides it is
---   IsBeforePlane v q w p     it is on the inner side of the facet of p and a plane's two points
---   AllEnter v q t test k     each line of sight that passes the cell and the test came in through side k
---   IsPair, IsTriple          two sides that a plane parts; three, and the vertex between them
---   AreWays v s t ways        how lines of sight came into the cell
+--   IsRayIn s r               a line of sight to the scanner. Its vertex is an inserted data point of the store, at the
+--                             stated position
+--   IsCrossing q a b c p      the line of sight from q to the point p crosses the facet a b c: q is before it, p is
+--                             behind it, and the line passes its three edges on their inner sides
+--   AreKnown s v              each of the four numbers in v is that of a vertex of the store
+--   IsTurn u                  the facets of three sides follow each other around a vertex
+--   IsAhead v q t k           the scanner is strictly on the inner side of the facet of side k of t
+--   AreAhead v q t ahead      for each of the four sides of t, its entry in the list is true exactly if the scanner is
+--                             strictly on the inner side of its facet
+--   IsBeforePlane v q w p     the scanner is strictly on the inner side of the facet of the vertex p and the two points
+--                             of the plane w
+--   AllEnter v q t test k     each line of sight that passes t, and whose vertex passes the test, came into t through
+--                             side k (or, if k is 4, begins there: t is the cell at its vertex)
+--   IsPair v s t w            each line of sight that passes t came in through the first of two sides if
+--                             `IsBeforePlane` holds for its vertex and a plane, and else through the second
+--   IsTriple v s t w          t has three sides and a vertex between them. The line of sight of this vertex begins in
+--                             t, and each other one that passes t came in through the side of the three that three
+--                             planes determine
+--   AreWays v s t ways        how the lines of sight to a scanner came into a cell: each through the side that the
+--                             planes say
 use Rattle.std.specs.Prelude.{ℕ, ◌≡◌, ◌≢◌, ◌<◌, ◌≤◌, ◌⊎◌, ◌↔◌, ◌<ℤ◌, pos, Bool, false, List, IsTrue, length, get_or, slice_index}
 use Rattle.std.specs.Prelude.{slice_index_or}
 use Rattle.geo_sign.specs.declared.point.TheConstants.{CORNERS}

@@ -1,6 +1,8 @@
 //! Follows all lines of sight of one scanner through linked Delaunay cells at once, from the scanner outward, and counts at each
 //! directed facet those that cross it.
 //!
+//! Verified: `Beams` adds to the counter of each directed facet the weights of exactly the lines of sight that cross it.
+//!
 //! `sight` walks along one line of sight at a time. Here all that pass a cell are handled together: what the cell looks like
 //! from the scanner is computed once, and then each line of sight takes one or two signs of a product of three 64-bit numbers.
 //!

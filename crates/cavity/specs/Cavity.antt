@@ -1,7 +1,9 @@
 -- The cavity of a vertex.
 --
---   IsCavity s p cells fan    the cells are exactly the live ones in conflict with p, each once, and `fan` is the boundary of
---                             this region, over which Delaunay cells with p are put; the store can replace the cells so
+--   IsCavity s p cells fan    the cells are exactly the live ones in conflict with p, each once. Each boundary facet is
+--                             `IsOnFan` of `cell_laws`, so by `FanLaw` it is a facet of a cell with p after p is
+--                             inserted. If `spare` is enough, `replace` may be called with these, so the boundary is
+--                             complete
 use Rattle.std.specs.Prelude.{ℕ, ◌<◌, ◌≤◌, List, length, Contains}
 use Rattle.tetra_store.specs.declared.fan.Facet.{Facet}
 use Rattle.tetra_store.specs.Links.{links_of, IsLive}

@@ -1,18 +1,27 @@
 -- A flood fill over the links of cells, from cell to adjacent cell. Sides are counted through the list of cells that were
 -- reached: side k of the cell at index j has the number 4 * j + k. The list `fan` has the boundary facets that were found.
 --
---   AreMarked stamps round cells             exactly the cells reached are marked
---   facet_on f across                        a facet with its adjacent cell
---   IsReached, IsNewlyReached, IsLeft        the three ways to cross a facet: the adjacent cell was reached before; it is
---                                            reached now; it is not in conflict or does not exist, and the facet is appended to
---                                            the boundary
---   IsCrossed v links p f across c g c' g'   the facet f was crossed in one of the three ways, from cells c and boundary g to
---                                            c' and g'
---   IsRimAt v links p cells fan n i          boundary facet i is that of a side that was crossed
---   HasFanFacet fan f across                 the boundary has the facet f, with this adjacent cell
---   IsPassed cells fan f across              the adjacent cell was reached, or the facet is on the boundary
---   IsFlooding v links p from cells fan n    the first n sides of the cells reached were crossed
---   IsVisited v links p id c g c' g'         the four sides of one more cell were crossed too
+--   AreMarked stamps round cells             the numbers that are marked in this round are exactly those in the list of
+--                                            cells
+--   facet_on f across                        a boundary facet: the facet f with its adjacent cell
+--   IsReached                                three ways to cross a facet: the adjacent cell was reached before, and
+--                                            nothing changes
+--   IsNewlyReached                           the adjacent cell is in conflict and is reached now
+--   IsLeft                                   no adjacent cell is in conflict, and the facet is appended to the boundary
+--   IsCrossed v links p f across c g c' g'   the facet f was crossed in one of three ways (`IsReached`,
+--                                            `IsNewlyReached`, `IsLeft`), from cells c and boundary g to cells c' and
+--                                            boundary g'
+--   IsRimAt v links p cells fan n i          boundary facet i is the facet of one of the first n sides of the cells
+--                                            reached, with the neighbor there, which is not in conflict
+--   HasFanFacet fan f across                 the boundary has the facet f with this adjacent cell
+--   IsPassed cells fan f across              the adjacent cell exists and was reached, or the boundary has the facet f
+--                                            with this adjacent cell
+--   IsFlooding v links p from cells fan n    the first n sides of the cells reached were crossed. The cells reached
+--                                            contain the first one, are live, distinct and in conflict, and each
+--                                            boundary facet is one of these sides, each once
+--   IsVisited v links p id c g c' g'         if the sides of all cells before the cell id were crossed (`IsFlooding`),
+--                                            its four sides were crossed too, with the cells c' and the boundary g' as
+--                                            the result
 use Rattle.std.specs.Prelude.{ℕ, ◌≡◌, ◌<◌, ◌+◌, ◌*◌, ◌⊎◌, List, [], ◌∷◌, ◌++◌, Option, Some, length, slice_index, Contains}
 use Rattle.geo_sign.specs.Tetrahedron as geo
 use Rattle.geo_sign.specs.Tetrahedron.{facet_of, IsRotated}

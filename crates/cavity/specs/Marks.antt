@@ -1,7 +1,8 @@
 -- Marks by round numbers.
 --
---   IsMarked stamps round x     the entry of x is the number of the round
---   AreStamps stamps round      no entry is that of a later round, and the round is not that of numbers without an entry
+--   IsMarked stamps round x     the entry of x in the list is the number of the round
+--   AreStamps stamps round      the number of the round is at least 1, and no entry of the list is greater. A number
+--                               past the end of the list has the entry 0, so no round marks it
 use Rattle.std.specs.Prelude.{ℕ, ◌≡◌, ◌<◌, ◌≤◌, List, slice_index}
 
 -- the entry of x is the number of the round

@@ -2,6 +2,8 @@
 //! steps of walks along sights; over the cells of a cube's faces, of a noisy sphere and of a flat lattice, each generated from
 //! fixed seeds.
 //!
+//! Verified: only that it is safe: it measures the speed of linked cells for `make bench`.
+//!
 //! Without an argument it uses few points and prints the number of calls and the sum of their results, which are the same in
 //! every run and on every machine. With an argument, the number of points, it also prints nanoseconds a call: `cell_bench
 //! 100000`.
@@ -26,7 +28,7 @@ use anyhow::ensure;
 use delaunay::build;
 use gen_scan::gen_scan;
 use geo_sign::Point;
-use scan::Scan;
+use scan_rows::Scan;
 use std::alloc::{AllocError, Global};
 use std::env;
 use std::time::{Clock, Instant};

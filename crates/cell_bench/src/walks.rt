@@ -12,7 +12,7 @@ ghost use Rattle.tetra_store.specs.Store.{vertices_of};
 use crate::NoMemory;
 use crate::calls::Answers;
 use geo_sign::{CORNERS, Point};
-use scan::Seen;
+use scan_rows::Seen;
 use sight::walk_into;
 use std::alloc::Global;
 use tetra_store::{CellId, Tetra};

@@ -13,7 +13,8 @@ use Rattle.std.proofs.lemmas.Bool.{and_parts, and_from, not-true, not_from_false
 use Rattle.std.proofs.lemmas.List.Sums.{sum_by-cons}
 use Rattle.geo_sign.specs.declared.point.TheConstants.{CORNERS}
 use Rattle.geo_sign.specs.Tetrahedron.{Tetrahedron, DirectedFacet, facet_of, IsRotated}
-use Rattle.cell_laws.specs.ClosedLaws.{edges_of, edge_count, facets_at, HasNoCorner, IsCutList, ClosedLaw}
+use Rattle.geo_sign.specs.Edges.{edges_of, edge_count}
+use Rattle.cell_laws.specs.ClosedLaws.{facets_at, HasNoCorner, IsCutList, ClosedLaw}
 use Rattle.cell_laws.specs.Links.{Side}
 use Rattle.cell_laws.specs.Lists.{IsIn}
 use Rattle.geo_sign.proofs.Rotations.{turned_back, turned_turned}

@@ -12,9 +12,10 @@ use Rattle.std.proofs.Common.{false, ◌&&◌, ◌==◌, cond, eqb, Option, Some
 use Rattle.std.proofs.lemmas.Bool.{eqb-true, eq-eqb, and_from}
 use Rattle.std.proofs.Math.Bool.{and_comm}
 use Rattle.geo_sign.specs.Tetrahedron.{Tetrahedron, DirectedFacet, facet, facet_of, vertex_of, IsTurned, is_same_facet}
-use Rattle.cell_laws.specs.ClosedLaws.{one_edge, edges_of}
+use Rattle.geo_sign.specs.Edges.{one_edge, edges_of}
 use Rattle.cell_laws.specs.Links.{Side}
-use Rattle.cell_laws.specs.Lists.{IsIn, one_if}
+use Rattle.cell_laws.specs.Lists.{IsIn}
+use Rattle.geo_sign.specs.Edges.{one_if}
 use Rattle.geo_sign.proofs.Among.{same_itself, same_means}
 use Rattle.cell_laws.proofs.Sums.{IsOnce}
 

@@ -21,7 +21,8 @@ use Rattle.geo_sign.specs.Sights.{is_crossed, is_towards, is_cell_of}
 use Rattle.geo_sign.specs.Boxes.{IsBoxed}
 use Rattle.cell_laws.specs.Lifts.{is_higher}
 use Rattle.cell_laws.specs.Links.{Side, AreLinked, IsBackAt}
-use Rattle.cell_laws.specs.Lists.{IsIn, AreCells, IsListing, count, one_if}
+use Rattle.cell_laws.specs.Lists.{IsIn, AreCells, IsListing, count}
+use Rattle.geo_sign.specs.Edges.{one_if}
 use Rattle.geo_sign.specs.Writings.{IsRewritten}
 use Rattle.geo_sign.specs.Places.{IsNearer}
 use Rattle.geo_sign.proofs.Bounds.{data_in_box}

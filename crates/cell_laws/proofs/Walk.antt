@@ -11,7 +11,8 @@ use Rattle.geo_sign.specs.Cells.{IsCell}
 use Rattle.geo_sign.specs.Tetrahedron.{Tetrahedron, tetrahedron}
 use Rattle.geo_sign.specs.Vertices.{orientation_of, Vertices}
 use Rattle.cell_laws.specs.Lifts.{is_higher, lift_of}
-use Rattle.cell_laws.specs.Lists.{count, IsIn, one_if}
+use Rattle.cell_laws.specs.Lists.{count, IsIn}
+use Rattle.geo_sign.specs.Edges.{one_if}
 use Rattle.geo_sign.specs.Writings.{IsRewritten}
 use Rattle.geo_sign.proofs.Rewritings.{IsCellOf, orientation_at, same_cell, same_orientation}
 use Rattle.cell_laws.proofs.Fan.{across_above}

@@ -1,11 +1,12 @@
 -- Theorems on the cells over the vertices that are in.
 --
---   ThreeTermsLaw     the powers at two tetrahedra that share a facet
+--   ThreeTermsLaw     how the powers of one more vertex at two tetrahedra with a common facet are related
 --   GenericLaw        the power is zero at a tetrahedron's own vertices alone
---   EnvelopeLaw       over a place, the cell that has it is the highest
+--   EnvelopeLaw       over a place no cell's plane is higher than that of the cell that contains the place
 --   HasOneAcross      exactly one vertex makes an adjacent cell at a facet
 --   AcrossLaw         each facet of a cell is on a wall, or has exactly one adjacent cell
---   HaveOneFacet      two cells have a directed facet in common at one side at most, and are then one
+--   HaveOneFacet      if two cells have a directed facet in common, they have the same four vertices. A cell has a
+--                     directed facet at one side only
 --   FacetLaw          at most one cell has a given directed facet, at one side
 --   PlaceLaw          each place of the box lies in a cell
 --   OneLaw            a place strictly inside a cell lies in no other

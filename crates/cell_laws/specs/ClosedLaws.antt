@@ -1,29 +1,18 @@
 -- The facets between cells inside and outside are closed. Labels are a test of names.
 --
---   edges_of u w f                     how many of the three directed edges of f go from u to w
---   edge_count u w facets              how many of those of a list of facets
 --   HasNoCorner live cell inside       no cell inside has a corner of the box
---   IsCutList live next inside sides   the sides of outside cells whose adjacent cell is inside, each once
---   facets_at cell sides               the facets of these sides, as the outside cells have them
---   ClosedLaw                          each directed edge stands in these facets as often as its reverse
-use Rattle.std.specs.Prelude.{ℕ, ◌+◌, ◌<◌, ◌≤◌, ◌≡◌, ◌≢◌, ◌==◌, ◌&&◌, Bool, true, false, Option, Some, List, map, AllPairs}
-use Rattle.std.specs.List.{sum_by}
+--   IsCutList live next inside sides   the sides of outside cells with an inside adjacent cell, each once
+--   facets_at cell sides               the facets of these sides, each in the direction that it has in its own cell
+--   ClosedLaw                          between outside and inside cells each directed edge occurs as often as its
+--                                      reverse
+use Rattle.std.specs.Prelude.{ℕ, ◌<◌, ◌≤◌, ◌≡◌, ◌≢◌, Bool, true, false, Option, Some, List, map, AllPairs}
 use Rattle.geo_sign.specs.declared.point.TheConstants.{CORNERS}
 use Rattle.geo_sign.specs.Tetrahedron.{Tetrahedron, DirectedFacet, facet_of, vertex_of}
 use Rattle.geo_sign.specs.Vertices.{Vertices}
 use Rattle.geo_sign.specs.Boxes.{IsBoxed}
 use Rattle.cell_laws.specs.Links.{Side, AreLinked}
-use Rattle.cell_laws.specs.Lists.{IsIn, AreCells, one_if}
-
--- 1 where the edge from x to y goes from u to w, else 0
-abbrev pub one_edge : (u w x y : ℕ) → ℕ
-one_edge u w x y = one_if ((x == u) && (y == w))
-
-abbrev pub edges_of : (u w : ℕ) → DirectedFacet → ℕ
-edges_of u w f = one_edge u w f.a f.b + one_edge u w f.b f.c + one_edge u w f.c f.a
-
-abbrev pub edge_count : (u w : ℕ) → List DirectedFacet → ℕ
-edge_count u w facets = sum_by (edges_of u w) facets
+use Rattle.geo_sign.specs.Edges.{edge_count}
+use Rattle.cell_laws.specs.Lists.{IsIn, AreCells}
 
 abbrev pub HasNoCorner : (live : List ℕ) (cell : ℕ → Tetrahedron) (inside : ℕ → Bool) → Type 0
 HasNoCorner live cell inside = (x k : ℕ) → IsIn live x → inside x ≡ true → k < 4 → CORNERS ≤ vertex_of (cell x) k

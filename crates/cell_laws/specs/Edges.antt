@@ -1,7 +1,7 @@
 -- The directed edges of facets, and new cells over facets.
 --
 --   IsFanList v p n f               the facets f 0 to f (n - 1) are the boundary of the conflict region, each once
---   AreEdges n f                    each directed edge's reverse is there, and each directed edge stands in one facet
+--   AreEdges n f                    each directed edge is in one facet, and its reverse is there too
 use Rattle.std.specs.Prelude.{ℕ, ◌≡◌, ◌<◌}
 use Rattle.geo_sign.specs.Edges.{edge_end, edge_start}
 use Rattle.geo_sign.specs.Tetrahedron.{DirectedFacet, facet, IsRotated}

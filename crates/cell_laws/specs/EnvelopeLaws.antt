@@ -1,8 +1,10 @@
 -- The planes of lifted tetrahedra over a place, beyond that the cell which has it is the highest.
 --
---   ThreeLiftsLaw       the planes over a place at two tetrahedra that share a facet
---   HasOtherBefore      a vertex that the other cell does not have, before whose facet the place is
---   StrictEnvelopeLaw   where there is one, the cell that has the place is the higher one
+--   ThreeLiftsLaw       how the planes over a place at two tetrahedra with a common facet are related
+--   HasOtherBefore v t r q k
+--                       vertex k of r is not a vertex of t, and q is strictly on the inner side of the facet of r
+--                       opposite to that vertex
+--   StrictEnvelopeLaw   if so and if q lies in r, the plane of t is below that of r at q
 use Rattle.std.specs.Prelude.{◌≡◌, ℕ, ℤ, pos, ◌-ℤ◌, ◌*ℤ◌, ◌<ℤ◌}
 use Rattle.geo_sign.specs.Boxes.{IsBoxed}
 use Rattle.geo_sign.specs.Cells.{IsCell}

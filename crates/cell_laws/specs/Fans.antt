@@ -1,6 +1,7 @@
 -- One vertex more: which cells it is in conflict with, and the facets over which it makes new cells.
 --
---   IsOnFan v p a b c       a facet between a cell in conflict with p and none, or one that p is not in conflict with
+--   IsOnFan v p a b c       a facet on the boundary of the conflict region of p: of a cell in conflict with p, with no
+--                           adjacent cell or one without conflict
 use Rattle.std.specs.Prelude.{ℕ, pos, ◌<ℤ◌, ◌≤ℤ◌}
 use Rattle.geo_sign.specs.Vertices.{Vertices, power_of}
 use Rattle.geo_sign.specs.Cells.{IsCell}

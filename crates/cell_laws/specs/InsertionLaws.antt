@@ -1,9 +1,12 @@
 -- Theorems on one vertex more. The boundary is that of the conflict region.
 --
---   FanLaw        the cells with the new vertex are those over the boundary, which is closed and lies before the vertex
---   StayLaw       the cells without it are those that it is not in conflict with
---   VertexLaw     no vertex is lost
---   FloodLaw      marked cells in conflict that no step between cells in conflict leaves are all cells in conflict
+--   FanLaw        the cells with the new vertex are exactly those that join it to a facet of the boundary. The boundary
+--                 is closed, and the vertex is on the inner side of each of its facets
+--   StayLaw       the cells without the new vertex are those that are not in conflict with it
+--   VertexLaw     no vertex is lost: if a cell is in conflict with p, each inserted vertex is in a facet of the
+--                 boundary, or in a cell without conflict
+--   FloodLaw      if marked cells are in conflict, and no step between cells in conflict leaves them, they are all
+--                 cells in conflict
 --   EdgeLaw       each directed edge of the boundary occurs once, and its reverse too
 use Rattle.std.specs.Prelude.{ℕ, ◌<◌, ◌≡◌, ◌≢◌, ◌⊎◌, ◌↔◌, Bool, true, pos, ◌<ℤ◌, ◌≤ℤ◌, List}
 use Rattle.geo_sign.specs.Tetrahedron.{Tetrahedron, DirectedFacet}

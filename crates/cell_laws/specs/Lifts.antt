@@ -1,8 +1,9 @@
 -- The planes of lifted cells. Each vertex is lifted by its height; over a place the lifted vertices of a cell span a plane.
 --
 --   lift a b c d ha hb hc hd q    the height at q of the plane through four lifted points, times their orientation
---   lift_of v t q                 the same for a tetrahedron of vertices
---   is_higher v q r t             whether t's plane is higher at q than r's
+--   lift_of v t q                 the height at q of the plane through the lifted vertices of t, times the orientation
+--                                 of t and the divisor of q
+--   is_higher v q r t             at q the plane of t is higher than that of r
 use Rattle.std.specs.Prelude.{ℤ, ◌+ℤ◌, ◌*ℤ◌, int_lt, Bool}
 use Rattle.geo_sign.specs.Point.{Point}
 use Rattle.geo_sign.specs.Rational.{RationalPoint, side}

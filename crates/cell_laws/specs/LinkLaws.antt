@@ -1,6 +1,6 @@
 -- Theorems on linked cells of any store: a list of live names, the cell of each, and the neighbor at each side.
 --
---   LinkedLaw     linked cells that are cells are all cells, each once
+--   LinkedLaw     linked cells, at least one and all of them cells of the vertices, are all cells, each once
 --   FoundLaw      the cell in which a new vertex lies is in conflict with it
 --   CavityLaw     a flood over the links marks exactly the cells in conflict
 --   RimLaw        the boundary of the conflict region is what links show at the sides of cells in conflict
@@ -25,7 +25,7 @@ FoundLaw =
     (v : Vertices) → IsBoxed v → (p : ℕ) → IsNew v p → (t : Tetrahedron) → IsCell v t.a t.b t.c t.d →
     IsLyingIn v t (rational (v.at p)) → IsInConflict v p t
 
--- the cells taken out are those in conflict with p
+-- the removed cells are those in conflict with p
 pub record AreConflicts (v : Vertices) (p : ℕ) (live : List ℕ) (cell : ℕ → Tetrahedron) (removed : ℕ → Bool) : Type 0 where
   pub taken : (x : ℕ) → IsIn live x → removed x ≡ true → IsInConflict v p (cell x)
   pub kept : (x : ℕ) → IsIn live x → removed x ≡ false → IsClearOf v p (cell x)
@@ -49,7 +49,7 @@ RimLaw =
     (v : Vertices) → IsBoxed v → (p : ℕ) (live : List ℕ) (cell : ℕ → Tetrahedron) (next : ℕ → ℕ → Option ℕ) →
     AreLinked v live cell next → AreCells v live cell → (x : ℕ) → IsIn live x → IsRimLaw v p live cell next
 
--- what a store of all cells has, for its next insertion too
+-- vertices of the box with linked cells that are all cells, each once
 pub record AreAllCells (v : Vertices) (live : List ℕ) (cell : ℕ → Tetrahedron) (next : ℕ → ℕ → Option ℕ) : Type 0 where
   pub boxed : IsBoxed v
   pub linked : AreLinked v live cell next

@@ -1,10 +1,11 @@
 -- Linked cells: x stands for the cell cell x, and next x k is the adjacent cell at its facet k.
 --
---   Side                                  a name and a side of its cell
---   AreLinked v live cell next            neighbors have the opposite facet, None occurs at walls only, no facet occurs twice
+--   Side                                  a name and one of its cell's sides
+--   AreLinked v live cell next            neighbors have the opposite facet, only walls have no neighbor, and no two
+--                                         cells have a directed facet in common
 --   IsFlooded v p live cell next marked   a neighbor in conflict of a marked cell in conflict is marked
---   IsRimSide v p cell next x k           at facet k no neighbor is in conflict
---   IsFanAt v p live cell next a b c      the facet a b c is that of a cell in conflict, on the boundary of the conflict region
+--   IsRimSide v p cell next x k           the side has no adjacent cell, or one without conflict
+--   IsFanAt v p live cell next a b c      the facet is that of one of these sides, of a cell in conflict
 use Rattle.std.specs.Prelude.{ℕ, ◌<◌, ◌≡◌, ◌⊎◌, Bool, true, Option, Some, None, List}
 use Rattle.geo_sign.specs.Tetrahedron.{Tetrahedron, DirectedFacet, facet, facet_of, IsTurned, IsRotated}
 use Rattle.geo_sign.specs.Vertices.{Vertices, IsWall}

@@ -3,12 +3,14 @@
 --   IsIn xs x                         x is in the list
 --   AreCells v live cell              each name stands for a cell
 --   IsFull, IsListing                 the names stand for all cells; and for each once
---   IsClosedInConflict v p live cell marked   no step between cells in conflict leaves the marked ones
---   count f xs                        how many pass a test
-use Rattle.std.specs.Prelude.{[], ℕ, ◌≡◌, ◌⊎◌, ◌+◌, Bool, true, false, List, ◌∷◌}
+--   IsClosedInConflict v p live cell marked
+--                                     if a marked cell is in conflict, each adjacent cell in conflict is marked too
+--   count f xs                        how many elements of a list pass a test
+use Rattle.std.specs.Prelude.{[], ℕ, ◌≡◌, ◌⊎◌, ◌+◌, Bool, true, List, ◌∷◌}
 use Rattle.geo_sign.specs.Tetrahedron.{Tetrahedron, tetrahedron}
 use Rattle.geo_sign.specs.Vertices.{Vertices}
 use Rattle.geo_sign.specs.Cells.{IsCell}
+use Rattle.geo_sign.specs.Edges.{one_if}
 use Rattle.geo_sign.specs.Writings.{IsRewritten}
 use Rattle.geo_sign.specs.Boxes.{IsInConflict}
 
@@ -33,11 +35,6 @@ IsClosedInConflict {X} v p live cell marked =
     (x y : X) (a b c d e : ℕ) → IsIn live x → IsIn live y → marked x ≡ true → IsInConflict v p (cell x) →
     IsInConflict v p (cell y) → IsRewritten (cell x) (tetrahedron a b c d) → IsRewritten (cell y) (tetrahedron a c b e) →
     marked y ≡ true
-
--- what one name adds to a count
-abbrev pub one_if : Bool → ℕ
-one_if true = 1
-one_if false = 0
 
 abbrev pub count : {X : Type 0} → (X → Bool) → List X → ℕ
 count f [] = 0

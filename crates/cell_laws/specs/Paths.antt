@@ -1,11 +1,12 @@
 -- The way of a sight over linked cells: from the cell at its vertex p that is towards the place s, to the cell that holds s.
 --
---   IsOnSight v p s t                     t is towards s at p, or the sight crosses one of its facets
---   entered_facet cell c                  the facet of a crossing, which is the side at which the sight comes into a cell
---   is_that c d                           d is the side c
---   IsSightStep v live cell next p s x c   the sight leaves the cell of x through the facet of c
---   IsSightPath v live cell next p s x cs   these are all facets that the sight crosses from the cell of x on
---   AreNearing v cell p s cs              each of the list is nearer than each later one
+--   IsOnSight v p s t                     a sight passes the cell
+--   entered_facet cell c                  the facet of a side
+--   is_that c d                           the side is this one
+--   IsSightStep v live cell next p s x c  a step of a sight through a facet
+--   IsSightPath v live cell next p s x cs   all facets that a sight crosses from a cell on, up to the scanner's cell
+--   AreNearing v cell p s cs              each side of a list has a facet that is crossed nearer to the vertex than
+--                                         those of all later sides
 use Rattle.std.specs.Prelude.{ℕ, ◌<◌, ◌≡◌, ◌⊎◌, ◌==◌, ◌&&◌, Bool, true, Option, Some, List, [], ◌∷◌}
 use Rattle.geo_sign.specs.Places.{IsNearer}
 use Rattle.geo_sign.specs.Tetrahedron.{turned, Tetrahedron, DirectedFacet, facet_of, IsTurned}

@@ -3,7 +3,7 @@
 --   ListLaw          the rows of the list stand for all cells, each row for one
 --   HasOneEach       of the rows exactly one is the cell of a scanner, and for each data point exactly one is towards it and
 --                    one behind the sight
---   RowSightLaw      each list of all cells has these
+--   RowSightLaw      each list of all cells has these cells of scanners and sights
 use Rattle.std.specs.Prelude.{ℕ, ◌≤◌, ◌≡◌, List, count_by}
 use Rattle.geo_sign.specs.Point.{Point, IsWithin}
 use Rattle.geo_sign.specs.declared.point.TheConstants.{CORNERS, DATA_LIMIT}

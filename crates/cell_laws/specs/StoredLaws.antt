@@ -1,11 +1,14 @@
 -- Theorems on stores: the vertices of a store, and cells as rows of numbers.
 --
 --   AllLaw                           the corners and distinct data points, all in, are vertices of the box
---   StoredLaw                        they are vertices of the box; a flag set is a vertex more; with all flags set they are all
---                                    vertices
+--   StoredLaw                        of the corners and distinct data points, those with a flag are inserted
+--                                    (`inserted_vertices`). They are vertices of the box. Setting one more flag inserts
+--                                    one more vertex. If all flags are set, a list of all cells of these vertices is
+--                                    one of all cells of `boxed_vertices`
 --   AreRowsOfCells                   each name has one row, the sorted vertex tuple of a cell, and each sorted vertex tuple of
 --                                    a cell is that of one name
---   RowLaw                           names that stand for all cells are so
+--   RowLaw                           each name of a listing has one sorted vertex tuple, and each sorted vertex tuple
+--                                    of a cell is that of one name
 use Rattle.std.specs.Prelude.{ℕ, ◌<◌, ◌≡◌, ◌≢◌, ◌↔◌, ◌+◌, Bool, true, false, Option, List, length, get_or, set, All, AllPairs}
 use Rattle.geo_sign.specs.Boxes.{inserted_vertices, IsBoxed, with_vertex}
 use Rattle.geo_sign.specs.Point.{Point, IsWithin}
@@ -22,8 +25,8 @@ abbrev pub AllLaw : Type 0
 AllLaw =
     (points : List Point) → All (IsWithin DATA_LIMIT) points → AllPairs (λ p q. p ≢ q) points → IsBoxed (boxed_vertices points)
 
--- points with a flag each, corners first, are the vertices of the box that an insertion speaks of, at its start, after each
--- vertex more, and with all of them in
+-- let points have a flag each, the corners first. The vertices that the flags state are vertices of the box: if only
+-- the corners are inserted, after each further insertion, and if all are inserted
 pub record AreStored (points : List Point) (flags : List Bool) : Type 0 where
   pub boxed :
       All (IsWithin DATA_LIMIT) points → AllPairs (λ p q. p ≢ q) points → ((k : ℕ) → k < CORNERS → get_or flags k false ≡ true) →

@@ -2,7 +2,8 @@
 --
 --   IsFifth v t u     four vertices positively oriented, and a fifth that is none of them
 --   IsSettled v t u   its power is not zero, and has one sign at the heights of every exponent above the five numbers
---   TieLaw            the power of each such vertex is settled
+--   TieLaw            the power of a fifth vertex is not zero, and its sign is the same at every exponent above the
+--                     five numbers
 use Rattle.std.specs.Prelude.{ℕ, ◌<◌, ◌≡◌, ◌≢◌, ℤ, pos, ◌<ℤ◌}
 use Rattle.geo_sign.specs.Signs.{sign_of}
 use Rattle.geo_sign.specs.Tetrahedron.{Tetrahedron}
@@ -21,7 +22,8 @@ pub record IsFifth (v : Vertices) (t : Tetrahedron) (u : ℕ) : Type 0 where
   pub positive : pos 0 <ℤ orientation_of v t.a t.b t.c t.d
   pub other : ¬ IsVertexOf t u
 
--- the power at the heights among fewer than n vertices, where the vertices themselves may be more or fewer
+-- the power of a fifth vertex at a tetrahedron, at the heights that the symbolic perturbation has for n vertices, even
+-- if there are more or fewer
 abbrev pub power_among : ℕ → Vertices → Tetrahedron → ℕ → ℤ
 power_among n v t u = tied_power n (t.a, v.at t.a) (t.b, v.at t.b) (t.c, v.at t.c) (t.d, v.at t.d) (u, v.at u)
 

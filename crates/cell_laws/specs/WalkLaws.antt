@@ -2,7 +2,9 @@
 -- symbolically perturbed scanner at s.
 --
 --   StepLaw       a walk over linked cells to a place of the box goes on, and ends
---   NearLaw       the places of walks are in the box, and how the sign of a side of theirs is found
+--   NearLaw       the places to which walks go are in the box. On which side of a facet a place of walks is follows
+--                 from the side of the vertex, and if the vertex is in the plane of the facet, from the side of the
+--                 scanner
 --   SpreadLaw     a perturbed scanner is in the plane of no three points but those on one line
 --   ScannerLaw    each scanner has one cell
 --   VertexSightLaw   each sight has one cell towards its scanner, and one behind
@@ -22,13 +24,16 @@ use Rattle.geo_sign.specs.Boxes.{IsBoxed}
 use Rattle.geo_sign.specs.Places.{IsInBox, IsLyingIn}
 use Rattle.cell_laws.specs.Lifts.{is_higher}
 use Rattle.cell_laws.specs.Links.{Side, AreLinked}
-use Rattle.cell_laws.specs.Lists.{IsIn, AreCells, one_if, count}
+use Rattle.cell_laws.specs.Lists.{IsIn, AreCells, count}
+use Rattle.geo_sign.specs.Edges.{one_if}
 use Rattle.geo_sign.specs.NearPlaces.{towards_place, behind_place}
 use Rattle.cell_laws.specs.Paths.{IsOnSight, is_that, entered_facet, IsSightPath, AreNearing}
 use Rattle.geo_sign.specs.Writings.{IsRewritten}
 
 -- ---- a walk to q
--- at a facet that has q behind it there is an adjacent cell, and fewer are higher at q than that one
+-- behind each facet of a cell that has the place q behind it there is an adjacent cell. The number of cells that are
+-- higher at q than this adjacent cell is smaller than the number of those that are higher than the cell itself. A cell
+-- with no such facet contains q
 pub record IsWalk (v : Vertices) (live : List ℕ) (cell : ℕ → Tetrahedron) (next : ℕ → ℕ → Option ℕ)
     (q : RationalPoint) : Type 0 where
   pub goes_on :
@@ -44,8 +49,9 @@ StepLaw =
     AreLinked v live cell next → AreCells v live cell → (q : RationalPoint) → IsInBox q → IsWalk v live cell next q
 
 -- ---- places near a data point
--- p is moved a little towards the perturbed scanner, or away from it: the side of any facet on which it then lies is the one on
--- which p lies, and where p is in the facet's plane the scanner's, or the one opposite to the scanner's
+-- p is moved a little towards the perturbed scanner, or away from it. It is then on the same side of each facet as p.
+-- If p is in the plane of the facet, it is on the side of the scanner if it was moved towards it, else on the other
+-- side
 pub record AreNear (p s : Point) : Type 0 where
   pub towards_in_box : IsInBox (towards_place p s)
   pub behind_in_box : IsInBox (behind_place p s)
@@ -117,8 +123,8 @@ SightLaw =
     (v : Vertices) → IsBoxed v → (p : ℕ) → Has v p → (s : Point) → IsWithin DATA_LIMIT s → (t : Tetrahedron) →
     IsCell v t.a t.b t.c t.d → IsPassedOnce v p (displaced s) t
 
--- from each cell on a sight one way leads on, over crossed facets, each nearer to p than the next; from the cell at p towards the
--- scanner it has them all
+-- from each cell on a sight exactly one way leads on to the scanner. It goes through crossed facets, each nearer to p
+-- than the next. The way from the cell at p towards the scanner has all crossed facets
 pub record HasPaths (v : Vertices) (live : List ℕ) (cell : ℕ → Tetrahedron) (next : ℕ → ℕ → Option ℕ) (p : ℕ)
     (s : RationalPoint) : Type 0 where
   pub some : (x : ℕ) → IsIn live x → IsOnSight v p s (cell x) → (cs : List Side) × IsSightPath v live cell next p s x cs

@@ -1,6 +1,8 @@
 //! Theorems on one Delaunay tetrahedralization under symbolic perturbation: what insertion, walks and lines of sight need from
 //! geometry, for any store of cells.
 //!
+//! Verified: theorems about the tetrahedralization: covering, uniqueness, insertion, walks, lines of sight, closed surfaces.
+//!
 //! The crate does no work at run time. Each function is a theorem: its contract is the statement and its body is empty, and
 //! proofs of other crates cite it. All theorems suppose one record of hypotheses, `IsBoxed`: the corners of the box are in
 //! place and in, the other vertices are distinct data points, in or not, and all have the heights of the perturbation. Cells

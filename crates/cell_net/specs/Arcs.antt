@@ -1,14 +1,15 @@
 -- What linked cells and visibility weights are as nodes and arcs. Node v is the cell with number v, arc 4 * v + k its side k.
 --
---   across slots j             the adjacent cell at the side of an arc
+--   across slots j             the neighbor at side j % 4 of cell j / 4
 --   neighbor_or_self slots j   the node that an arc enters: the neighbor, or on a wall the cell itself
 --   is_free fixed other        there is a neighbor, and it is free
---   is_paired slots fixed j    it leads from a free cell to a free neighbor, so the way back is an arc too
+--   is_paired slots fixed j    the cell of the side is free too, so the arc has a reverse
 --   capacity_of ..             the visibility weight for each crossing and the area weight, if the neighbor exists and is free
 --   is_outside slots fixed v   the number has no cell, or a fixed one
 --   sink_of ..                 the visibility weight for each sight that the cell is behind
---   IsShape slots ..           they are a network: counts for each number that can have a cell, nodes at both ends of each arc, and
---                              amounts that fit
+--   IsShape slots crossed behind fixed settings
+--                              the lists are a network: counts for each number that can have a cell, nodes at both ends
+--                              of each arc, and amounts that fit
 use Rattle.std.specs.Prelude.{ℕ, ◌≢◌, ◌<◌, ◌≤◌, ◌^◌, length, ◌+◌, ◌*◌, ◌/◌, ◌%◌, ◌&&◌, ◌||◌, Bool, false, not, List, Option}
 use Rattle.std.specs.Prelude.{Some, None, slice_index, unwrap_or, if◌then◌else◌}
 use Rattle.flow_net.specs.Nets.{flag_at}

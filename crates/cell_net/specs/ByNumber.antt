@@ -1,8 +1,9 @@
 -- What is said of cells and sides by their numbers in the store, and of cells and facets by their vertices.
 --
---   SaysOfCells slots at row              of each live cell a function of numbers says what one of rows says of its row
---   SaysOfSides slots fixed at facet      of each side with a free adjacent cell it says what one of facets says of its facet
---   IsZeroElsewhere slots fixed at        of every other side of a live cell it says 0
+--   SaysOfCells slots at row              the values by the numbers of cells are those of sorted vertex tuples
+--   SaysOfSides slots fixed at facet      the values by the numbers of sides with a free adjacent cell are those of
+--                                         facets
+--   IsZeroElsewhere slots fixed at        all other sides have 0
 use Rattle.std.specs.Prelude.{ℕ, ◌≡◌, ◌<◌, ◌+◌, ◌*◌, Bool, true, false, Option, List}
 use Rattle.tetra_store.specs.declared.link.Cell.{Cell}
 use Rattle.tetra_store.specs.Links.{links_of, IsLive}

@@ -1,11 +1,13 @@
 -- A cell's numbers as they rise, and a facet from its least number on, as the code computes them.
 --
---   low x y, high x y      two numbers in order
+--   low x y                the smaller of two numbers
+--   high x y               the larger one
 --   order_ab t, ..         two of the four in order
---   risen t                four numbers in order, by five exchanges
---   row_from t             four numbers as a list
---   least_first f          the facet with its least number first
---   facet_row t k          the numbers of the facet of side k, the least first
+--   risen t                the tetrahedron with all four numbers in ascending order, by the five steps `order_ab`,
+--                          `order_cd`, `order_ac`, `order_bd` and `order_bc`
+--   row_from t             the list of the four numbers of a tetrahedron
+--   least_first f          the facet from its smallest number on, in the same direction
+--   facet_row t k          the three numbers of the facet of side k of t, from the smallest on
 use Rattle.std.specs.Prelude.{ℕ, ◌&&◌, nat_lt, List, [], ◌∷◌, if◌then◌else◌}
 use Rattle.geo_sign.specs.Tetrahedron.{Tetrahedron, tetrahedron, DirectedFacet, facet, facet_of, numbers_of}
 
@@ -17,23 +19,23 @@ low x y = if nat_lt y x then y else x
 abbrev pub high : ℕ → ℕ → ℕ
 high x y = if nat_lt y x then x else y
 
--- an exchange of two vertices, where they fall
+-- the tetrahedron with its numbers a and b in ascending order
 abbrev pub order_ab : Tetrahedron → Tetrahedron
 order_ab t = tetrahedron (low t.a t.b) (high t.a t.b) t.c t.d
 
--- the same of the other pair
+-- the tetrahedron with its numbers c and d in ascending order
 abbrev pub order_cd : Tetrahedron → Tetrahedron
 order_cd t = tetrahedron t.a t.b (low t.c t.d) (high t.c t.d)
 
--- the lesser of the two pairs, behind which a is the least of all
+-- the tetrahedron with its numbers a and c in ascending order
 abbrev pub order_ac : Tetrahedron → Tetrahedron
 order_ac t = tetrahedron (low t.a t.c) t.b (high t.a t.c) t.d
 
--- the greater of the two pairs, behind which d is the greatest of all
+-- the tetrahedron with its numbers b and d in ascending order
 abbrev pub order_bd : Tetrahedron → Tetrahedron
 order_bd t = tetrahedron t.a (low t.b t.d) t.c (high t.b t.d)
 
--- the two that are left
+-- the tetrahedron with its numbers b and c in ascending order
 abbrev pub order_bc : Tetrahedron → Tetrahedron
 order_bc t = tetrahedron t.a (low t.b t.c) (high t.b t.c) t.d
 

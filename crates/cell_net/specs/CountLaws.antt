@@ -1,8 +1,13 @@
 -- Counts do not depend on how a facet or a cell is written.
 --
---   FacetCountLaw     the crossings of a facet, from whatever vertex on it is written
---   AreCellCounts     what the counts by rows are for a cell as the store has it
---   CellCountLaw      so they are for each live cell
+--   FacetCountLaw     the total weight of the sights that cross a facet does not depend on the vertex from which the
+--                     facet is written
+--   AreCellCounts s slots id
+--                     the weight of the sights that the cell with this number is behind, and whether it is fixed
+--                     outside, can be computed from its vertices in the store's order, as well as from its sorted
+--                     vertex tuple
+--   CellCountLaw      `AreCellCounts` holds for each live cell of a store that has all cells of the scene
+--                     (`AreCellsOf`)
 use Rattle.std.specs.Prelude.{ℕ, ◌≡◌, ◌||◌, List, Option}
 use Rattle.flow_net.specs.Weights.{weight_where}
 use Rattle.geo_sign.specs.Sights.{is_behind}

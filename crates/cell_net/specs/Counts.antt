@@ -1,12 +1,14 @@
 -- What is asked of the counts, and what is made of them. Counts are by the numbers that cells have in the store.
 --
---   AreCellsOf scene slots  the store has all cells of the scene
+--   AreCellsOf scene slots  the store's live cells are all cells of the scene, each once, linked (`AreAllCells`)
 --   row_of slots id         the four vertices of a live cell, in ascending order
---   AreCrossingCounts       what the sights that cross the facet of each side weigh
---   AreBehind               what the sights that each cell is behind weigh
---   AreFixed                which cells are fixed outside
---   AreIdsOf                the cells' numbers in the store, in the order of their rows
---   AreCountsOf             what a network is made of: all cells, not too many, and their counts
+--   AreCrossingCounts       at 4 * id + side: the sum of the weights of the sights that cross the facet of that side
+--   AreBehind               at the number of each cell: the sum of the weights of the sights that the cell is behind
+--   AreFixed                at the number of each cell: whether it is fixed outside
+--   AreIdsOf slots rows ids   for each sorted vertex tuple the number of the live cell that has it
+--   AreCountsOf scene slots crossed behind fixed
+--                           what a network is made of: all cells of the scene, not too many, and these three lists of
+--                           counts
 use Rattle.std.specs.Prelude.{ℕ, ◌≡◌, ◌<◌, ◌≤◌, ◌+◌, ◌*◌, ◌^◌, Bool, List, [], Option, length, slice_index}
 use Rattle.std.specs.Prelude.{slice_index_or}
 use Rattle.geo_sign.specs.Tetrahedron.{DirectedFacet, facet_of, IsRotated}

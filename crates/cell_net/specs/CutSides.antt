@@ -1,6 +1,6 @@
 -- The sides between outside and inside cells, as a relation.
 --
---   IsCutSide slots outside x          x is a side of an outside cell, with an inside adjacent cell
+--   IsCutSide slots outside x          a side of a live outside cell whose adjacent cell is inside
 --   AreCutSides slots outside sides    exactly these sides, each once
 use Rattle.std.specs.Prelude.{ℕ, ◌≡◌, ◌<◌, Bool, true, false, List, Option, Some, Contains}
 use Rattle.flow_net.specs.Nets.{flag_at}

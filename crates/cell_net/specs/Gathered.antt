@@ -1,11 +1,18 @@
 -- Cells and sides as the code lists them.
 --
---   row_at e, side_at e k    the sorted vertex tuple of a cell with its id, the side k of it
---   open_at fixed e          its sides with a free adjacent cell
---   cut_at outside e         the sides of an outside cell with an inside adjacent cell
---   all_rows slots           the rows of all live cells, by ascending id
---   all_open, all_cut        all sides with a free adjacent cell, and all between outside and inside, by ascending id and side
---   row_key, facet_key       numbers by which rows and facets are sorted
+--   row_at e                 a cell of the store as a sorted vertex tuple with its number
+--   side_at e k              side k of a cell as its facet from the smallest vertex on, with the side and the number of
+--                            the cell
+--   open_at fixed e          the sides of one cell that have a free adjacent cell, in order
+--   cut_at outside e         the sides of one cell between outside and inside: those whose neighbor has no flag if the
+--                            cell has one, else none
+--   all_rows slots           the sorted vertex tuples of all live cells, with the cells' numbers, by ascending number
+--   all_open fixed slots     the sides of all live cells that have a free adjacent cell, by ascending number of the
+--                            cell and the side
+--   all_cut                  the sides of cells with a flag whose neighbor has none, in the order of the store
+--   row_key row, facet_key facet
+--                            numbers by which sorted vertex tuples and facets are sorted: they ascend with the four
+--                            numbers of a cell, and with the three of a facet
 use Rattle.std.specs.Prelude.{ℕ, ◌*◌, ◌+◌, ◌++◌, Bool, Option, None, List, [], ◌∷◌, map, slice_index}
 use Rattle.std.specs.Prelude.{slice_index_or, if◌then◌else◌}
 use Rattle.std.specs.List.{flat_map}
@@ -26,7 +33,7 @@ row_at e = record { cell = row_from (risen (tetrahedron_from e.1.v)); id = e.0 }
 abbrev pub side_at : ℕ × Cell → ℕ → Side
 side_at e k = record { facet = facet_row (tetrahedron_from e.1.v) k; side = k; id = e.0 }
 
--- side k, if the adjacent cell is free
+-- a list of side k of the cell if its adjacent cell is free, else an empty list
 unfoldable pub side_if_open : List Bool → ℕ × Cell → ℕ → List Side
 side_if_open fixed e k = if is_free fixed (slice_index_or e.1.next k None) then side_at e k ∷ [] else []
 
@@ -56,7 +63,7 @@ row_key row =
     (slice_index row 0 * 4294967296 + slice_index row 1) * 18446744073709551616 +
     (slice_index row 2 * 4294967296 + slice_index row 3)
 
--- by which rows of cells are sorted: cells rise as lists of numbers
+-- the number by which a list of cells is sorted: it ascends with the sorted vertex tuples (`row_key`)
 abbrev pub key_of_row : Row → ℕ
 key_of_row r = row_key r.cell
 
@@ -64,6 +71,6 @@ key_of_row r = row_key r.cell
 abbrev pub facet_key : List ℕ → ℕ
 facet_key f = slice_index f 0 * 18446744073709551616 + (slice_index f 1 * 4294967296 + slice_index f 2)
 
--- by which sides are sorted: facets rise as lists of numbers
+-- the number by which sides are sorted: it ascends with the facet, written from its least number on
 abbrev pub key_of_side : Side → ℕ
 key_of_side x = facet_key x.facet

@@ -1,9 +1,10 @@
 -- The parts of rows and sides, and numbers by which the elements of a list are distinguished.
 --
---   id_of_row, cell_of_row      the parts of a row
+--   id_of_row r                 of a sorted vertex tuple with its cell's number: the number
+--   cell_of_row r               the tuple
 --   facet_of_side x             the facet of a side
---   number_of_side x            the number of a side among all sides
---   AreDistinctBy f xs          no two of a list have one number
+--   number_of_side x            the number of a side among all sides, 4 * id + side
+--   AreDistinctBy f xs          the function f gives no two elements of the list one number
 use Rattle.std.specs.Prelude.{ℕ, ◌≡◌, ◌<◌, ◌+◌, ◌*◌, List, length, slice_index_or}
 use Rattle.cell_net.specs.declared.rows.Row.{Row}
 use Rattle.cell_net.specs.declared.sides.Side.{Side}

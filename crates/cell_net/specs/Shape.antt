@@ -1,6 +1,9 @@
 -- Linked cells and visibility weights as a network by numbers.
 --
---   numbered_with ..   the network by numbers
+--   numbered_with slots crossed behind fixed settings shape
+--                      the network by numbers: a node for each number that has an entry in the list `fixed`. A node is
+--                      fixed if this entry says so, or if its number has no cell. Each node has four arcs, to the
+--                      adjacent cells. An arc that does not lead to a free neighbor has no capacity
 use Rattle.std.specs.Prelude.{ℕ, ◌*◌, ◌/◌, length, List, Bool, Option}
 use Rattle.flow_net.specs.Numbered.{NumberedNetwork}
 use Rattle.flow_net.specs.declared.votes.Settings.{Settings}

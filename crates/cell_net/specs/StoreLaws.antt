@@ -1,7 +1,12 @@
 -- What holds by the numbers of cells and of their sides holds over cells and facets.
 --
---   IsStoreNetwork s slots ..      labels and flows by number are judged as those over cells and facets
---   StoreNetworkLaw                so it is for linked cells and counts
+--   IsStoreNetwork s slots fixed net
+--                                  labels and flows by the numbers of cells and sides are judged in this network by
+--                                  numbers as over the store's complex, which lists the scene's cells and facets. No
+--                                  valid flow has an amount at other sides. Over the complex too the value of a valid
+--                                  flow is at most the cost of admissible labels
+--   StoreNetworkLaw                if counts and flags are those of the cells of a scene (`AreCountsOf`), the network
+--                                  that `numbered_with` makes of them satisfies `IsStoreNetwork`
 use Rattle.std.specs.Prelude.{ℕ, ◌≡◌, ◌≤◌, Bool, Option, List, slice_index}
 use Rattle.flow_net.specs.declared.Labels.{Labels}
 use Rattle.flow_net.specs.declared.Flow.{Flow}

@@ -1,7 +1,7 @@
 -- Stores that have all cells of a scene.
 --
---   StoredCellsLaw     a store whose cells are Delaunay and whose vertices are all inserted has all cells of each scene of its
---                      points
+--   StoredCellsLaw     if a store has the Delaunay cells of its vertices, all inserted, its live cells are all cells of
+--                      each scene with its points (`AreCellsOf`)
 use Rattle.std.specs.Prelude.{ℕ, ◌≡◌, ◌<◌, ◌++◌, true, false, List, length, slice_index_or}
 use Rattle.geo_sign.specs.Point.{Point}
 use Rattle.geo_sign.specs.Vertices.{corners}

@@ -2,7 +2,8 @@
 --
 --   stored_cells slots             the vertices of all live cells, by ascending id
 --   stored_facets fixed slots      the facets with a free adjacent cell, by ascending id and side
---   stored_complex fixed slots     both
+--   stored_complex fixed slots     the sorted vertex tuples of the live cells, by ascending number, and the facets of
+--                                  sides with a free adjacent cell
 use Rattle.std.specs.Prelude.{ℕ, Bool, List, Option, map}
 use Rattle.visibility.specs.Complexes.{Complex}
 use Rattle.tetra_store.specs.declared.link.Cell.{Cell}

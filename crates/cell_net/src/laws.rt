@@ -14,7 +14,7 @@ pub fn cell_count_law()
     ensures { CellCountLaw }
 {}
 
-/// A store whose cells are Delaunay and whose vertices are all inserted has the cells that [`assemble`](crate::assemble) asks for.
+/// A store whose cells are Delaunay and whose vertices are all inserted has all cells of each scene of its points.
 pub fn stored_cells_law()
     ensures { StoredCellsLaw }
 {}

@@ -1,5 +1,8 @@
 //! Linked cells with visibility weights: the network that they are, and their cells and sides as sorted lists.
 //!
+//! Verified: `CellNetwork` has the costs and flow values of cells and facets (`store_network_law`); `rising_cells` lists all cells.
+//! Its arcs are not stored. `rising_cells` returns the cells in ascending order.
+//!
 //! Node v of the network is the cell with number v, arc 4 * v + k its side k, which leads to the adjacent cell; nothing is
 //! listed. The capacity of an arc is the visibility weight for each sight that crosses its facet and the area weight, the sink
 //! of a node the visibility weight for each sight that its cell is behind. A number without a cell stands for a fixed node

@@ -9,11 +9,11 @@ use Rattle.std.specs.List.{flat_map, All}
 use Rattle.line_text.specs.Numbers.{ended, counted}
 use Rattle.line_text.proofs.Codes.{IsCode, behind_same, ended_code, counted_code, code_list}
 use Rattle.line_text.proofs.FacetForms.{facet_code}
-use Rattle.cert_text.specs.declared.certificate.FlowRow.{FlowRow}
-use Rattle.cert_text.specs.declared.certificate.SinkRow.{SinkRow}
-use Rattle.cert_text.specs.Rows.{IsCellRow, IsFlowRow, IsSinkRow}
-use Rattle.cert_text.specs.Stamps.{StampView}
-use Rattle.cert_text.specs.Certificates.{Counts, Claim, FitCounts, IsWellFormed}
+use Rattle.certificate.specs.declared.certificate.FlowRow.{FlowRow}
+use Rattle.certificate.specs.declared.certificate.SinkRow.{SinkRow}
+use Rattle.certificate.specs.Rows.{IsCellRow, IsFlowRow, IsSinkRow}
+use Rattle.certificate.specs.Stamps.{StampView}
+use Rattle.certificate.specs.Certificates.{Counts, Claim, FitCounts, IsWellFormed}
 use Rattle.cert_text.specs.Texts.{version_text, points_word, scanners_word, sights_word, vote_word, smooth_word, cost_word}
 use Rattle.cert_text.specs.Texts.{inside_word, flow_word, sink_word, end_line, cell_fields, cell_line, flow_line, sink_line}
 use Rattle.cert_text.specs.Texts.{counts_text, cert_text}

@@ -3,7 +3,7 @@ use Rattle.std.proofs.Common.{ℕ, ◌≡◌, subst, List, ◌++◌, arith}
 use Rattle.line_text.specs.Numbers.{counted}
 use Rattle.line_text.specs.declared.refusal.LineRefusal.{LineRefusal}
 use Rattle.line_text.specs.Refusals.{RefusedNumber}
-use Rattle.cert_text.specs.Certificates.{Counts}
+use Rattle.certificate.specs.Certificates.{Counts}
 use Rattle.cert_text.specs.Texts.{points_word, scanners_word, sights_word, vote_word, smooth_word, cost_word, counts_text}
 use Rattle.cert_text.proofs.CertCodes.{counts_parts}
 

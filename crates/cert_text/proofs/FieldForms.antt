@@ -1,10 +1,11 @@
 -- Numbers in front of a text that are no cell, no row.
 use Rattle.std.proofs.Common.{ℕ, ◌≡◌, ◌<◌, ◌^◌, ap, sym, ◌∙◌, arith, List, ◌++◌, append_assoc}
 use Rattle.line_text.specs.Numbers.{ended, BeginsWithNone}
-use Rattle.line_text.specs.Facets.{ArePairNumbers, pair_fields, IsFacetRow, facet_fields}
+use Rattle.line_text.specs.Facets.{ArePairNumbers, pair_fields, facet_fields}
+use Rattle.geo_sign.specs.Numbers.{IsFacetRow}
 use Rattle.line_text.proofs.Codes.{none_first, none_second}
 use Rattle.line_text.proofs.FacetForms.{pair_code, facet_code}
-use Rattle.cert_text.specs.Rows.{IsCellRow, IsAmount, IsFlowRow, IsSinkRow}
+use Rattle.certificate.specs.Rows.{IsCellRow, IsAmount, IsFlowRow, IsSinkRow}
 use Rattle.cert_text.specs.Texts.{cell_fields, flow_line, sink_line}
 use Rattle.cert_text.proofs.CertCodes.{cell_code, four_of, four}
 

@@ -15,11 +15,11 @@ use Rattle.line_text.proofs.Fronts.{cut_or_bad_same}
 use Rattle.line_text.proofs.Parts.{IsOnce, IsPassed, part_once, part_passed, word_once, word_passed, number_once, number_passed}
 use Rattle.line_text.proofs.Parts.{list_once, list_passed, end_once, end_passed}
 use Rattle.cert_text.specs.declared.refusal.CertRefusal.{CertRefusal}
-use Rattle.cert_text.specs.declared.certificate.FlowRow.{FlowRow}
-use Rattle.cert_text.specs.declared.certificate.SinkRow.{SinkRow}
-use Rattle.cert_text.specs.Rows.{IsCellRow, IsFlowRow, IsSinkRow, cell_order, flow_order, sink_order}
-use Rattle.cert_text.specs.Stamps.{IsVersion}
-use Rattle.cert_text.specs.Certificates.{Counts, Claim, FitCounts, AreCellRows, IsFlowList, IsSinkList, IsWellFormed}
+use Rattle.certificate.specs.declared.certificate.FlowRow.{FlowRow}
+use Rattle.certificate.specs.declared.certificate.SinkRow.{SinkRow}
+use Rattle.certificate.specs.Rows.{IsCellRow, IsFlowRow, IsSinkRow, cell_order, flow_order, sink_order}
+use Rattle.certificate.specs.Stamps.{IsVersion}
+use Rattle.certificate.specs.Certificates.{Counts, Claim, FitCounts, AreCellRows, IsFlowList, IsSinkList, IsWellFormed}
 use Rattle.cert_text.specs.Texts.{version_text, points_word, scanners_word, sights_word, vote_word, smooth_word, cost_word}
 use Rattle.cert_text.specs.Texts.{inside_word, flow_word, sink_word, end_line, cell_line, flow_line, sink_line, counts_text}
 use Rattle.cert_text.specs.Texts.{cert_text}

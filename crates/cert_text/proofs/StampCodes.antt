@@ -13,7 +13,7 @@ use Rattle.line_text.specs.Numbers.{counted, signed_ended, Lacks}
 use Rattle.line_text.proofs.Codes.{IsCode, behind_same, one_split, counted_code, code_fewer}
 use Rattle.mesh_ply.specs.Texts.{IsCoordinate, point_line}
 use Rattle.mesh_ply.proofs.MeshCodes.{point_code, point_parts}
-use Rattle.cert_text.specs.Stamps.{StampView, IsDigest, IsFixed, IsStamp, IsVersion}
+use Rattle.certificate.specs.Stamps.{StampView, IsDigest, IsFixed, IsStamp, IsVersion}
 use Rattle.cert_text.specs.Texts.{title, stamped_title, scan_word, unit_word, none_line, scan_line, place_line, fixed_line}
 use Rattle.cert_text.specs.Texts.{stamp_text, version_text}
 use Rattle.geo_sign.specs.declared.point.TheConstants.{BOX_LIMIT, DATA_LIMIT}

@@ -11,11 +11,11 @@ use Rattle.line_text.specs.declared.refusal.LineRefusal.{LineRefusal}
 use Rattle.line_text.proofs.Codes.{behind_same, one_split, none_behind}
 use Rattle.line_text.proofs.Fronts.{cut_or_bad_same}
 use Rattle.line_text.proofs.Parts.{IsOnce, IsPassed, part_once, part_passed, word_once, word_passed, number_once, number_passed}
-use Rattle.num_text.specs.declared.decimal.TheConstants.{UNIT_LIMIT}
+use Rattle.certificate.specs.declared.stamp.TheConstants.{UNIT_LIMIT}
 use Rattle.mesh_ply.specs.Texts.{IsCoordinate, point_line}
 use Rattle.mesh_ply.proofs.MeshForms.{point_is, own_place}
 use Rattle.mesh_ply.proofs.MeshCodes.{point_code}
-use Rattle.cert_text.specs.Stamps.{StampView, IsDigest, IsFixed, IsStamp, IsVersion}
+use Rattle.certificate.specs.Stamps.{StampView, IsDigest, IsFixed, IsStamp, IsVersion}
 use Rattle.cert_text.specs.Texts.{stamped_title, scan_word, unit_word, scanner_word, scan_line, place_line}
 use Rattle.cert_text.specs.Texts.{fixed_line, stamp_text, version_text}
 use Rattle.cert_text.specs.Refusals.{RefusedLine, RefusedStamp, RefusedVersion}

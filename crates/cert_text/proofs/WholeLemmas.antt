@@ -6,11 +6,11 @@ use Rattle.line_text.specs.declared.refusal.LineRefusal.TheVariants.{BadLine}
 use Rattle.line_text.specs.Refusals.{line_after}
 use Rattle.line_text.specs.Lists.{list_text, IsList}
 use Rattle.line_text.proofs.Parts.{list_good, word_good}
-use Rattle.cert_text.specs.declared.certificate.FlowRow.{FlowRow}
-use Rattle.cert_text.specs.declared.certificate.SinkRow.{SinkRow}
-use Rattle.cert_text.specs.Rows.{IsCellRow, IsFlowRow, IsSinkRow, cell_order, flow_order, sink_order}
-use Rattle.cert_text.specs.Stamps.{StampView, IsVersion}
-use Rattle.cert_text.specs.Certificates.{Counts, Claim, FitCounts, IsWellFormed}
+use Rattle.certificate.specs.declared.certificate.FlowRow.{FlowRow}
+use Rattle.certificate.specs.declared.certificate.SinkRow.{SinkRow}
+use Rattle.certificate.specs.Rows.{IsCellRow, IsFlowRow, IsSinkRow, cell_order, flow_order, sink_order}
+use Rattle.certificate.specs.Stamps.{StampView, IsVersion}
+use Rattle.certificate.specs.Certificates.{Counts, Claim, FitCounts, IsWellFormed}
 use Rattle.cert_text.specs.Texts.{inside_word, flow_word, sink_word, end_line, cell_line, flow_line, sink_line, counts_text}
 use Rattle.cert_text.specs.Texts.{version_text, cert_text}
 use Rattle.cert_text.specs.Refusals.{AtEnd, AtSink, AtFlow, AtInside, AtCounts, AtCertificate, counts_line}

@@ -1,6 +1,6 @@
 -- The counts, the weights and the cost that are read before the lists.
 use Rattle.cert_text.specs.declared.read.Heading.{Heading}
-use Rattle.cert_text.specs.Certificates.{Counts}
+use Rattle.certificate.specs.Certificates.{Counts}
 
 -- the heading in the code as a value of the definitions
 abbrev pub counts_of : Heading → Counts

@@ -1,17 +1,33 @@
 -- Why a text is not a certificate: the first error in line order.
 --
---   cert_refusal l            the error of a line as one of a certificate
---   OrNoMemory r P            out of memory, or this statement
---   RefusedLine, AtLine       a line is invalid; or it is valid and the text after it has a property
---   RefusedStamp text r       one of the three lines of a fingerprint is rejected
---   RefusedVersion text r     the first line is neither title, or the fingerprint after it is rejected
---   counts_line s             the number of the line of the first count
---   RefusedCounts n text r    one of the six lines from line n on is rejected
---   AtInside, AtFlow, AtSink  from one of the lists on
---   AtEnd                     from the last line on
---   AtCounts                  from the first count on
---   AtCertificate             the whole text, line by line
---   IsRefusedCertificate text r   the text is rejected with this error
+--   cert_refusal l            the error l of a line as an error of a certificate: a bad line or a row out of order,
+--                             with the number of the line, a truncated text, or out of memory
+--   OrNoMemory r P            P holds, or r is out of memory
+--   RefusedLine IsForm line_of n text r
+--                             the text does not begin with a valid line of this form, and r is the error of line n
+--   AtLine IsForm line_of n text r Next
+--                             line n is invalid with the error r (`RefusedLine`), or it is valid and the text after it
+--                             has the property `Next`
+--   RefusedStamp text r       r is the error of the first invalid line of a fingerprint, whose three lines begin at
+--                             line 2
+--   RefusedVersion text r     the first line is that of no certificate, or that of one with a fingerprint whose lines
+--                             are not all valid; r is the first error
+--   counts_line s             the number of the line with the first count of a certificate: 2 without a fingerprint, 5
+--                             with one
+--   RefusedCounts n text r    r is the error of the first invalid line of the six lines of numbers in a certificate,
+--                             from line n on
+--   AtInside n text r         r is the first error of the rest of a certificate from line n on, which begins with the
+--                             list of inside cells
+--   AtFlow n text r           r is the first error of the rest of a certificate from line n on, which begins with the
+--                             list of flows over facets
+--   AtSink n text r           r is the first error of the rest of a certificate from line n on, which begins with the
+--                             list of flows into sinks
+--   AtEnd n text r            r is the first error of the rest of a certificate from line n on, which has to be the
+--                             last line, then nothing
+--   AtCounts n text r         r is the first error of the rest of a certificate from line n on, which begins with the
+--                             six lines of numbers
+--   AtCertificate text r      the text is rejected as that of a certificate: r is its first error
+--   IsRefusedCertificate bytes r   the first error of a text as a certificate, line by line
 use Rattle.std.specs.Prelude.{ℕ, ◌≡◌, ◌+◌, ◌-◌, ◌^◌, ◌++◌, Option, Some, None, List}
 use Rattle.line_text.specs.Numbers.{BeginsWithNone}
 use Rattle.line_text.specs.declared.refusal.LineRefusal.{LineRefusal}
@@ -19,10 +35,10 @@ use Rattle.line_text.specs.declared.refusal.LineRefusal.TheVariants as lines
 use Rattle.line_text.specs.Refusals.{line_after, IsCutOrBad, RefusedNumber, AtPart, AtWord, AtNumber, AtList, IsBehindEnd}
 use Rattle.cert_text.specs.declared.refusal.CertRefusal.{CertRefusal}
 use Rattle.cert_text.specs.declared.refusal.CertRefusal.TheVariants.{BadLine, Order, CertCut, NoMemory}
-use Rattle.num_text.specs.declared.decimal.TheConstants.{UNIT_LIMIT}
-use Rattle.cert_text.specs.Stamps.{StampView, IsDigest, IsFixed, IsVersion}
-use Rattle.cert_text.specs.Rows.{IsCellRow, IsFlowRow, IsSinkRow, cell_order, flow_order, sink_order}
-use Rattle.cert_text.specs.Certificates.{FitCounts}
+use Rattle.certificate.specs.declared.stamp.TheConstants.{UNIT_LIMIT}
+use Rattle.certificate.specs.Stamps.{StampView, IsDigest, IsFixed, IsVersion}
+use Rattle.certificate.specs.Rows.{IsCellRow, IsFlowRow, IsSinkRow, cell_order, flow_order, sink_order}
+use Rattle.certificate.specs.Certificates.{FitCounts}
 use Rattle.cert_text.specs.Texts.{title, stamped_title, unit_word, scan_line, fixed_line, version_text, points_word}
 use Rattle.cert_text.specs.Texts.{scanners_word, sights_word, vote_word, smooth_word, cost_word, inside_word, flow_word}
 use Rattle.cert_text.specs.Texts.{sink_word, end_line, cell_line, flow_line, sink_line, counts_text}

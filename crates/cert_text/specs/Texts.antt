@@ -1,14 +1,20 @@
 -- The text of a certificate, in its two versions.
 --
---   title, stamped_title              the first line of a certificate without a fingerprint, and of one with a fingerprint
+--   title                             the first line of a certificate without a fingerprint
+--   stamped_title                     the first line of a certificate with a fingerprint
 --   scan_word, .., end_line           the first words of the other lines, and the last line
---   scan_line d                       the line of the digest of a scan's file
+--   scan_line d                       the line of the digest of a scan's file, in hexadecimal digits
 --   fixed_line p                      the line of the fixed scanner
---   stamp_text s, version_text s      the lines of a fingerprint; the first line, and these if there is a fingerprint
---   cell_fields c end                 a cell's numbers, and the byte after the last
---   cell_line, flow_line, sink_line   the lines of the rows
---   counts_text c                     the lines between these and the lists
---   cert_text c                       the text
+--   stamp_text s                      the three lines of a fingerprint
+--   version_text s                    the first line of a certificate, with the lines of its fingerprint if it has one
+--   cell_fields c end                 the four numbers of a cell, separated by spaces, and a byte after the last
+--   cell_line cell, flow_line r, sink_line r
+--                                     the lines of the three lists of a certificate: an inside cell; a facet and the
+--                                     amount of the flow over it; a cell and the amount of the flow into its sink
+--   counts_text c                     the six lines of a certificate with the numbers of points, scanners and sights,
+--                                     the two weights, and the cost
+--   cert_text c                       the text of a certificate: `version_text`, `counts_text`, the three lists, each
+--                                     after its length, and `end_line`
 use Rattle.std.specs.Prelude.{ℕ, Option, Some, None, List, [], ◌∷◌, ◌++◌, length, codes}
 use Rattle.std.specs.List.{flat_map}
 use Rattle.hex.specs.Hex.{encode_lower}
@@ -16,10 +22,10 @@ use Rattle.geo_sign.specs.Point.{Point}
 use Rattle.line_text.specs.Numbers.{space, line_feed, ended, counted}
 use Rattle.line_text.specs.Facets.{facet_fields}
 use Rattle.mesh_ply.specs.Texts.{point_line}
-use Rattle.cert_text.specs.declared.certificate.FlowRow.{FlowRow}
-use Rattle.cert_text.specs.declared.certificate.SinkRow.{SinkRow}
-use Rattle.cert_text.specs.Stamps.{StampView}
-use Rattle.cert_text.specs.Certificates.{Counts, Claim}
+use Rattle.certificate.specs.declared.certificate.FlowRow.{FlowRow}
+use Rattle.certificate.specs.declared.certificate.SinkRow.{SinkRow}
+use Rattle.certificate.specs.Stamps.{StampView}
+use Rattle.certificate.specs.Certificates.{Counts, Claim}
 
 -- the first version does not identify its scan
 unfoldable pub title : List ℕ
@@ -29,59 +35,59 @@ title = codes "recon certificate 1\n"
 unfoldable pub stamped_title : List ℕ
 stamped_title = codes "recon certificate 2\n"
 
--- the digest of the scan's file follows
+-- the prefix of a line of a fingerprint: the digest of the scan's file follows
 unfoldable pub scan_word : List ℕ
 scan_word = codes "scan "
 
--- the scale by which the scan's numbers were multiplied
+-- the prefix of a line of a fingerprint: the scale follows
 unfoldable pub unit_word : List ℕ
 unit_word = codes "unit "
 
--- the position follows from which all points were seen, if an option gave one
+-- the prefix of a line of a fingerprint: the fixed scanner follows
 unfoldable pub scanner_word : List ℕ
 scanner_word = codes "scanner "
 
--- no option gave one
+-- the end of the line of the fixed scanner if there is none
 unfoldable pub none_line : List ℕ
 none_line = codes "none\n"
 
--- the number of distinct points of the scan
+-- the prefix of a line of a certificate: the number of distinct points of the scan follows
 unfoldable pub points_word : List ℕ
 points_word = codes "points "
 
--- the number of scanners
+-- the prefix of a line of a certificate: the number of scanners follows
 unfoldable pub scanners_word : List ℕ
 scanners_word = codes "scanners "
 
--- the number of sights, of any weight
+-- the prefix of a line of a certificate: the number of sights of any weight follows
 unfoldable pub sights_word : List ℕ
 sights_word = codes "sights "
 
--- the visibility weight
+-- the prefix of a line of a certificate: the visibility weight follows
 unfoldable pub vote_word : List ℕ
 vote_word = codes "vote "
 
--- the area weight
+-- the prefix of a line of a certificate: the area weight follows
 unfoldable pub smooth_word : List ℕ
 smooth_word = codes "smooth "
 
--- the cost of the labels, which is the value of the flow
+-- the prefix of a line of a certificate: the cost of the labels follows, which is the value of the flow
 unfoldable pub cost_word : List ℕ
 cost_word = codes "cost "
 
--- the number of inside cells; their lines follow
+-- the prefix of a line of a certificate: the number of inside cells follows, then their list
 unfoldable pub inside_word : List ℕ
 inside_word = codes "inside "
 
--- the number of facets with a flow over them; their lines follow
+-- the prefix of a line of a certificate: the number of flows over facets follows, then their list
 unfoldable pub flow_word : List ℕ
 flow_word = codes "flow "
 
--- the number of cells with a flow into their sinks; their lines follow
+-- the prefix of a line of a certificate: the number of flows into sinks follows, then their list
 unfoldable pub sink_word : List ℕ
 sink_word = codes "sink "
 
--- the last line, by which a truncated text is recognised
+-- the last line of a certificate. A text without it is truncated
 unfoldable pub end_line : List ℕ
 end_line = codes "end\n"
 
@@ -106,7 +112,7 @@ sink_line r = cell_fields r.cell space ++ ended r.amount line_feed
 abbrev pub scan_line : List ℕ → List ℕ
 scan_line digest = scan_word ++ (encode_lower digest ++ line_feed ∷ [])
 
--- x y z, or a word for none
+-- if there is one, its three coordinates, else `none_line`
 abbrev pub place_line : Option Point → List ℕ
 place_line None = none_line
 place_line (Some p) = point_line p

@@ -2,7 +2,7 @@
 
 ghost use Rattle.std.specs.Prelude.{◌≡◌, List, ℕ, IfSome, IfNone};
 ghost use Rattle.hex.specs.Hex.{encode_lower};
-ghost use Rattle.cert_text.specs.Stamps.{IsDigest};
+ghost use Rattle.certificate.specs.Stamps.{IsDigest};
 
 use hex::{FromHex, encode_to_slice};
 

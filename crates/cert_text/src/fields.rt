@@ -4,7 +4,7 @@
 ghost use Rattle.std.specs.Prelude.{◌≡◌, ◌<◌, ◌++◌, [], ◌∷◌, IfSome, IfNone, OnOk, OnErr, length, take};
 ghost use Rattle.line_text.specs.Numbers.{space, line_feed, ended, BeginsWithNone};
 ghost use Rattle.line_text.specs.Facets.{facet_fields};
-ghost use Rattle.cert_text.specs.Rows.{IsCellRow, IsAmount};
+ghost use Rattle.certificate.specs.Rows.{IsCellRow, IsAmount};
 ghost use Rattle.cert_text.specs.Texts.{cell_fields};
 
 use crate::NoMemory;

@@ -1,7 +1,7 @@
 //! Theorems of certificates and their texts. The function here does nothing: its contract is the theorem.
 
 ghost use Rattle.std.specs.Prelude.{◌≡◌, ◌++◌, [], ℕ, List};
-ghost use Rattle.cert_text.specs.Certificates.{Claim, IsWellFormed};
+ghost use Rattle.certificate.specs.Certificates.{Claim, IsWellFormed};
 ghost use Rattle.cert_text.specs.Texts.{cert_text};
 
 /// No text belongs to two well-formed certificates, and none is a proper prefix of another. For callers that compare

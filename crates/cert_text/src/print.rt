@@ -3,7 +3,7 @@
 ghost use Rattle.std.specs.Prelude.{◌≡◌, ◌++◌, OnOk, OnErr, length, take};
 ghost use Rattle.std.specs.List.{flat_map};
 ghost use Rattle.line_text.specs.Lists.{list_text};
-ghost use Rattle.cert_text.specs.Certificates.{claim_of, IsWellFormed};
+ghost use Rattle.certificate.specs.Certificates.{claim_of, IsWellFormed};
 ghost use Rattle.cert_text.specs.Texts.{counts_text, cert_text};
 
 use crate::row::Row;

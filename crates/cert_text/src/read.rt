@@ -4,11 +4,12 @@
 ghost use Rattle.std.specs.Prelude.{◌≡◌, ◌<◌, ◌+◌, ◌++◌, IfOk, IfErr, IsErr, MatchResult, List, Some, length};
 ghost use Rattle.std.specs.Bool.{OnTrue, OnFalse};
 ghost use Rattle.std.specs.List.{flat_map};
-ghost use Rattle.line_text.specs.Numbers.{counted, IsBetween};
+ghost use Rattle.line_text.specs.Numbers.{counted};
+ghost use Rattle.geo_sign.specs.Numbers.{IsBetween};
 ghost use Rattle.line_text.specs.Refusals.{line_after, RefusedNumber, AreRows, RisesAbove, IsRefusedRow};
 ghost use Rattle.line_text.specs.Lists.{WithMemory, RefusedList, list_text, IsList};
 ghost use Rattle.geo_sign.specs.Rising.{IsBefore};
-ghost use Rattle.cert_text.specs.Certificates.{Claim, claim_of, FitCounts, IsWellFormed};
+ghost use Rattle.certificate.specs.Certificates.{Claim, claim_of, FitCounts, IsWellFormed};
 ghost use Rattle.cert_text.specs.Texts.{counts_text, cert_text};
 ghost use Rattle.cert_text.specs.Refusals.{OrNoMemory, RefusedCounts, AtCertificate, IsRefusedCertificate};
 ghost use Rattle.cert_text.specs.declared.refusal.CertRefusal.{CertRefusal};

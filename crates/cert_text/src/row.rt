@@ -2,7 +2,7 @@
 
 ghost use Rattle.std.specs.Prelude.{◌≡◌, ◌++◌, List, ℕ, IfSome, IfNone, OnOk, OnErr, length, take};
 ghost use Rattle.line_text.specs.Numbers.{BeginsWithNone};
-ghost use Rattle.cert_text.specs.Rows.{IsCellRow, IsFlowRow, IsSinkRow};
+ghost use Rattle.certificate.specs.Rows.{IsCellRow, IsFlowRow, IsSinkRow};
 ghost use Rattle.cert_text.specs.Texts.{inside_word, flow_word, sink_word, cell_line, flow_line, sink_line};
 
 use crate::fields::{amount_first, cell_first, push_cell, push_facet};

@@ -2,7 +2,7 @@
 
 ghost use Rattle.std.specs.Prelude.{◌≡◌, ◌++◌, OnOk, OnErr, length, take};
 ghost use Rattle.std.specs.Option.{option_map};
-ghost use Rattle.cert_text.specs.Certificates.{stamp_view};
+ghost use Rattle.certificate.specs.Certificates.{stamp_view};
 ghost use Rattle.cert_text.specs.Texts.{scan_line, place_line, fixed_line, stamp_text, version_text};
 
 use crate::digits::digits_of;

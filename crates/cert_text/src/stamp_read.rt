@@ -5,8 +5,8 @@ ghost use Rattle.std.specs.Option.{option_map};
 ghost use Rattle.geo_sign.specs.Point.{IsWithin};
 ghost use Rattle.line_text.specs.Numbers.{signed_ended, BeginsWithNone};
 ghost use Rattle.mesh_ply.specs.Texts.{IsCoordinate, point_line};
-ghost use Rattle.cert_text.specs.Stamps.{IsDigest, IsFixed, IsStamp, IsVersion};
-ghost use Rattle.cert_text.specs.Certificates.{stamp_view};
+ghost use Rattle.certificate.specs.Stamps.{IsDigest, IsFixed, IsStamp, IsVersion};
+ghost use Rattle.certificate.specs.Certificates.{stamp_view};
 ghost use Rattle.cert_text.specs.Texts.{scan_line, place_line, fixed_line, stamp_text, version_text};
 ghost use Rattle.cert_text.specs.Refusals.{RefusedLine, RefusedStamp, RefusedVersion, counts_line as line_of_counts};
 ghost use Rattle.geo_sign.specs.declared.point.TheConstants.{DATA_LIMIT};
@@ -14,9 +14,9 @@ ghost use Rattle.geo_sign.specs.declared.point.TheConstants.{DATA_LIMIT};
 use crate::Stamp;
 use crate::digits::digest_of;
 use crate::words::{first_line, no_place, scan, scanner, stamped_first_line, unit};
+use certificate::UNIT_LIMIT;
 use geo_sign::{BOX_LIMIT, Point};
 use line_text::{LineRefusal, behind, cut_at, number_line, refusal_of, signed_first, word_line};
-use num_text::UNIT_LIMIT;
 
 /// Returns a coordinate of the box, and the text after its end.
 fn coordinate_first(text: &[u8], end: u8) -> Option<(i64, &[u8])>

@@ -3,8 +3,8 @@ use Rattle.std.proofs.Common.{◌≡◌, ◌⊎◌, inl, inr, ℕ, ◌+◌, ◌�
 use Rattle.std.proofs.Common.{subst, ◌∙◌, arith, unwrap_or}
 use Rattle.host.specs.State.{State, Told, Files, file_bytes}
 use Rattle.host.specs.Whole.{OnlyReads}
-use Rattle.mesh_ply.specs.Meshes.{Surface}
-use Rattle.mesh_ply.specs.declared.mesh.Mesh.{Mesh}
+use Rattle.mesh.specs.Meshes.{Surface}
+use Rattle.mesh.specs.declared.mesh.Mesh.{Mesh}
 use Rattle.command_run.specs.Answers.{Answer, IsUnreadMesh, invalid, ToMesh, MayEnd, mesh_task}
 use Rattle.command_run.specs.Lines.{too_long_mesh_line}
 use Rattle.command_run.specs.Replies.{line_bytes, answer_of}

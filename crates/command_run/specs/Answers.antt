@@ -2,21 +2,28 @@
 --
 --   Write                            a name, and the bytes that are written as its file
 --   Answer                           a status, the number of files that were read, the files that are written, and the line
---   Task                             a command without its arguments: the statuses with which it may end, the number of files
---                                    it reads, and its answers
---   MayEnd task status               the statuses that a run of such a command may end with at all
+--   Task                             a command without its arguments: whether it may answer no, whether it may reject
+--                                    its input, how many files it reads at most, and its answers for given files and a
+--                                    limit on their length
+--   MayEnd task status               the status is one that the task allows: no only if it may answer no, rejected only
+--                                    if it may reject its input
 --   invalid reads line               the answer that rejects an input
 --   bad_arguments_answer             the answer to invalid arguments
 --   file_limit                       the maximal size of an input file in bytes, for `run` and the program
 --   FileTooLong limit reads line ..  a file is too long, and this many were read
 --   MeshInvalid limit bytes ..       the file of the first input, a mesh, is not a mesh
---   IsUnreadMesh limit bytes ..      it is too long, or is not a mesh
---   MeshAnswered limit Answers ..    it is a mesh, with this answer
---   MeshFileAnswer limit Answers ..  the answer of a command to the bytes of that file
---   ToMesh limit input Answers ..    the same for these files
+--   IsUnreadMesh limit bytes answer  the mesh that a command reads first is rejected: the file is too long
+--                                    (`FileTooLong`), or its bytes are not a mesh (`MeshInvalid`)
+--   MeshAnswered limit Answers bytes answer
+--                                    the bytes are the text of a mesh, not longer than the limit, and this is the
+--                                    answer to that mesh
+--   MeshFileAnswer limit Answers bytes answer   the answer of a command to the bytes of the mesh that it reads first
+--   ToMesh limit input Answers files answer
+--                                    the answer of a command to these files, which follows from the bytes of the named
+--                                    mesh (`MeshFileAnswer`)
 --   mesh_task Denies input ..        a command that reads one mesh
 use Rattle.std.specs.Prelude.{ℕ, List, [], ◌≡◌, ◌<◌, length, ◌≤◌, Some, ◌⊎◌, ⊤}
-use Rattle.mesh_ply.specs.Meshes.{Surface}
+use Rattle.mesh.specs.Meshes.{Surface}
 use Rattle.mesh_ply.specs.Refusals.{IsRefusedMesh}
 use Rattle.mesh_ply.specs.Texts.{mesh_text, IsPrinted}
 use Rattle.mesh_ply.specs.declared.refusal.MeshRefusal.{MeshRefusal}

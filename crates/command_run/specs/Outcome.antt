@@ -5,12 +5,17 @@
 --   IsUntouched old new                 the files and the output are unchanged
 --   IsCarriedOut writes line old new    all files were written and the line was printed
 --   SaidFront, WroteFront               a prefix of the line was printed; a prefix of a file was written
---   StoppedIn writes line old new       the state after a call failed while an answer was carried out
+--   StoppedIn writes line old new       the state after a failed call. Either the outputs before the first incomplete
+--                                       one are complete, and that one is as it was or a prefix of its text; or all
+--                                       outputs are complete, and a prefix of the line was printed
 --   EndsBy, StopsBy                     one of these answers was carried out; it was carried out up to a failed call
 --   TellsBy Answers status old new      the exposed state after a run with these answers that ended with this status
 --   FaultsFit status before after       the fault count rose exactly if the run failed
 --   OpensNoMore Answers before after    no more files were opened than the answer reads
---   Run Fits most Answers ..            the whole effect of a run with these statuses, maximal number of inputs and answers
+--   Run Fits most Answers status before after
+--                                       what a run does to its host: it carries an answer out, or stops at a failed
+--                                       call, or runs out of memory; nothing else changes. About bytes it states
+--                                       something only if the host states its files
 use Rattle.std.specs.Option.{IsSomeAnd}
 use Rattle.std.specs.Prelude.{IfSome, List, [], ◌∷◌, ◌≡◌, ℕ, ◌++◌, take, ◌⊎◌, ◌+◌, ◌≤◌, false}
 use Rattle.host.specs.Counts.{Rose}

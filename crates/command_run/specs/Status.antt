@@ -1,6 +1,6 @@
 -- The exit status as a number.
 --
---   code_of status           the number of a status
+--   code_of status           the number of a status: 0 to 5
 --   ExitsWith code Holds     the number is that of a status with this property
 use Rattle.std.specs.Prelude.{ℕ, ◌≡◌}
 use Rattle.command_run.specs.declared.status.Status.{Status}

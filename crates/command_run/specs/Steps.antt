@@ -16,9 +16,9 @@ use Rattle.std.specs.Prelude.{⊤, ℕ, Some, IfSome, ◌≡◌, ◌≤◌, List
 use Rattle.host.specs.Counts.{Rose}
 use Rattle.host.specs.State.{State, Told, Files}
 use Rattle.host.specs.Whole.{apart_from_left}
-use Rattle.mesh_ply.specs.Meshes.{Surface}
+use Rattle.mesh.specs.Meshes.{Surface}
 use Rattle.mesh_ply.specs.Texts.{mesh_text, IsPrinted}
-use Rattle.mesh_ply.specs.declared.mesh.Mesh.{Mesh}
+use Rattle.mesh.specs.declared.mesh.Mesh.{Mesh}
 use Rattle.command_run.specs.Answers.{invalid, IsUnreadMesh, Answer, Write, MayEnd, Task}
 use Rattle.command_run.specs.Outcome.{OpensNoMore, WhereTold, all_written, IsCarriedOut, StoppedIn}
 use Rattle.command_run.specs.Replies.{answer_of, line_bytes}

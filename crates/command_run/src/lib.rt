@@ -1,5 +1,8 @@
 //! The parts that the commands of all programs share: statuses, answers, lines, and the effect of a run on its host.
 //!
+//! Verified: `carry_out` writes the files of an answer in order, then prints its line; `read_mesh_file` reads a mesh or its error.
+//! `read_mesh_file` returns the first error.
+//!
 //! A command computes its answer in memory: a status, the files to write and the line to print (`specs/Answers`). [`carry_out`]
 //! then writes the files in order and prints the line. The effect on the host, also of a failed call, is defined for any set of
 //! answers (`specs/Outcome`): no file is created before the answer is in memory, nothing of the line is printed before all files

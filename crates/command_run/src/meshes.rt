@@ -7,7 +7,8 @@ use crate::NoMemory;
 use crate::lines::{line_of_mesh_error, line_of_too_long_mesh};
 use crate::reply::{Line, Stop};
 use host::{Host, ReadRefusal, read_all};
-use mesh_ply::{Mesh, read_mesh};
+use mesh::Mesh;
+use mesh_ply::read_mesh;
 use std::alloc::Global;
 
 /// The maximal size of an input file in bytes.

@@ -1,4 +1,6 @@
-//! How many things there are, as a promise.
+//! The number of things with a property, as a definition that contracts cite.
+//!
+//! Verified: it defines what it means that a number counts the things with a property (`AreSoMany`).
 //!
 //! A number counts things with a property if they stand in a list, each once, of that length (`AreSoMany`). A loop that counts by a
 //! test keeps that for all numbers that it has passed.

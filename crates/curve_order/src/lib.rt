@@ -1,5 +1,7 @@
 //! Orders in which points are near their predecessors: along a space-filling curve, and the same in rounds.
 //!
+//! Verified: `order` sorts the indices of points by their keys along a space-filling curve; `in_rounds` returns the same indices.
+//!
 //! The curve is that of Morton (1966): the key of a point interleaves the bits of its three coordinates, from the highest to
 //! the lowest, each coordinate counted from the least of a data point. Points with successive keys are mostly near each other,
 //! so that a walk from one to the next is short.

@@ -1,9 +1,10 @@
 -- Linked cells partition the box.
 --
---   IsPartition s    each position in the box lies in a live cell, a position strictly inside a live cell lies in no other, and
---                    each facet of a live cell has exactly one adjacent live cell, which the store names, or lies on a wall and
---                    has none
---   PartitionLaw     linked cells that are the Delaunay cells of the inserted vertices partition the box
+--   IsPartition s    the cells fill the box without overlap. `covered`: each place of the box lies in a live cell.
+--                    `apart`: a place strictly inside one lies in no other. `across`: a facet on a wall has no neighbor
+--                    in the store, and each other facet has exactly one live adjacent cell, which the store names there
+--   PartitionLaw     if the cells of a store are the Delaunay cells of its inserted vertices, they are a partition of
+--                    the box (`IsPartition`)
 use Rattle.std.specs.Prelude.{ℕ, ◌≡◌, ◌<◌, ◌⊎◌, Some, None}
 use Rattle.geo_sign.specs.Rational.{RationalPoint}
 use Rattle.geo_sign.specs.Tetrahedron.{facet_of}

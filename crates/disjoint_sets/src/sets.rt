@@ -1,10 +1,10 @@
 //! The sets themselves.
 
-ghost use Rattle.std.specs.Prelude.{◌≡◌, ◌<◌, ℕ, IfOk, length, vec_len};
+ghost use Rattle.std.specs.Prelude.{◌≡◌, ◌<◌, ◌≤◌, ℕ, IfOk, length, slice_index, vec_len};
 ghost use Rattle.std.specs.Bool.{OnTrue, OnFalse};
-ghost use Rattle.disjoint_sets.specs.Sets.{AreTogether, IsFirstOfSet, IsForest, IsMerge};
+ghost use Rattle.disjoint_sets.specs.Sets.{AreTogether, IsFirstOfSet, IsForest, IsMerge, IsTop};
 
-use crate::forest::{is_own, merge};
+use crate::forest::{first_after, is_own, merge};
 use std::alloc::{AllocError, Global};
 
 /// Out of memory.
@@ -46,5 +46,19 @@ impl DisjointSets {
         ensures no { OnFalse result ((j : ℕ) × (j < i) × AreTogether self.now.parents.items i j) }
     {
         is_own(&self.parents, i)
+    }
+
+    /// Returns the smallest number of the set of each number. Linear.
+    pub fn firsts(&self, alloc: Global) -> Result<Vec<usize>, NoMemory>
+        ensures count { IfOk result (λ firsts. length firsts.items ≡ length self.now.parents.items) }
+        ensures tops { IfOk result (λ firsts. (i : ℕ) → i < length firsts.items → IsTop self.now.parents.items i (slice_index firsts.items i)) }
+        ensures least { IfOk result (λ firsts. (i : ℕ) → i < length firsts.items → slice_index firsts.items i ≤ i) }
+    {
+        let mut firsts: Vec<usize> = Vec::with_capacity(alloc, self.parents.len())?;
+        for i in 0..self.parents.len() {
+            let first = first_after(&self.parents, &firsts, i);
+            firsts.push(first)?;
+        }
+        Ok(firsts)
     }
 }

@@ -12,7 +12,9 @@
 --   AreWithinArcs net labels flow       no fixed node is inside, and no arc is over its capacity
 --   AreWithinLimits net labels flow     nor is a sink over its limit
 --   IsOptimalPair net labels flow       admissible labels that cost the value of a valid flow
---   IsVerdict net labels flow verdict   the verdict: the first of these faults at its smallest node or arc, or Yes
+--   IsVerdict net labels flow verdict   the first fault of labels and a flow by number, at its smallest node or arc, or
+--                                       Yes: the flow is valid, its value is the cost of the labels, and no labels of
+--                                       least cost have a smaller inside
 use Rattle.std.specs.Prelude.{ℕ, ◌≡◌, ◌≢◌, length, slice_index}
 use Rattle.flow_net.specs.declared.Net.{Net}
 use Rattle.flow_net.specs.declared.Labels.{Labels}

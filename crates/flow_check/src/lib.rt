@@ -1,5 +1,7 @@
 //! Checks that labels are the minimum cut of a network with the smallest inside, by a flow whose value is their cost.
 //!
+//! Verified: `check_flow` returns the first fault of labels and flow, or that they are optimal, uniquely (`verdicts_are_unique`).
+//!
 //! Nothing is known of labels and flow but that there is one label and one amount a node and one amount an arc. A valid
 //! flow whose value is the cost of admissible labels shows that no labels cost less (Ford and Fulkerson 1956). The first
 //! fault is named, with its node or arc and its numbers.

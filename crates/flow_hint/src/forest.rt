@@ -11,8 +11,8 @@ use crate::NoMemory;
 use crate::preflow::Preflow;
 use crate::wiring::Ends;
 use flow_net::FlowNetwork;
-use host::Watch;
 use std::alloc::Global;
+use watch::Watch;
 
 /// The parent of a node outside the forest.
 const FREE: u32 = u32::MAX;

@@ -5,24 +5,12 @@ ghost use Rattle.std.specs.Prelude.{◌≡◌, length, IfOk, IfSome};
 use crate::NoMemory;
 use crate::forest::Forest;
 use crate::kept::KeptPreflow;
-use crate::levels::Levels;
-use crate::preflow::{Preflow, Start};
+use crate::preflow::Preflow;
 use crate::rounds::Rounds;
 use crate::sweep::Sweep;
-use flow_net::{Flow, FlowNetwork};
-use host::{Silent, Watch};
+use flow_net::{FlowNetwork, Hint, Levels};
 use std::alloc::Global;
-
-/// Amounts that usually are a maximum flow, and levels of nodes in its residual network, which usually prove it. Callers must
-/// validate both.
-#[derive(Debug, Drop)]
-pub struct Hint {
-    /// An amount for each arc, and an amount for each node.
-    pub flow: Flow,
-    /// The nodes from which a sink with residual capacity can be reached. Amounts that go back flow only between other nodes, so no
-    /// level changes.
-    pub levels: Levels,
-}
+use watch::{Silent, Watch};
 
 /// Returns the amounts after flow has reached sinks, and the levels of the nodes from which a sink could still be reached.
 /// Reports the number of nodes to a progress callback.
@@ -34,7 +22,11 @@ fn sent<'a, N: FlowNetwork, W: Watch>(
     ensures { IfOk result (λ made. made.0.wiring ≡ preflow.entry.wiring) }
 {
     if preflow.open_count() == 0 {
-        let levels = Levels::none(alloc, preflow.wiring.nodes)?;
+        let nodes = preflow.wiring.nodes;
+        let levels = Levels {
+            is_found: vec![in alloc; false; nodes]?,
+            level: vec![in alloc; 0u32; nodes]?,
+        };
         return Ok((preflow, levels));
     }
     let mut forest = Forest::new(alloc, preflow)?;
@@ -76,19 +68,18 @@ fn given_back<'a, N: FlowNetwork>(
     Ok(preflow)
 }
 
-/// Returns the amounts from one way to start, after flow has reached sinks, and the levels, or `None` if there is no hint.
+/// Returns the amounts after flow has reached sinks, and the levels, or `None` if there is no hint.
 ///
 /// If amounts are listed, sinks first take no more than these, so that usually no less flows into any.
 fn sent_from<'a, N: FlowNetwork, W: Watch>(
     alloc: Global,
     net: &'a N,
-    start: Start,
     first: &[u64],
     watch: &mut W,
 ) -> Result<Option<(Preflow<'a, N>, Levels)>, NoMemory>
     ensures { IfOk result (λ found. IfSome found (λ made. made.0.wiring.net.now ≡ net.now)) }
 {
-    let Some(preflow) = Preflow::new(alloc, net, start, first)? else {
+    let Some(preflow) = Preflow::new(alloc, net, first)? else {
         return Ok(None);
     };
     let preflow = filled_first(alloc, preflow, first, watch)?;
@@ -132,7 +123,7 @@ fn settled_and_kept<N: FlowNetwork>(
 
 /// Returns a hint at a maximum flow, or `None` if there is none: the capacities sum to more than 2^62, or there are no arcs
 /// between free nodes, or more arcs than fit in 32 bits, or sending the excess back took too long. Reports to a progress
-/// callback from how many nodes amounts were moved on. The count starts again if a first try gives no hint.
+/// callback from how many nodes amounts were moved on.
 ///
 /// Run time is not specified; on the networks of scans it is about linear in the network. Beside its result it takes 8 bytes an
 /// arc, or 12 if capacities are large, 4 more if the arcs of a node are not adjacent in the network, and at most 48 a node.
@@ -144,15 +135,10 @@ pub fn find_hint<N: FlowNetwork, W: Watch>(
     ensures arcs { IfOk result (λ found. IfSome found (λ hint. length hint.flow.on_arc ≡ (N.numbered net.now).arc_count)) }
     ensures sinks { IfOk result (λ found. IfSome found (λ hint. length hint.flow.on_sink ≡ (N.numbered net.now).node_count)) }
 {
-    for start in [Start::Full, Start::Plain] {
-        if let Some((preflow, levels)) = sent_from(alloc, net, start, &[], watch)? {
-            let found = settled(alloc, preflow, levels)?;
-            if found.is_some() {
-                return Ok(found);
-            }
-        }
+    match sent_from(alloc, net, &[], watch)? {
+        Some((preflow, levels)) => settled(alloc, preflow, levels),
+        None => Ok(None),
     }
-    Ok(None)
 }
 
 /// Returns a hint by which usually no less flows into each sink than is listed, if a valid flow achieves this, and the preflow
@@ -168,15 +154,10 @@ pub fn find_hint_above<N: FlowNetwork, W: Watch>(
     ensures arcs { IfOk result (λ found. IfSome found (λ pair. length pair.0.flow.on_arc ≡ (N.numbered net.now).arc_count)) }
     ensures sinks { IfOk result (λ found. IfSome found (λ pair. length pair.0.flow.on_sink ≡ (N.numbered net.now).node_count)) }
 {
-    for start in [Start::Full, Start::Plain] {
-        if let Some((preflow, levels)) = sent_from(alloc, net, start, first, watch)? {
-            let found = settled_and_kept(alloc, preflow, levels)?;
-            if found.is_some() {
-                return Ok(found);
-            }
-        }
+    match sent_from(alloc, net, first, watch)? {
+        Some((preflow, levels)) => settled_and_kept(alloc, preflow, levels),
+        None => Ok(None),
     }
-    Ok(None)
 }
 
 /// Returns a hint that resumes from the preflow of an earlier one, and its own preflow.

@@ -9,17 +9,8 @@ use crate::amounts::Amounts;
 use crate::survey::Survey;
 use crate::wiring::Wiring;
 use flow_net::FlowNetwork;
-use host::{Watch, tell};
 use std::alloc::Global;
-
-/// The initial amounts of a hint.
-#[derive(Clone, Copy, Debug, PartialEq, Eq)]
-pub enum Start {
-    /// Every arc full, which usually is near the maximum.
-    Full,
-    /// Every arc between free nodes empty, which leaves less to send back.
-    Plain,
-}
+use watch::{Watch, tell};
 
 /// Amounts on the arcs of a network, and the excess of each node.
 #[derive(Debug, Drop)]
@@ -78,21 +69,16 @@ fn all_rooms<N: FlowNetwork>(
 }
 
 impl<'a, N: FlowNetwork> Preflow<'a, N> {
-    /// Returns the initial amounts: fixed nodes send their maximum, other arcs are full or empty, and sinks have taken their
-    /// maximum, but no more than is listed. Returns `None` if the sums of capacities are too large or there are no arcs between
-    /// free nodes.
+    /// Returns the initial amounts: fixed nodes send their maximum, every other arc is full, which usually is near the maximum, and
+    /// sinks have taken their maximum, but no more than is listed. Returns `None` if the sums of capacities are too large or there
+    /// are no arcs between free nodes.
     ///
     /// If a node would have a negative balance with every arc full, these arcs are empty.
-    pub fn new(
-        alloc: Global,
-        net: &'a N,
-        start: Start,
-        first: &[u64],
-    ) -> Result<Option<Preflow<'a, N>>, NoMemory>
+    pub fn new(alloc: Global, net: &'a N, first: &[u64]) -> Result<Option<Preflow<'a, N>>, NoMemory>
         ensures { IfOk result (λ found. IfSome found (λ preflow. preflow.wiring.net.now ≡ net.now)) }
     {
         let survey = Survey::new(alloc, net)?;
-        let is_full = start == Start::Full && !survey.owes();
+        let is_full = !survey.owes();
         let is_narrow = survey.is_narrow();
         if !survey.is_fit() {
             return Ok(None);

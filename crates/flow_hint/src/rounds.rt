@@ -6,12 +6,11 @@
 ghost use Rattle.std.specs.Prelude.{◌≡◌, ◌<◌, ◌^◌, length, slice_index, EachIndex, IfSome, IfOk};
 
 use crate::NoMemory;
-use crate::levels::Levels;
 use crate::preflow::Preflow;
 use crate::wiring::Ends;
-use flow_net::FlowNetwork;
-use host::Watch;
+use flow_net::{FlowNetwork, Levels};
 use std::alloc::Global;
+use watch::Watch;
 
 /// The level of a node without a known path to a sink, and the end of a list of nodes.
 const NONE: u32 = u32::MAX;

@@ -1,18 +1,25 @@
 -- What a builder has, what its calls add, and why they refuse.
 --
---   Parts           nodes, a sink each, and arcs
---   no_parts        none of them
+--   Parts           what a builder holds: which nodes are fixed, the sink of each node, and the arcs
+--   no_parts        a builder without nodes and arcs
 --   with_node       parts with a node more
 --   with_feed       parts with an arc more that has no reverse
 --   with_join       parts with an arc and its reverse more
---   IsFirstWrong    a number is the first of two, or the second where the first is right
---   IsNode          a node is there, and is fixed or free
---   CanFeed         nothing is wrong with an arc from a fixed node
---   AreJoinable     nothing is wrong with the two nodes of an arc and its reverse
---   CanJoin         nothing is wrong with an arc and its reverse
---   RefusesSink     what an error says of a sink
---   RefusesFeed     what an error says of an arc from a fixed node
---   RefusesJoin     what an error says of an arc and its reverse
+--   IsFirstWrong n a b is_right
+--                   n is the argument that an error is about, of two arguments that are tested in order: n is a, or n
+--                   is b and the first one is right
+--   IsNode parts v is_fixed   node v exists, and is fixed or free as stated
+--   CanFeed parts from to cap
+--                   an arc without a reverse may be added: it leaves a fixed node, enters a free one, and has a
+--                   capacity of at most 2^60
+--   AreJoinable parts from to   `from` and `to` are two distinct free nodes
+--   CanJoin parts from to cap back_cap
+--                   an arc and its reverse may be added: they join two distinct free nodes, with capacities of at most
+--                   2^60
+--   RefusesSink, RefusesFeed, RefusesJoin
+--                   what each error of a builder states about the first wrong argument, in the order of the call: no
+--                   such node, one node twice, a fixed node in place of a free one or the reverse, an amount over 2^60.
+--                   Out of memory states that nothing else is wrong (`CanFeed`, `CanJoin`)
 --
 -- An error is about the first wrong argument, in the order in which the call takes them; that both ends are one node comes
 -- after each of the ends. So for the same arguments there is one error, except out of memory.

@@ -2,7 +2,7 @@
 --
 --   no_pair                 what stands for the reverse of an arc that has none
 --   pair_from pair          the reverse that a number of 32 bits stands for
---   widened narrow          the arc that one of few bits stands for
+--   widened narrow          the arc that an arc stored in few bits stands for
 --   all_arcs                the arcs of few bits, and the others behind them
 use Rattle.std.specs.Prelude.{ℕ, ◌==◌, List, ◌++◌, map, Option, Some, None, if◌then◌else◌}
 use Rattle.flow_net.specs.declared.Arc.{Arc}

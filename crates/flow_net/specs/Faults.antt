@@ -1,15 +1,18 @@
 -- What is wrong with labels and a flow of a network that are to be shown best.
 --
---   IsFixedInside net inside v             the node is fixed and inside
---   IsOverCapacity net on_arc a            more flows on the arc than its capacity
+--   IsFixedInside net inside v             a fault: a node is fixed and inside
+--   IsOverCapacity net on_arc a            a fault: more flows on an arc than its capacity
 --   sink_limit net v                       the most that may leave at the node's sink: its sink, or nothing where it is fixed
---   IsOverSink net on_node v               more leaves at the node's sink than that
+--   IsOverSink net on_node v               a fault: more leaves at a node's sink than it takes (`sink_limit`: nothing
+--                                          at a fixed node)
 --   total_out net on_arc on_node v         what leaves the node, over arcs and at its sink
---   IsUnbalanced net on_arc on_node v      the node is free, and what enters it is not what leaves it
+--   IsUnbalanced net on_arc on_node v      a fault: a node is free, and what enters it is not what leaves it over arcs
+--                                          and at its sink (`total_out`)
 --   IsInsideAlone inside other v           the node is inside by labels and outside by others
---   IsNotLeast net inside v                the node is inside, and outside by the minimum cut with the smallest inside
---   AreWithinArcs net inside on_arc        no fixed node is inside, and no arc is over its capacity
---   AreWithinLimits net ..                 nor is a sink over its limit
+--   IsNotLeast net inside v                a fault: a node is inside, but outside in the minimum cut with the smallest
+--                                          inside
+--   AreWithinArcs net inside on_arc        there is no fault `IsFixedInside` and no `IsOverCapacity`
+--   AreWithinLimits net ..                 nor any `IsOverSink`
 use Rattle.std.specs.Prelude.{ℕ, ◌≡◌, ◌≢◌, ◌<◌, ◌+◌, Bool, true, false, if◌then◌else◌}
 use Rattle.flow_net.specs.Networks.{Network, amount_in, amount_out, IsLeastInside}
 

@@ -2,17 +2,16 @@
 -- numbers (`NumberedFlows`).
 --
 --   network_with    the network of these flags, sinks and arcs
---   numbered_of     a Net as a network by numbers
---   network_of      the network of a Net
+--   numbered_of net, network_of net   a `Net` as a `NumberedNetwork`, and as a `Network`. Labels and flows are lists
 --   arcs_alone      arcs, whatever their nodes are
---   cost_of         the cost of labels
---   amount_in       what enters a node over arcs
---   value_of        the value of a flow
---   IsValidFlow     a flow keeps within capacities and sinks, and is balanced at free nodes
+--   cost_of net labels   the cost of labels in a network by numbers
+--   amount_in       the sum of the amounts on the arcs that enter a node
+--   value_of        the value of a flow in a network by numbers
+--   IsValidFlow     within capacities and sinks, balanced at free nodes, nothing at the sinks of fixed nodes
 --   IsLargest       a valid flow whose value no valid flow passes
---   IsAdmissible    labels with no fixed node inside
---   IsLeastCost     admissible labels that cost no more than any
---   IsLeastInside   labels of the least cost that are contained in all labels of that cost
+--   IsAdmissible    no fixed node is inside
+--   IsLeastCost     no admissible labels cost less
+--   IsLeastInside   the inside is contained in that of all labels of that cost
 use Rattle.std.specs.Prelude.{ℕ, ◌<◌, ◌==◌, Bool, List, [], length, slice_index}
 use Rattle.std.proofs.Common.{sym, subst}
 use Rattle.flow_net.specs.declared.Arc.{Arc}

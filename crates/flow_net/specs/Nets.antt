@@ -6,7 +6,8 @@
 --   IsReverseArc   one arc is the reverse of another and names it back
 --   IsValidArc     an arc fits its network
 --   AreValidArcs   each arc does
---   IsValidNet     the parts make a valid network
+--   IsValidNet     arcs join distinct nodes and enter free ones; each arc that leaves a free node has its reverse as
+--                  pair; capacities and sinks are at most 2^60
 use Rattle.std.specs.Prelude.{ℕ, ◌≡◌, ◌≢◌, ◌<◌, ◌≤◌, ◌^◌, Bool, true, false, List, length, slice_index, slice_index_or, Some}
 use Rattle.std.specs.Prelude.{None, EachIndex}
 use Rattle.std.specs.Option.{ForSome, ForNone}

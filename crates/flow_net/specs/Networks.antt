@@ -1,23 +1,30 @@
 -- Networks over any kinds of nodes and arcs. Labels are a test of nodes, and a flow is an amount on each arc and one at each
 -- node. A network of numbers (`Flows`) is one, and a network of cells and directed facets another.
 --
---   Network                             the nodes and arcs, how to sum over them, and what each is like
+--   Network                             a network over any kinds of nodes and arcs: which ones there are, the sum of a
+--                                       number over them, the ends of an arc, whether two nodes are equal, capacities,
+--                                       fixed nodes, sinks. Labels are a test of nodes. A flow is an amount on each arc
+--                                       and one at each node
 --   arc_cost net inside a               what an arc adds to the cost of labels
 --   node_cost net inside v              what a node adds to it
---   cost net inside                     the cost of labels
---   amount_in net on_arc v              what enters a node over arcs
---   amount_out net on_arc v             what leaves a node over arcs
+--   cost net inside                     the capacities of arcs from outside to inside, plus the sinks of outside nodes
+--   amount_in net on_arc v              the sum of the amounts on the arcs that enter a node
+--   amount_out net on_arc v             the sum of the amounts on the arcs that leave a node
 --   node_value net on_node v            what a node adds to the value of a flow
---   value net on_node                   the value of a flow
---   IsValidFlow net on_arc on_node      it keeps within capacities and sinks, and is balanced at free nodes
+--   value net on_node                   the amounts at free nodes' sinks, plus the sinks of fixed nodes
+--   IsValidFlow net on_arc on_node      within capacities and sinks, balanced at free nodes, nothing at the sinks of
+--                                       fixed nodes
 --   IsAdmissible net inside             no fixed node is inside
---   IsLeastCost net inside              admissible, and no admissible labels cost less
---   IsLeastInside net inside            of the least cost, and inside of all others of that cost
---   AgreeAsNetworks net other           two networks of the same kinds of nodes and arcs judge labels and flows alike
+--   IsLeastCost net inside              no admissible labels cost less
+--   IsLeastInside net inside            the inside is contained in that of all labels of that cost
+--   AgreeAsNetworks net other           in both networks labels have the same cost, and are admissible, of least cost
+--                                       and with the smallest inside alike; flows have the same value and are valid
+--                                       alike
 use Rattle.std.specs.Prelude.{ℕ, ◌≡◌, ◌≤◌, ◌+◌, ◌↔◌, ◌&&◌, not, Bool, true, false, if◌then◌else◌}
 
--- which nodes and arcs there are and the sum of a number for each of them; the node that an arc leaves and the one that it
--- enters; whether two nodes are one; the capacity of an arc; whether a node is fixed, and its sink
+-- A directed graph, with the sums of any function over all nodes and over all arcs. Each arc has a capacity. Each node
+-- has a number called its sink: what the node costs if it is outside. (Other texts call this the capacity of the node's
+-- arc into one common sink.) Some nodes are fixed outside.
 pub record Network (Node Arc : Type 0) : Type 1 where
   pub HasNode : Node → Type 0
   pub HasArc : Arc → Type 0
@@ -30,15 +37,15 @@ pub record Network (Node Arc : Type 0) : Type 1 where
   pub is_fixed : Node → Bool
   pub sink : Node → ℕ
 
--- what an arc costs: its capacity, where it leads from outside to inside
+-- An arc costs its capacity if it leads from an outside node to an inside node, else nothing.
 abbrev pub arc_cost : {Node Arc : Type 0} → Network Node Arc → (Node → Bool) → Arc → ℕ
 arc_cost net inside a = if not (inside (net.from a)) && inside (net.to a) then net.capacity a else 0
 
--- what a node costs: its sink, where it is outside
+-- A node costs its sink if it is outside, else nothing.
 abbrev pub node_cost : {Node Arc : Type 0} → Network Node Arc → (Node → Bool) → Node → ℕ
 node_cost net inside v = if inside v then 0 else net.sink v
 
--- the cost of labels: the capacities of arcs from outside to inside, and the sinks of outside nodes
+-- The energy of a labelling: the sum of the costs of all arcs and of all nodes.
 abbrev pub cost : {Node Arc : Type 0} → Network Node Arc → (Node → Bool) → ℕ
 cost net inside = net.arc_sum (arc_cost net inside) + net.node_sum (node_cost net inside)
 
@@ -66,16 +73,17 @@ pub record IsValidFlow {Node Arc : Type 0} (net : Network Node Arc) (on_arc : Ar
   pub balanced :
       (v : Node) → net.HasNode v → net.is_fixed v ≡ false → amount_in net on_arc v ≡ amount_out net on_arc v + on_node v
 
--- no fixed node is inside
+-- The labelling has no fixed node inside.
 pub record IsAdmissible {Node Arc : Type 0} (net : Network Node Arc) (inside : Node → Bool) : Type 0 where
   pub none_fixed : (v : Node) → net.HasNode v → net.is_fixed v ≡ true → inside v ≡ false
 
--- admissible labels that cost no more than any admissible labels
+-- The labelling is admissible, and no admissible labelling costs less: it is a minimum cut.
 pub record IsLeastCost {Node Arc : Type 0} (net : Network Node Arc) (inside : Node → Bool) : Type 0 where
   pub admissible : IsAdmissible net inside
   pub least : (other : Node → Bool) → IsAdmissible net other → cost net inside ≤ cost net other
 
--- labels of the least cost whose inside is contained in that of all labels of that cost
+-- The minimum cut with the smallest inside. It costs least, and each of its inside nodes is inside in every labelling
+-- of the same cost. It is unique on the nodes.
 pub record IsLeastInside {Node Arc : Type 0} (net : Network Node Arc) (inside : Node → Bool) : Type 0 where
   pub least_cost : IsLeastCost net inside
   pub within : (other : Node → Bool) → IsLeastCost net other → (v : Node) → net.HasNode v → inside v ≡ true → other v ≡ true

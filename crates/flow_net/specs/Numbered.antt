@@ -1,7 +1,9 @@
 -- Networks whose nodes and arcs have numbers: the nodes are the numbers below one, the arcs those below another.
 --
---   NumberedNetwork    how many nodes and arcs there are, what each is like, and what holds of them
---   network_by net     it as any network (Networks)
+--   NumberedNetwork    a network whose nodes and arcs are the numbers below two limits: ends and capacity of each arc,
+--                      which nodes are fixed, their sinks. Its properties: ends are nodes, an arc with a capacity joins
+--                      two nodes, amounts are at most 2^60
+--   network_by net     a network by numbers as a `Network`
 --
 -- An arc on which nothing can flow may begin and end at one node, so a number may stand for an arc that is none. A number
 -- stands for a node that is none where it is fixed, takes nothing and has no such arc.

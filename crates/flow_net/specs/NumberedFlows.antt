@@ -3,16 +3,16 @@
 --
 --   arc_cost        what an arc adds to the cost of labels
 --   node_cost       what a node adds to it
---   cost_of         the cost of labels
---   amount_in       what enters a node over arcs
---   amount_out      what leaves a node over arcs
+--   cost_of net labels   the cost of labels in a network by numbers
+--   amount_in       the sum of the amounts on the arcs that enter a node
+--   amount_out      the sum of the amounts on the arcs that leave a node
 --   node_value      what a node adds to the value of a flow
---   value_of        the value of a flow
---   IsValidFlow     a flow keeps within capacities and sinks, and is balanced at free nodes
+--   value_of        the value of a flow in a network by numbers
+--   IsValidFlow     within capacities and sinks, balanced at free nodes, nothing at the sinks of fixed nodes
 --   IsLargest       a valid flow whose value no valid flow passes
---   IsAdmissible    labels with no fixed node inside
---   IsLeastCost     admissible labels that cost no more than any
---   IsLeastInside   labels of the least cost that are contained in all labels of that cost
+--   IsAdmissible    no fixed node is inside
+--   IsLeastCost     no admissible labels cost less
+--   IsLeastInside   the inside is contained in that of all labels of that cost
 use Rattle.std.specs.Prelude.{ℕ, ◌≡◌, ◌≤◌, Bool, List, length, slice_index}
 use Rattle.flow_net.specs.declared.Labels.{Labels}
 use Rattle.flow_net.specs.declared.Flow.{Flow}

@@ -1,10 +1,11 @@
 -- Networks by numbers, some standing for nothing.
 --
---   IsPadding net real there    all nodes but the real ones are fixed and take nothing, and all arcs but those that are there have
---                               no capacity
---   kept net real there         the network without them
---   IsJudgedAlike net far       the minimum cut with the smallest inside and valid flows of the one are such of the other, at
---                               the same cost and value, and in the other too no value is larger than a cost
+--   IsPadding net real there    all nodes but the real ones are fixed and take nothing, and all arcs but the real ones
+--                               have no capacity
+--   kept net real there         the network without these nodes and arcs
+--   IsJudgedAlike net far       labels with the smallest inside and valid flows of one network are those of the other,
+--                               at the same cost and value. In the other no valid flow has a larger value than
+--                               admissible labels cost
 use Rattle.std.specs.Prelude.{ℕ, ◌≡◌, ◌<◌, ◌≤◌, ◌==◌, Bool, true, false, if◌then◌else◌}
 use Rattle.flow_net.specs.Networks.{Network, cost, value, IsAdmissible, IsValidFlow, IsLeastInside}
 use Rattle.flow_net.specs.Numbered.{NumberedNetwork}

@@ -1,8 +1,9 @@
 -- Sights by their weights.
 --
---   IsWeighed sight            its weight is 1 to 255
---   IsSightList sights         sights that a network may be made of
---   weight_where test sights   what the sights that pass a test weigh together
+--   IsWeighed sight            a sight of a weight from 1 to 255
+--   IsSightList sights         at most 8,388,608 such sights
+--   weight_where test sights   the sum of the weights of the sights that pass a test. Equal sights count as often as
+--                              they occur
 use Rattle.std.specs.Prelude.{ℕ, ◌≤◌, Bool, List, length, filter, All}
 use Rattle.std.specs.List.{sum_by}
 use Rattle.flow_net.specs.declared.votes.Sight.{Sight}
@@ -18,6 +19,6 @@ pub record IsSightList (sights : List Sight) : Type 0 where
   pub few : length sights ≤ SIGHT_LIMIT
   pub weighed : All IsWeighed sights
 
--- the weights of the sights that pass a test, summed: equal sights as often as they occur
+-- The sum of the weights of the lines of sight that pass a test. A line of sight that occurs twice counts twice.
 abbrev pub weight_where : (Sight → Bool) → List Sight → ℕ
 weight_where test sights = sum_by (λ sight. sight.weight) (filter test sights)

@@ -1,12 +1,15 @@
 //! Networks of nodes and arcs with a sink at each node, labels that cut them, and flows through them.
 //!
+//! Verified: each `Net` is a valid network; the value of a flow is at most the cost of a cut (`value_is_at_most_cost`).
+//! So is each `NetBuilder` and each implementation of `FlowNetwork`. If value and cost are equal, both are optimal.
+//!
 //! The labelling of cells as inside or outside by minimum cut, as in Labatut, Pons and Keriven (2007 and 2009): each
 //! cell is a node, and each directed facet towards a free cell is an arc. The crate depends on the standard library
 //! and `thiserror` alone, and knows nothing of geometry.
 //!
 //! This file holds the types. `lists` and `compact` hold the lists that stand in their fields, `network` says what a network by
 //! numbers is (`Net` is one; all sums and searches go over these), `builder` makes a `Net` node by node and join by join,
-//! `votes` holds the settings and sights, `sums` the cost of labels and the value of a flow, `laws` what holds between the two,
+//! `hints` says who gives hints at flows, `votes` holds the settings and sights, `sums` the cost of labels and the value of a flow, `laws` what holds between the two,
 //! and `validity` the test that `Net::is_valid` makes.
 #![tactic(auto)]
 
@@ -15,6 +18,7 @@ ghost use Rattle.flow_net.specs.Nets.{IsValidNet};
 
 mod builder;
 mod compact;
+mod hints;
 mod laws;
 mod lists;
 mod network;
@@ -24,6 +28,7 @@ mod votes;
 
 pub use builder::{NetBuilder, NetRefusal};
 pub use compact::Arcs;
+pub use hints::{FlowHints, Hint, Levels};
 pub use laws::{equal_value_and_cost_are_best, value_is_at_most_cost};
 pub use lists::Sequence;
 pub use network::FlowNetwork;

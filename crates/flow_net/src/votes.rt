@@ -13,7 +13,8 @@ pub const SIGHT_LIMIT: usize = 8_388_608;
 /// The largest weight of a sight.
 pub const SIGHT_WEIGHT_LIMIT: u32 = 255;
 
-/// The visibility weight and the area weight.
+/// The two weights of the energy, both without unit: the visibility weight, and the area weight, which is the same for each
+/// facet, whatever its area.
 #[derive(Clone, Copy, Debug, PartialEq, Eq)]
 pub struct Settings {
     /// What each sight of weight 1 adds to the capacity of a facet that it crosses and to the sink of the cell behind it, 1 to 65,535.
@@ -39,7 +40,7 @@ impl Settings {
     }
 }
 
-/// A sight: a scanner saw a vertex.
+/// A line of sight, in short a sight: a scanner saw a vertex.
 #[derive(Clone, Copy, Debug, PartialEq, Eq)]
 pub struct Sight {
     /// The number of the vertex that was seen, from 8 on: the corners of the box round all vertices have 0 to 7.

@@ -8,10 +8,10 @@ use Rattle.geo_sign.specs.Point.{Point, IsWithin, point}
 use Rattle.geo_sign.specs.declared.point.TheConstants.{DATA_LIMIT}
 use Rattle.rand_core.specs.Steps.{first_words}
 use Rattle.rand_pcg.specs.Pcg.{pcg32}
-use Rattle.scan.specs.declared.scan.Seen.{Seen}
-use Rattle.scan.specs.ScanRows.{VertexRow, IsVertexRow, sights_in, point_limit}
-use Rattle.scan.specs.Shown.{IsShown, shown_by}
-use Rattle.scan.proofs.ShownLemmas.{rows_are_shown}
+use Rattle.scan_rows.specs.declared.scan.Seen.{Seen}
+use Rattle.scan_rows.specs.ScanRows.{VertexRow, IsVertexRow, sights_in, point_limit}
+use Rattle.scan_rows.specs.Shown.{IsShown, shown_by}
+use Rattle.scan_rows.proofs.ShownLemmas.{rows_are_shown}
 use Rattle.gen_scan.specs.Generated.{on_axis, spread, generator, generated_row, rows_of_words, scanners, generated}
 use Rattle.gen_scan.proofs.Words.{point_in}
 

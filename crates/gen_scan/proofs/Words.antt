@@ -5,9 +5,9 @@ use Rattle.geo_sign.specs.Point.{Point}
 use Rattle.rand_core.specs.Steps.{first_words}
 use Rattle.rand_pcg.specs.Lcg.{Lcg}
 use Rattle.rand_pcg.specs.Pcg.{pcg32}
-use Rattle.scan.specs.declared.scan.Seen.{Seen}
-use Rattle.scan.specs.ScanRows.{VertexRow}
-use Rattle.scan.specs.Shown.{row_seen, seen_from}
+use Rattle.scan_rows.specs.declared.scan.Seen.{Seen}
+use Rattle.scan_rows.specs.ScanRows.{VertexRow}
+use Rattle.scan_rows.specs.Shown.{row_seen, seen_from}
 use Rattle.gen_scan.specs.Generated.{generated_row, rows_of_words}
 
 -- the rows from a number on, of so many in all

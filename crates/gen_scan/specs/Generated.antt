@@ -6,13 +6,14 @@
 --   generator seed                the generator with this seed
 --   generated_row number first second   the row with this number, made of two words
 --   rows_of_words number words    a row for each two words, from this number on
---   generated count seed          the scan
+--   generated count seed          the scan of `count` rows that a seed makes: points on the faces of a cube, each face
+--                                 seen from outside with weight 1. Each row takes two words of the generator
 use Rattle.std.specs.Prelude.{ℕ, ◌+◌, ◌*◌, ◌/◌, ◌%◌, ◌==◌, List, [], ◌∷◌, ℤ, pos, neg_ℤ, ◌-ℤ◌, if◌then◌else◌}
 use Rattle.geo_sign.specs.Point.{Point, point}
 use Rattle.rand_core.specs.Steps.{first_words}
 use Rattle.rand_pcg.specs.Lcg.{Lcg, started, increment_of}
 use Rattle.rand_pcg.specs.Pcg.{multiplier_64, pcg32}
-use Rattle.scan.specs.ScanRows.{ScanRows, VertexRow}
+use Rattle.scan_rows.specs.ScanRows.{ScanRows, VertexRow}
 
 -- the point at a distance along an axis; of the other two axes the earlier has u, and the later v
 abbrev pub on_axis : (axis : ℕ) → (along u v : ℤ) → Point

@@ -1,9 +1,9 @@
 //! The scan that a seed generates. Depends on the faces of `cube` and on the kit's `rand_pcg`.
 
 ghost use Rattle.std.specs.Prelude.{◌≡◌, ◌≤◌, IfOk, length, unsigned_abs};
-ghost use Rattle.scan.specs.ScanRows.{point_limit};
-ghost use Rattle.scan.specs.Shown.{shown_by};
-ghost use Rattle.scan.specs.Views.{shown_of};
+ghost use Rattle.scan_rows.specs.ScanRows.{point_limit};
+ghost use Rattle.scan_rows.specs.Shown.{shown_by};
+ghost use Rattle.scan_rows.specs.Views.{shown_of};
 ghost use Rattle.gen_scan.specs.Generated.{spread as spread_of, generated};
 
 use crate::NoMemory;
@@ -11,7 +11,7 @@ use crate::cube::{FACES, point_on_face, scanners};
 use geo_sign::Point;
 use rand_core::utils::NextWord;
 use rand_pcg::Pcg32;
-use scan::{Scan, Seen};
+use scan_rows::{Scan, Seen};
 use std::alloc::Global;
 
 /// The distance of the faces from the middle, in scaled whole units.

@@ -1,12 +1,14 @@
 -- Vertices of the box, in or not, and one vertex more.
 --
---   inserted_vertices points flags   the box's corners and these points; those with a flag are in
---   IsTied v                         all have the heights of the symbolic perturbation
---   IsBoxed v                        the box's corners and data points, with the heights of the symbolic perturbation
---   with_vertex v p                  the same vertices, and p is in too
---   IsNew v p                        p is a data point that is not in yet
---   IsInConflict v p t               p is in conflict with t
---   IsClearOf v p t                  it is not
+--   inserted_vertices points flags   the box's corners and the points, at the heights of all of them. The vertices with
+--                                    a flag are inserted
+--   IsTied v                         all vertices have the heights of the symbolic perturbation
+--   IsBoxed v                        vertices of the box. The corners are vertices 0 to 7, in their places, and
+--                                    inserted. The others are data points, inserted or not. No two are at one point.
+--                                    Heights are by the symbolic perturbation
+--   with_vertex v p                  the same vertices, and p is inserted too
+--   IsNew v p                        p is a data point that is not inserted yet
+--   IsInConflict v p t, IsClearOf v p t   the power of p at t is negative; it is not
 use Rattle.std.specs.Prelude.{ℕ, ◌<◌, ◌≤◌, ◌≡◌, ◌+◌, ◌==◌, ◌||◌, Bool, false, pos, ◌<ℤ◌, ◌≤ℤ◌, List, length, get_or}
 use Rattle.geo_sign.specs.declared.point.TheConstants.{CORNERS, DATA_LIMIT}
 use Rattle.geo_sign.specs.Point.{Point, IsWithin, corner_point}

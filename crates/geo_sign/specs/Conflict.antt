@@ -1,8 +1,8 @@
 -- When five numbered points may be tested for conflict.
 --
---   OfFour cell P           P holds of the four vertices of a cell
---   AreApart a b c d p      the five numbers are distinct
---   AreBelow n a b c d p    the five numbers are below n
+--   OfFour cell P           an argument of `conflict`: a list of four numbered points
+--   AreApart a b c d p      of five numbers: no two are equal
+--   AreBelow n              all are below n
 use Rattle.std.specs.Prelude.{ℕ, ◌<◌, ◌≢◌, List, [], ◌∷◌}
 use Rattle.geo_sign.specs.Point.{Point}
 

@@ -2,8 +2,10 @@
 --
 --   determinant u v w    the determinant of three vectors
 --   CramerLaw            a vector times the determinant of three others, as a sum of these three
---   OrientationIsSum     the orientation of four points is the sum of the four with one of them replaced by a fifth
---   PointIsSum           and a fifth point, times it, is the sum of the four points, each times its own
+--   OrientationIsSum     the orientation of four points is the sum of the four orientations in which one of the points
+--                        is replaced by a fifth
+--   PointIsSum           a fifth point, times the orientation of four points, is the sum of these four, each times the
+--                        orientation with the fifth point in its place
 --   PowerIsSum           so the plain power is the opposite of a sum over squared distances from the fifth point
 use Rattle.std.specs.Prelude.{◌≡◌, ℤ, neg_ℤ, ◌+ℤ◌, ◌*ℤ◌}
 use Rattle.geo_sign.specs.Point.{Point, step, cross, dot, square}
@@ -14,7 +16,7 @@ use Rattle.geo_sign.specs.Power.{plain_power}
 abbrev pub determinant : (u v w : Point) → ℤ
 determinant u v w = dot (cross u v) w
 
--- in one coordinate, whichever it is
+-- Cramer's rule (`CramerLaw`) for one coordinate of the vectors
 abbrev pub CramerIn : (coordinate : Point → ℤ) → Type 0
 CramerIn coordinate =
     (w x y z : Point)
@@ -32,7 +34,8 @@ OrientationIsSum =
     (a b c d p : Point)
     → orientation a b c d ≡ orientation p b c d +ℤ orientation a p c d +ℤ orientation a b p d +ℤ orientation a b c p
 
--- in one coordinate, whichever it is
+-- for one coordinate of the points: a fifth point, times the orientation of four points, is the sum of these four, each
+-- times the orientation with the fifth point in its place (`PointIsSum`)
 abbrev pub PointIsSumIn : (coordinate : Point → ℤ) → Type 0
 PointIsSumIn coordinate =
     (a b c d p : Point)

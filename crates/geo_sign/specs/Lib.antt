@@ -9,6 +9,7 @@ pub mod Terms
 pub mod Conflict
 pub mod Vertices
 pub mod Rising
+pub mod Numbers
 pub mod Cells
 pub mod Sights
 pub mod Polynomial

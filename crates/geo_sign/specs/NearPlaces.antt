@@ -4,9 +4,12 @@
 --   mix i p j s             i times p and j times s
 --   near t p s              the place between p and s at which p weighs t times as much
 --   reversed q              q turned round: its side of each facet is the opposite
---   weight                  so much that no side of a perturbed scanner counts as much as a whole place's
---   towards_place p s       the place near p on the way to the scanner at s
---   behind_place p s        the place near p on the way from it
+--   weight                  the factor t for `near t p s`, the place between p and s at which p counts t times as much
+--                           as s: 2^270. It is so large that this place is on the same side of each facet as p, unless
+--                           p is in the plane of the facet; then s decides
+--   towards_place p s, behind_place p s
+--                           places as near to the point p as is wanted: on the way to the scanner at s; on the other
+--                           side, away from it
 use Rattle.std.specs.Prelude.{ℕ, ℤ, pos, neg_ℤ, ◌^◌, ◌+ℤ◌, ◌*ℤ◌}
 use Rattle.geo_sign.specs.Point.{Point, point}
 use Rattle.geo_sign.specs.Rational.{RationalPoint, displaced}

@@ -8,7 +8,9 @@
 --   insert_variable i m     variable i put into its place in a product
 --   single k m              k times the product m, alone
 --   add_term k m f          f with k times the product m added
---   expand e k              e multiplied out: each of its products, times what k is given, is passed to k
+--   expand e k              e multiplied out into products of variables, each with a coefficient. k is a function that
+--                           is called with each product and its coefficient, and adds this term to the polynomial
+--                           collected so far
 --   is_null f               no product is left in f
 --   is_same_form e f             e - f multiplied out has no product left
 use Rattle.std.specs.Prelude.{ℕ, zero, suc, ℤ, pos, negsuc, neg_ℤ, ◌+ℤ◌, ◌*ℤ◌, List, [], ◌∷◌, Bool, true, false, ◌&&◌, ◌==◌}

@@ -6,7 +6,8 @@ use Rattle.geo_sign.specs.Point.{Point, origin, step, cross, dot}
 abbrev pub IsOnLine : (a b c : Point) → Type 0
 IsOnLine a b c = cross (step a b) (step a c) ≡ origin
 
--- Six times the volume of the tetrahedron a b c d, positive where d is on the side of a b c to which their normal
--- (b - a) x (c - a) points. Four points with a positive orientation are positively oriented.
+-- Six times the signed volume of the tetrahedron a b c d: the orientation determinant ((b - a) x (c - a)) . (d - a). It
+-- is positive if a, b, c turn counterclockwise as seen from d; the four are then positively oriented. It is 0 if the
+-- four are coplanar.
 unfoldable pub orientation : Point → Point → Point → Point → ℤ
 orientation a b c d = dot (cross (step a b) (step a c)) (step a d)

@@ -1,9 +1,9 @@
 -- Places: points with rational coordinates, in the box and in cells. A perturbed scanner is one.
 --
---   IsInBox q                q is a place of the box
---   IsLyingIn v t q          q is on the outer side of no facet of t
---   IsStrictlyIn v t q       q is on the inner side of each facet of t
---   IsNearer v p s f g       the sight from s to the vertex p crosses f nearer to p than g
+--   IsInBox q                the divisor of q is positive, and no coordinate passes a wall of the box
+--   IsLyingIn v t q          the place q is on the outer side of no facet of t: it is in t or on a facet of t
+--   IsStrictlyIn v t q       the place q is on the inner side of each facet of t
+--   IsNearer v p s f g       the sight from s to the vertex p crosses the facets f and g, and f nearer to p
 use Rattle.std.specs.Prelude.{ℕ, ◌≤◌, ◌*◌, ◌<ℤ◌, ◌≤ℤ◌, ◌*ℤ◌, unsigned_abs, pos, neg_ℤ}
 use Rattle.geo_sign.specs.declared.point.TheConstants.{BOX_LIMIT}
 use Rattle.geo_sign.specs.Rational.{RationalPoint, rational}

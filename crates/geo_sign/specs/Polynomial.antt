@@ -1,6 +1,6 @@
 -- Polynomials over the whole numbers, as they are written.
 --
---   Polynomial            one polynomial, built from:
+--   Polynomial            a polynomial, built from variables and integers by sums, differences, products and negation
 --     variable i            variable number i
 --     constant c            the number c
 --     sum e f               e + f

@@ -1,15 +1,16 @@
 -- The row of a tetrahedron: its sorted vertex tuple. Each positively oriented one has one, and is what `written` makes of it.
 --
---   IsRowOf t row        the row's numbers rise, and are those of t, in an even order or with the last two exchanged
---   IsOneRow t row       a row of t, and no other list is one
+--   IsRowOf t row        four ascending numbers (the sorted vertex tuple of t): t is an even permutation of them, or of
+--                        them with the last two exchanged
+--   IsOneRow t row       no other list is the sorted vertex tuple of t
 --   IsPositive v t       t is positively oriented
---   IsFirstLeast f       the facet's smallest number comes first
+--   IsFirstLeast f       the first number of the facet is below the other two
 --   RowsExist            a positive tetrahedron has one row
 --   RowsAreWritten       what `written` makes of the row is t reordered by an even permutation
 --   RowsAreKept          reordered by an even permutation it has the same row
 --   RowsTell             two positive tetrahedra with one row are one, reordered by an even permutation
---   CellsAreRows         the sorted vertex tuple of a cell is an ascending cell, and an ascending cell is that of the cell that
---                        `written` makes of it
+--   CellsAreRows         the sorted vertex tuple of a cell is an ascending cell. `written` makes a cell of each
+--                        ascending cell, and the sorted vertex tuple of that cell is this ascending cell again
 --   WrittenFacets        the facets of what `written` makes of an ascending row have their smallest number first
 use Rattle.std.specs.Prelude.{ℕ, ◌<◌, ◌≡◌, ◌⊎◌, pos, ◌<ℤ◌, List, [], ◌∷◌}
 use Rattle.geo_sign.specs.Tetrahedron.{Tetrahedron, tetrahedron, DirectedFacet, facet_of}

@@ -18,7 +18,7 @@ pub record Term : Type 0 where
   pub number : ℕ
   pub sign : Sign
 
--- the leader, or a term that is not zero and has a greater number
+-- of two terms, the first (the *leader*), or the second if its sign is not zero and its number (exponent) is greater
 abbrev pub leading_of : Sign → Term → Term → Term
 leading_of Neg leader t = cond (nat_lt leader.number t.number) t leader
 leading_of Zero leader t = leader

@@ -4,8 +4,9 @@
 --   Has vertices u              u is one of them and is in
 --   orientation_of, power_of    orientation and power of vertices by their numbers
 --   AreOnWall at f              three corners that agree in one coordinate
---   IsWall vertices f           a facet on a wall of the box
---   boxed_vertices points       the box's corners and these points, all in, with the heights of the symbolic perturbation
+--   IsWall v f                  the facet is on a wall: three corners that agree in one coordinate
+--   boxed_vertices points       corners 0 to 7 of the box, and then the points. All are inserted, at the heights of the
+--                               symbolic perturbation
 use Rattle.std.specs.Prelude.{ℕ, ◌<◌, ◌≡◌, ◌⊎◌, ◌+◌, Bool, true, ℤ, List, [], ◌∷◌, ◌++◌, length, get_or}
 use Rattle.geo_sign.specs.declared.point.TheConstants.{CORNERS}
 use Rattle.geo_sign.specs.Point.{Point, origin, corner_point}
@@ -14,19 +15,23 @@ use Rattle.geo_sign.specs.Power.{power}
 use Rattle.geo_sign.specs.Tetrahedron.{DirectedFacet}
 use Rattle.geo_sign.specs.Tie.{height}
 
--- the vertices by number: where each is, its height, how many there are, and which of them are in the tetrahedrization
+-- A numbered set of vertices: the position and the height of each, their count, and which are in the
+-- tetrahedralization.
 pub record Vertices : Type 0 where
   pub at : ℕ → Point
   pub high : ℕ → ℤ
   pub count : ℕ
   pub is_in : ℕ → Bool
 
+-- Vertex u exists and is in the tetrahedralization.
 abbrev pub Has : Vertices → ℕ → Type 0
 Has vertices u = (u < vertices.count) × (vertices.is_in u ≡ true)
 
+-- The orientation of four vertices, given by their numbers.
 abbrev pub orientation_of : Vertices → (a b c d : ℕ) → ℤ
 orientation_of v a b c d = orientation (v.at a) (v.at b) (v.at c) (v.at d)
 
+-- The perturbed in-sphere determinant of vertex p and four vertices, given by their numbers.
 abbrev pub power_of : Vertices → (a b c d p : ℕ) → ℤ
 power_of v a b c d p = power (v.at a) (v.at b) (v.at c) (v.at d) (v.at p) (v.high a) (v.high b) (v.high c) (v.high d) (v.high p)
 
@@ -45,17 +50,18 @@ pub record AreOnWall (at : ℕ → Point) (f : DirectedFacet) : Type 0 where
 abbrev pub IsWall : Vertices → DirectedFacet → Type 0
 IsWall v f = AreOnWall v.at f
 
--- the corners of the box in order of their numbers
+-- The eight corners of the box, in order.
 abbrev pub corners : List Point
 corners =
     corner_point 0 ∷ corner_point 1 ∷ corner_point 2 ∷ corner_point 3 ∷ corner_point 4 ∷ corner_point 5 ∷ corner_point 6
     ∷ corner_point 7 ∷ []
 
--- where vertex u is: the corners have the numbers 0 to 7, and the points follow
+-- The position of vertex u: corners 0 to 7 first, then the scanned points.
 abbrev pub point_of : List Point → ℕ → Point
 point_of points u = get_or (corners ++ points) u origin
 
--- the box's corners and these points, all of them in
+-- The vertices of a scan: the box's corners and the scan's points, each with its height in the perturbation. All of
+-- them are in the tetrahedralization.
 abbrev pub boxed_vertices : List Point → Vertices
 boxed_vertices points =
     record {

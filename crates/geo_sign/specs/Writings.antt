@@ -1,8 +1,9 @@
 -- The twelve ways to write a tetrahedron positively: the even rearrangements of its four vertices.
 --
---   spin t, swap t       two steps that together reach all twelve
---   after_steps steps t   steps one after another
---   IsRewritten t r      r is t reordered by an even permutation
+--   spin t               a step: the first three vertices move round
+--   swap t               a step: the first two are exchanged, and so are the last two
+--   after_steps steps t  the tetrahedron after such steps, one after another
+--   IsRewritten t r      some steps lead from t to r, so r is one of the twelve even permutations of t
 --   IsVertexOf t u       u is one of the vertices of t
 use Rattle.std.specs.Prelude.{ℕ, ◌≡◌, ◌⊎◌, Bool, true, false, List, [], ◌∷◌}
 use Rattle.geo_sign.specs.Tetrahedron.{Tetrahedron, tetrahedron}

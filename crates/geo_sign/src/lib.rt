@@ -1,5 +1,8 @@
 //! Points of the box and the exact signs of how they lie.
 //!
+//! Verified: `orient`, `in_sphere`, `side_of_scanner` return the exact sign of their polynomial, `orient_value` its value.
+//! Polynomials that multiply out to the same sum have the same value everywhere (`identity_law`).
+//!
 //! All signs are exact: each is the sign of a polynomial with whole coefficients in whole coordinates, computed without rounding
 //! in integers that hold its largest value. Nothing is filtered, scaled or perturbed in floating point.
 //!

@@ -3,12 +3,12 @@
 -- A face has a directed edge where one of its three half edges runs along it. So the faces with the edge from u to v are counted by a sum
 -- over half edges. Taken at the twins, that sum is the one for the edge from v to u; and the twins are all half edges once, so it has not
 -- changed.
-use Rattle.std.proofs.Common.{ℕ, zero, suc, ◌≡◌, ◌+◌, ◌-◌, ◌*◌, ◌/◌, ◌%◌, ◌<◌, ◌≤◌, ◌==◌, refl, ap, sym, ◌∙◌, subst, arith}
+use Rattle.std.proofs.Common.{ℕ, zero, suc, ◌≡◌, ◌≢◌, ◌+◌, ◌-◌, ◌*◌, ◌/◌, ◌%◌, ◌<◌, ◌≤◌, ◌==◌, refl, ap, sym, ◌∙◌, subst, arith}
 use Rattle.std.proofs.Common.{List, [], ◌∷◌, length, get_or, take}
 use Rattle.std.specs.List.{All}
 use Rattle.std.proofs.lemmas.Bool.Decides.{nat_tests}
 use Rattle.std.proofs.lemmas.List.{take_all}
-use Rattle.mesh_ply.specs.Meshes.{IsFace}
+use Rattle.mesh.specs.Meshes.{IsFace}
 use Rattle.mesh_edges.specs.Edges.{face_at, is_edge, has_edge, faces_with_edge, IsBalanced}
 use Rattle.mesh_edges.proofs.Counts.{one_if}
 use Rattle.mesh_edges.proofs.EdgeCounts.{edge_count_more}
@@ -19,6 +19,26 @@ use Rattle.half_edges.proofs.Sums.{sum_below, sum_next, sum_none, sum_same, sum_
 -- 1 where the edge from u to v is that from a to b, else 0
 unfoldable pub along : (u v a b : ℕ) → ℕ
 along u v a b = one_if (is_edge u v a b)
+
+-- at most once
+pub along_yes : (u v a b : ℕ) → along u v a b ≤ 1
+unfolding along
+along_yes u v a b = grind (arith, nat_tests)
+
+-- once, if the two are the same
+pub along_one : (u v a b : ℕ) → u ≡ a → v ≡ b → along u v a b ≡ 1
+unfolding along
+along_one u v a b e f = grind (arith, nat_tests, e, f)
+
+-- one test for it
+pub along_is : (u v a b : ℕ) → along u v a b ≡ one_if (is_edge u v a b)
+unfolding along
+along_is u v a b = refl
+
+-- only if the two are the same
+pub along_some : (u v a b : ℕ) → along u v a b ≢ 0 → (u ≡ a) × (v ≡ b)
+unfolding along
+along_some u v a b some = (grind (arith, nat_tests, some), grind (arith, nat_tests, some))
 
 -- 1 where the face has the edge from u to v, else 0
 unfoldable pub has : (u v : ℕ) → List ℕ → ℕ
@@ -33,7 +53,7 @@ pub has_three : (u v a b c : ℕ) → (a ≡ b → ⊥) → (b ≡ c → ⊥) �
 unfolding along has
 has_three u v a b c ab bc ca = grind (arith, nat_tests)
 
-start_at : (faces : List (List ℕ)) (f k : ℕ) → k < 3 → start faces (3 * f + k) ≡ get_or (face_at faces f) k 0
+pub start_at : (faces : List (List ℕ)) (f k : ℕ) → k < 3 → start faces (3 * f + k) ≡ get_or (face_at faces f) k 0
 start_at faces f k l =
     let q : (3 * f + k) / 3 ≡ f = omega arith in
     let r : (3 * f + k) % 3 ≡ k = omega arith in
@@ -50,7 +70,7 @@ behind_third f = let r : (3 * f + 2) % 3 ≡ 2 = omega arith in rw r (omega arit
 
 module _ (faces : List (List ℕ)) where
   -- 1 where a half edge runs from u to v, else 0
-  abbrev runs : (u v h : ℕ) → ℕ
+  abbrev pub runs : (u v h : ℕ) → ℕ
   runs u v h = along u v (start faces h) (start faces (behind h))
 
   runs_at : (u v f k x y : ℕ) → start faces (3 * f + k) ≡ x → start faces (behind (3 * f + k)) ≡ y
@@ -78,7 +98,7 @@ module _ (faces : List (List ℕ)) where
       )
 
   -- counted by faces and by half edges
-  by_faces : (n u v : ℕ) → All (IsFace n) faces
+  pub by_faces : (n u v : ℕ) → All (IsFace n) faces
       → sum_below (runs u v) (3 * length faces) ≡ sum_below (λ f. has u v (face_at faces f)) (length faces)
   by_faces n u v each =
       sum_by_threes (runs u v) (length faces)

@@ -2,7 +2,7 @@
 --
 --   PairedAreClosed   in a paired mesh each directed edge occurs as often as its reverse
 use Rattle.std.specs.Prelude.{ℕ, List, All}
-use Rattle.mesh_ply.specs.Meshes.{IsFace}
+use Rattle.mesh.specs.Meshes.{IsFace}
 use Rattle.mesh_edges.specs.Edges.{IsBalanced}
 use Rattle.half_edges.specs.HalfEdges.{ArePaired}
 

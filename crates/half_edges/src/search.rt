@@ -1,11 +1,9 @@
 //! Finds the twins of half edges. No clause depends on it, since twins are verified afterwards.
 //!
 //! Half edges are sorted by their edge. Two that run opposite ways along an edge with two faces are twins. Where more faces meet, they
-//! are ordered around the edge by exact orientations, and each that leaves the solid is paired with the one that entered it last. At the
-//! end two pairs of an edge exchange their twins where copies of its vertices could not separate them ([`crate::exchange`]).
+//! are ordered around the edge by exact orientations, and each that leaves the solid is paired with the one that entered it last.
 
 use crate::NoMemory;
-use crate::exchange::exchange_twins;
 use crate::wings::{Wing, wings_of};
 use geo_sign::Point;
 use std::alloc::Global;
@@ -43,7 +41,7 @@ fn halves_of(alloc: Global, faces: &[[u32; 3]]) -> Result<Vec<Half>, NoMemory> {
 }
 
 /// Makes two half edges twins.
-pub(crate) fn link(twins: &mut [u32], one: u32, other: u32) {
+fn link(twins: &mut [u32], one: u32, other: u32) {
     if (one as usize) < twins.len() {
         twins[one as usize] = other;
     }
@@ -113,7 +111,7 @@ fn link_all(
     link_run(alloc, points, faces, &run, twins)
 }
 
-/// Returns the twin of each half edge as [`crate::pair`] finds it, unverified: a hint. Those for which none is found get the greatest number.
+/// Returns the twin of each half edge before umbrellas are divided, unverified: a hint. Those for which none is found get the greatest number.
 pub fn find_twins(
     alloc: Global,
     points: &[Point],
@@ -122,6 +120,5 @@ pub fn find_twins(
     let halves = halves_of(alloc, faces)?;
     let mut twins = vec![in alloc; u32::MAX; halves.len()]?;
     link_all(alloc, points, faces, &halves, &mut twins)?;
-    exchange_twins(alloc, &halves, &mut twins)?;
     Ok(twins)
 }

@@ -1,7 +1,7 @@
 //! Half edges, and whether each has a twin.
 
 ghost use Rattle.std.specs.Prelude.{◌≡◌, ◌*◌, ◌/◌, ◌<◌, ◌+◌, length};
-ghost use Rattle.std.specs.Bool.{OnTrue};
+ghost use Rattle.std.specs.Bool.{OnTrue, OnFalse};
 ghost use Rattle.half_edges.specs.HalfEdges.{start, behind, IsTwin, ArePaired};
 
 /// Returns the vertex at which a half edge begins.
@@ -24,7 +24,8 @@ pub fn behind(h: usize) -> usize
 fn is_twin(faces: &[[u32; 3]], twins: &[u32], h: usize) -> bool
     requires count { length twins.now ≡ 3 * length faces.now }
     requires within { h < length twins.now }
-    ensures { OnTrue result (IsTwin faces.now twins.now h) }
+    ensures yes { OnTrue result (IsTwin faces.now twins.now h) }
+    ensures no { OnFalse result (¬ IsTwin faces.now twins.now h) }
 {
     let twin = twins[h] as usize;
     if twin >= twins.len() || twin == h || twins[twin] as usize != h {
@@ -35,7 +36,8 @@ fn is_twin(faces: &[[u32; 3]], twins: &[u32], h: usize) -> bool
 
 /// Returns whether `twins[h]` is the twin of half edge `h`, for each half edge of the faces. Linear.
 pub fn are_twins(faces: &[[u32; 3]], twins: &[u32]) -> bool
-    ensures { OnTrue result (ArePaired faces.now twins.now) }
+    ensures yes { OnTrue result (ArePaired faces.now twins.now) }
+    ensures no { OnFalse result (¬ ArePaired faces.now twins.now) }
 {
     if twins.len() % 3 != 0 || twins.len() / 3 != faces.len() {
         return false;

@@ -1,8 +1,8 @@
 -- Counts that stop at the maximum of a `u64`, and the index of each call's count.
 --
 --   next count         one more, or the maximum
---   Rose before after  the count rose by one or more, or is at its maximum
---   call_index call    the index of a call's count among the six
+--   Rose before after  the count of faults has risen, or is at its greatest value
+--   call_index call    the index of a kind
 use Rattle.std.specs.Prelude.{ℕ, ◌+◌, ◌-◌, ◌^◌, ◌≤◌, min}
 use Rattle.host.specs.declared.plan.HostCall.{HostCall}
 use Rattle.host.specs.declared.plan.HostCall.TheVariants.{Open, Read, Create, Append, Finish, Say}

@@ -1,7 +1,7 @@
 -- The initial files of a host in memory.
 --
 --   Handed                       a name, and the bytes of its file if it exists
---   files_handed, names_handed   the files by name; the names, in order
+--   files_handed, names_handed   the files with which a host in memory is made; their names
 --   state_handed files           a host that has these files, with none open and nothing printed
 --   NamesApart files             no two names are equal
 --   IsMadeOf room file handed    a file was made from what was passed

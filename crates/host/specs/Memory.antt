@@ -1,17 +1,19 @@
 -- The view of a host in memory. It exposes everything.
 --
---   told_of host, state_of host   what it exposes; its state as a host
---   names_of host                 the names that it was constructed with
---   pieces_of host                the maximal numbers of bytes that the reads, appends and prints move, one after another
---   turn_of host, next_turn host  the turn among the pieces; the turn after one more such call
---   piece_of host                 the maximal number of bytes that the next such call moves
---   byte_room host                the capacity of a file, and of the output, in bytes
+--   told_of host, names_of host, pieces_of host
+--                                 of a host in memory: its files and output (`Told`), its names, its pieces
+--   state_of host                 the state of a host in memory
+--   turn_of host                  which piece is next
+--   next_turn host                which one is next after one more call
+--   piece_of host                 how many bytes the next read, append or say of a host in memory moves at most
+--   byte_room host                how many bytes each file and the output can hold
 --   room_in_file, room_in_said    the capacity that is left in the file that is open for writing, and in the output
---   failing_of host               the calls that fail, each as (call, number)
---   calls_of host call            the number of calls of this kind
+--   failing_of host               the calls that will fail, each by its kind and number
+--   calls_of host call            how many calls of a kind there were
 --   IsListed host call            the next such call fails
---   CountsCall old new call       one more such call was made, and the rest of the plan is unchanged
---   AreNumbers failing            each number is one that a call's count reaches
+--   CountsCall old new call       one more call of this kind is counted. The calls that will fail, the names, the size
+--                                 of pieces and the room for bytes are as before
+--   AreNumbers failing            the numbers are from 1 to 2^64 - 2, so the count of calls can reach them
 use Rattle.host.specs.Counts.{next, call_index}
 use Rattle.host.specs.declared.plan.HostCall.{HostCall}
 use Rattle.std.specs.Prelude.{All, ◌<◌, ◌^◌, ◌≡◌, ◌+◌, ◌-◌, ◌%◌, length, Contains, slice_index, slice_set, ℕ, List, Some}

@@ -1,11 +1,16 @@
 -- The view of a host, and the effect of its six calls.
 --
---   Files, Told, State        the bytes of files by name; what a host may expose; a host as contracts see it
+--   Files                     the bytes of files by name
+--   Told                      the files by name, the bytes left of the file that is read, the name of the file that is
+--                             written, and all that was printed
+--   State                     a host as contracts see it: always its counts of faults and opens, and whether a file is
+--                             read or written; also its bytes (`Told`), if the host states them
 --   after_change change told  what is exposed after a change, if anything is exposed
 --   IsCoherent state          no bytes are left of a file that is not open for reading, and no name is written to if none is
 --                               open
---   FailedFrom would after    as it would be, but the fault count rose
---   file_bytes files name     the bytes of a file, none if there is no such file
+--   FailedFrom would after    the state that the call would leave, except that the count of faults has risen, or is at
+--                             its greatest value
+--   file_bytes files name     the bytes of a file
 --   HasFile name state        if the host exposes its files, there is one of this name
 --   with_file, with_more      the files with one replaced or created, or with more bytes at its end
 --   opens_file, opens_none, takes, creates, stops_reading, appends, finishes, says

@@ -5,7 +5,7 @@
 --   reads_whole name state                  the named file was opened and read to its end
 --   TakesFront, ReadFails                   the state after a read that ran out of memory, or in which a call failed
 --   OnlyReads before after                  what a read does not change, and that it opens one file
---   HasCause result before after            the fault count, by the result of a read
+--   HasCause result before after            that is so exactly if a reading answers that a call failed
 use Rattle.std.specs.Prelude.{◌≡◌, ℕ, ◌≤◌, List, [], length, take, false, true, Option, Result, Ok, Err, ◌⊎◌}
 use Rattle.host.specs.Counts.{next, Rose}
 use Rattle.host.specs.State.{State, Told, after_change, FailedFrom, HasFile, with_file, opens_file, opens_none, takes}

@@ -4,7 +4,8 @@ use Rattle.std.proofs.Common.{length, decimal, append_assoc}
 use Rattle.std.specs.Fmt.{signed_decimal}
 use Rattle.std.specs.List.{flat_map, All}
 use Rattle.std.specs.Int.Signed.{mag}
-use Rattle.line_text.specs.Numbers.{ended, counted, Lacks, BeginsWithNone, IsBetween}
+use Rattle.line_text.specs.Numbers.{ended, counted, Lacks, BeginsWithNone}
+use Rattle.geo_sign.specs.Numbers.{IsBetween}
 use Rattle.std.proofs.lemmas.Fmt.{decimal_is_IsNumeral, decimal_injective, signed_decimal_injective}
 use Rattle.std.proofs.lemmas.List.Elements.{All-head, All-tail}
 use Rattle.std.proofs.lemmas.Str.Parse.{digit_at}

@@ -1,7 +1,8 @@
 -- Vertex numbers in front of a text that are no pair, no facet.
 use Rattle.std.proofs.Common.{ℕ, ◌≡◌, ◌<◌, refl, ap, sym, ◌∙◌, arith, List, [], ◌∷◌, ◌++◌, append_assoc}
 use Rattle.line_text.specs.Numbers.{ended, BeginsWithNone}
-use Rattle.line_text.specs.Facets.{IsVertexNumber, ArePairNumbers, pair_fields, IsFacetRow, facet_fields}
+use Rattle.line_text.specs.Facets.{IsVertexNumber, ArePairNumbers, pair_fields, facet_fields}
+use Rattle.geo_sign.specs.Numbers.{IsFacetRow}
 use Rattle.line_text.proofs.Codes.{IsCode, ended_code, none_second}
 
 pub vertex_code : (end : ℕ) → end < 48 → IsCode IsVertexNumber (λ n. ended n end)

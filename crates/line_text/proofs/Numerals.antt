@@ -7,7 +7,8 @@ use Rattle.std.proofs.lemmas.Str.{IsUtf8-from_ascii}
 use Rattle.std.proofs.lemmas.Str.Parse.{IsNumeralModel, numerals_by_value, tells_digits, digit_at, parse_plain}
 use Rattle.std.proofs.lemmas.Fmt.{decimal_is_IsNumeral, decimal_nonempty, decimal_digit, first_decimal, parse-decimal}
 use Rattle.std.proofs.lemmas.Fmt.{decimal-digits_value, IsAscii-decimal, decimal_injective}
-use Rattle.line_text.specs.Numbers.{ended, BeginsWithNone, Lacks, IsBetween}
+use Rattle.line_text.specs.Numbers.{ended, BeginsWithNone, Lacks}
+use Rattle.geo_sign.specs.Numbers.{IsBetween}
 use Rattle.line_text.specs.Tokens.{IsPlain}
 use Rattle.line_text.proofs.Codes.{one_split, decimal_lacks, number_first, ended_is}
 

@@ -7,7 +7,8 @@
 use Rattle.std.proofs.Common.{ℕ, ◌≡◌, ◌+◌, ◌-◌, ◌<◌, ◌^◌, inl, inr, refl, ap, sym, subst, ◌∙◌, arith, Option, List, [], ◌++◌}
 use Rattle.std.proofs.Common.{length, append_assoc}
 use Rattle.std.specs.List.{flat_map}
-use Rattle.line_text.specs.Numbers.{counted, BeginsWithNone, IsBetween}
+use Rattle.line_text.specs.Numbers.{counted, BeginsWithNone}
+use Rattle.geo_sign.specs.Numbers.{IsBetween}
 use Rattle.line_text.specs.declared.refusal.LineRefusal.{LineRefusal}
 use Rattle.line_text.specs.Refusals.{line_after, RefusedWord, RefusedNumber, AreRows, AreCountedRows, IsRefusedRow, AtPart, AtWord}
 use Rattle.line_text.specs.Refusals.{AtNumber, AtRows, AtList, IsBehindEnd}

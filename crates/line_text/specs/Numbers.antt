@@ -2,31 +2,27 @@
 --
 --   ended n end         the decimal text of a number and the byte that ends it
 --   Lacks byte text     no byte of the text is this one
---   BeginsWithNone      no valid text is a prefix of this one
+--   BeginsWithNone IsForm text_of text   no text of the form is a prefix of the text
 --   counted text n      a text, and the number that ends its last line
 --   signed_ended z end  the decimal text of a signed number and the byte that ends it
---   IsBetween           a number from the least to the greatest
---   IsSignedBetween     the same for a signed number
-use Rattle.std.specs.Prelude.{ℕ, ◌≡◌, ◌≢◌, ◌<◌, ◌≤◌, ℤ, ◌≤ℤ◌, List, [], ◌∷◌, ◌++◌, length, slice_index, decimal}
+--   IsSignedBetween     an integer from the least to the greatest, both included
+use Rattle.std.specs.Prelude.{ℕ, ◌≡◌, ◌≢◌, ◌<◌, ℤ, ◌≤ℤ◌, List, [], ◌∷◌, ◌++◌, length, slice_index, decimal}
 use Rattle.std.specs.Fmt.{signed_decimal}
 pub use Rattle.num_text.specs.Separators.{space, line_feed}
 
--- the decimal text of a number and the byte that ends it
+-- The digits of a number, and then one byte.
 abbrev pub ended : ℕ → ℕ → List ℕ
 ended n end = decimal n ++ (end ∷ [])
 
--- a text, and the number that ends its last line
+-- A text, then a number, then a line feed.
 abbrev pub counted : List ℕ → ℕ → List ℕ
 counted text n = text ++ ended n line_feed
 
--- the decimal text of a signed number and the byte that ends it
+-- The digits of an integer with its sign, and then one byte.
 abbrev pub signed_ended : ℤ → ℕ → List ℕ
 signed_ended z end = signed_decimal z ++ (end ∷ [])
 
--- a number from the least to the greatest, both included
-abbrev pub IsBetween : ℕ → ℕ → ℕ → Type 0
-IsBetween least greatest n = (least ≤ n) × (n ≤ greatest)
-
+-- a signed number from the least to the greatest, both included
 abbrev pub IsSignedBetween : ℤ → ℤ → ℤ → Type 0
 IsSignedBetween least greatest z = (least ≤ℤ z) × (z ≤ℤ greatest)
 

@@ -1,22 +1,26 @@
 -- Why a text that is read line by line is rejected: the first error in line order.
 --
 --   line_after n k               the number of the line k lines after line n, at most the greatest 64-bit number
---   IsCutOrBad n text r          how an invalid line is rejected
---   RefusedWord, RefusedNumber   line n, a fixed text or a prefix and a number, is rejected
+--   IsCutOrBad n text r          the error if a line is not of its form: truncated if the text ends before the line
+--                                does, else a bad line with its number
+--   RefusedWord                  line n is not this text
+--   RefusedNumber                line n is not this text and a number from the least to the greatest
 --   Rise order rows              rows with strictly ascending keys, if they have to ascend
 --   RisesAbove order rows row    a row is above the last of these rows, if it has to be
---   AreRows                      valid rows in ascending order
+--   AreRows IsForm order rows    rows of their form, strictly ascending by their keys if an order is required
 --   IsOutOfOrder                 a valid row that is not above the row before it
---   IsRefusedRow                 a row of a list is rejected, after valid rows
+--   IsRefusedRow                 one of the stated number of rows is rejected, after valid rows
 --   BeginsWith                   the text begins with a valid part, and the text after it has a property
 --   AtPart                       a part is rejected, or it is valid and the text after it has a property
---   AtWord, AtNumber             the same for a line of a fixed text, and of a word and a number
---   AtRows, AtList               the same for a number of rows, and for a list after its length
+--   AtWord, AtNumber, AtRows, AtList
+--                                the next line or list of a text is an error, or it is valid and something holds of the
+--                                text after it. So the error of a whole text is that of its first invalid line
 --   IsBehindEnd n rest r         something follows the last line, as line n
 use Rattle.std.specs.Prelude.{ℕ, ◌≡◌, ◌⊎◌, ◌+◌, ◌-◌, ◌<◌, ◌^◌, min, Option, Some, None, List, [], ◌∷◌, ◌++◌, All, AllPairs}
 use Rattle.std.specs.Prelude.{Contains, length, map}
 use Rattle.std.specs.List.{flat_map}
-use Rattle.line_text.specs.Numbers.{line_feed, counted, Lacks, BeginsWithNone, IsBetween}
+use Rattle.line_text.specs.Numbers.{line_feed, counted, Lacks, BeginsWithNone}
+use Rattle.geo_sign.specs.Numbers.{IsBetween}
 use Rattle.geo_sign.specs.Rising.{IsBefore}
 use Rattle.line_text.specs.declared.refusal.LineRefusal.{LineRefusal}
 use Rattle.line_text.specs.declared.refusal.LineRefusal.TheVariants.{BadLine, Order, Cut, NoMemory}

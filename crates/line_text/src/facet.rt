@@ -2,7 +2,8 @@
 
 ghost use Rattle.std.specs.Prelude.{◌≡◌, ◌<◌, ◌++◌, IfSome, IfNone};
 ghost use Rattle.line_text.specs.Numbers.{ended, BeginsWithNone};
-ghost use Rattle.line_text.specs.Facets.{IsVertexNumber, ArePairNumbers, pair_fields, IsFacetRow, facet_fields};
+ghost use Rattle.line_text.specs.Facets.{IsVertexNumber, ArePairNumbers, pair_fields, facet_fields};
+ghost use Rattle.geo_sign.specs.Numbers.{IsFacetRow};
 
 use crate::read::number_first;
 

@@ -1,5 +1,7 @@
 //! Lines of whole numbers, as in the mesh format and the certificate format.
 //!
+//! Verified: `push_number`, `number_first` print and read lines of integers exactly, else return the first error in line order.
+//!
 //! A number is decimal without leading zeros and ends with one byte: a space within a line, a line feed at the line's end. The
 //! rows of a list are compared lexicographically. A text is read line by line, and rejected at the first line that is
 //! truncated, invalid or out of order, with that line's number ([`LineRefusal`]).

@@ -1,7 +1,8 @@
 //! Lines at the start of a text that are a fixed text, or a word and a number: read, or rejected with the line number.
 
 ghost use Rattle.std.specs.Prelude.{◌≡◌, ◌++◌, IfOk, IfErr};
-ghost use Rattle.line_text.specs.Numbers.{counted, IsBetween};
+ghost use Rattle.line_text.specs.Numbers.{counted};
+ghost use Rattle.geo_sign.specs.Numbers.{IsBetween};
 ghost use Rattle.line_text.specs.Refusals.{RefusedWord, RefusedNumber};
 
 use crate::read::{behind, counted_within};

@@ -4,7 +4,8 @@ ghost use Rattle.std.specs.Prelude.{◌≡◌, ◌<◌, ◌≤◌, ◌^◌, ◌+
 ghost use Rattle.std.specs.Bool.{OnTrue, OnFalse};
 ghost use Rattle.std.specs.Fmt.{signed_decimal};
 ghost use Rattle.std.specs.Int.Signed.{mag};
-ghost use Rattle.line_text.specs.Numbers.{ended, counted, signed_ended, BeginsWithNone, Lacks, IsBetween, IsSignedBetween};
+ghost use Rattle.line_text.specs.Numbers.{ended, counted, signed_ended, BeginsWithNone, Lacks, IsSignedBetween};
+ghost use Rattle.geo_sign.specs.Numbers.{IsBetween};
 ghost use Rattle.line_text.specs.Tokens.{IsPlain};
 
 /// Returns the position of the first such byte, or the length if there is none.

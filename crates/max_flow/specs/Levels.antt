@@ -1,11 +1,19 @@
 -- Levels that show from which nodes a sink with residual capacity can be reached.
 --
---   LeadsLower      a residual arc with residual capacity leads from a node to a found one of a lower level
---   AreLeading      these arcs lead from the nodes that are recorded to have one
---   IsOnward        a node's sink has residual capacity, or one of these arcs leads from the node
---   IsClosedArc     a residual arc into a found node leaves a found one, or has no residual capacity
---   IsClosedBelow   so do the residual arcs of arcs below a bound
---   AreLevels       the found nodes are those from which a sink with residual capacity can be reached
+--   LeadsLower      an unsaturated residual arc leads from the node to a found one of a lower level
+--   AreLeading net flow marked level leads
+--                   there is a flag for each node; from each node with a flag, an unsaturated residual arc leads to a
+--                   found node of a lower level (`LeadsLower`)
+--   IsOnward net flow marked level v
+--                   an unsaturated residual arc leads from the node to a found one of a lower level, or the node is
+--                   free and its own sink is not full
+--   IsClosedArc net flow marked r   the residual arc r leads to no found node, or leaves one, or is saturated
+--   IsClosedBelow net flow marked bound
+--                   `IsClosedArc` holds for the two residual arcs of each arc with a number below the bound
+--   AreLevels net flow marked level
+--                   each node whose sink is not full is found; no unsaturated residual arc leads from a node that is
+--                   not found to a found one; each found node is onward. So the found nodes are exactly those that
+--                   reach a sink with residual capacity
 use Rattle.std.specs.Prelude.{ℕ, ◌≡◌, ◌<◌, ◌≤◌, ◌⊎◌, Bool, true, false, List, length, slice_index}
 use Rattle.flow_net.specs.Numbered.{NumberedNetwork}
 use Rattle.flow_net.specs.declared.Flow.{Flow}

@@ -1,8 +1,12 @@
 //! Computes a maximum flow through a network, and the minimum cut with the smallest inside.
 //!
-//! The flow begins with a hint, which is validated: if it is valid, and its levels show from which nodes a sink with residual
-//! capacity can be reached and that no fixed node is among them, it is maximal (Ford and Fulkerson 1956). Else rounds continue
-//! from it, or from zero if it is not valid. A round finds all nodes from which a sink with residual capacity can be reached in
+//! Verified: `solve` returns a maximum flow; `least_inside` and `minimum_cut` return the minimum cut with the smallest inside.
+//! `resume` completes a valid flow to a maximum flow. The cost of the cut is the value of the flow. `is_valid_flow`
+//! returns exactly whether a flow is valid.
+//!
+//! The flow begins with a hint, if the caller passes in a value that gives hints (`FlowHints` of `flow_net`). The hint is validated:
+//! if it is valid, and its levels show from which nodes a sink with residual capacity can be reached and that no fixed node is among
+//! them, it is maximal (Ford and Fulkerson 1956). Else rounds continue from it, or from zero if it is not valid. A round finds all nodes from which a sink with residual capacity can be reached in
 //! the residual network, with their levels, and augments along paths that lead down by levels until none is left (Dinic 1970).
 //! If no fixed node is found, the flow is maximal.
 //!
@@ -10,11 +14,10 @@
 //! them inside. Labatut, Pons and Keriven (2007) cut such a network of cells.
 //!
 //! `residual` defines the residual arcs, `incidence` finds those that enter a node, `searches` searches backwards from the
-//! sinks with residual capacity, `levels` validates the levels of a hint instead, `paths` augments along paths, `phases` does
+//! sinks with residual capacity, `levels` validates levels of a hint or of `spread` instead, `paths` augments along paths, `phases` does
 //! so down the levels of a search, `solving` has the calls that depend on all these, and `resuming` those that resume from a
 //! valid flow. `balance` adds up what enters and leaves each node, which a check that names a fault takes too, and `validity` tests
-//! whether amounts are a valid flow. The crate depends on `flow_net` and on `flow_hint` for the hint, and reports its progress to
-//! a callback of `host`.
+//! whether amounts are a valid flow. The crate depends on `flow_net`, and reports its progress to a callback of `watch`.
 //!
 //! # Example
 //!
@@ -46,12 +49,13 @@ mod residual;
 mod resuming;
 mod searches;
 mod solving;
+mod spread;
 mod validity;
 
 pub use balance::{Totals, add_up};
-pub use flow_hint::KeptPreflow;
 pub use resuming::{minimum_cut_above, resume};
 pub use solving::{least_inside, minimum_cut, minimum_cut_and_preflow, solve};
+pub use spread::find_levels;
 pub use validity::is_valid_flow;
 
 /// The error of a call that ran out of memory.

@@ -1,8 +1,8 @@
 //! Resumes from a valid flow, and returns a maximum flow by which no less flows into any sink. Depends on hints and on their
 //! validation and completion in `solving`.
 //!
-//! If no sink has residual capacity, the flow is maximal already. Else a hint resumes from the preflow of an earlier one; if
-//! there is none, or its hint fails the validation, a new hint first fills the sinks to their previous amounts.
+//! If no sink has residual capacity, the flow is maximal already. Else a hint resumes from what an earlier one left; if there
+//! is nothing, or its hint fails the validation, a new hint first fills the sinks to their previous amounts.
 
 ghost use Rattle.std.specs.Prelude.{◌≡◌, ◌≤◌, length, true, IfOk, IfSome, OnOk};
 ghost use Rattle.flow_net.specs.NumberedFlows.{IsValidFlow, IsLargest, IsLeastInside, value_of, cost_of};
@@ -12,10 +12,9 @@ use crate::NoMemory;
 use crate::paths::has_room;
 use crate::solving::{finish, least_inside, shown_by, shown_inside};
 use crate::validity::is_valid_flow;
-use flow_hint::{Hint, KeptPreflow, find_hint_above, find_hint_on};
-use flow_net::{Flow, FlowNetwork, Labels, Sequence};
-use host::Silent;
+use flow_net::{Flow, FlowHints, FlowNetwork, Hint, Labels, Sequence};
 use std::alloc::Global;
+use watch::Silent;
 
 /// Returns a copy of the amounts of a flow.
 fn copied(alloc: Global, flow: &Flow) -> Result<Flow, NoMemory>
@@ -55,13 +54,13 @@ fn keeps_sinks(before: &Flow, after: &Flow) -> bool
 }
 
 /// Returns the flow of a hint, and the minimum cut with the smallest inside if the flow is known to be maximal, or `None` if it
-/// is not valid, or less flows into a sink than by a valid flow. Else its preflow is kept.
-fn tested<N: FlowNetwork>(
+/// is not valid, or less flows into a sink than by a valid flow. Else what it leaves is kept.
+fn tested<N: FlowNetwork, K: Drop>(
     alloc: Global,
     net: &N,
     flow: &Flow,
-    found: Option<(Hint, KeptPreflow)>,
-    kept: &mut Option<KeptPreflow>,
+    found: Option<(Hint, K)>,
+    kept: &mut Option<K>,
 ) -> Result<Option<(Flow, Option<Labels>)>, NoMemory>
     requires { IsValidFlow (N.numbered net.now) flow.now }
     ensures valid { IfOk result (λ found. IfSome found (λ more. IsValidFlow (N.numbered net.now) more.0)) }
@@ -69,24 +68,25 @@ fn tested<N: FlowNetwork>(
     ensures least { IfOk result (λ found. IfSome found (λ more. IfSome more.1 (λ labels. IsLeastInside (N.numbered net.now) labels))) }
     ensures cost { IfOk result (λ found. IfSome found (λ more. IfSome more.1 (λ labels. cost_of (N.numbered net.now) labels ≡ value_of (N.numbered net.now) more.0))) }
 {
-    let Some((Hint { flow: more, levels }, preflow)) = found else {
+    let Some((Hint { flow: more, levels }, left)) = found else {
         return Ok(None);
     };
     if !is_valid_flow(alloc, net, &more)? || !keeps_sinks(flow, &more) {
         return Ok(None);
     }
     let labels = shown_by(alloc, net, &more, levels)?;
-    *kept = Some(preflow);
+    *kept = Some(left);
     Ok(Some((more, labels)))
 }
 
 /// Returns a valid flow by which no less flows into any sink than by another, and the minimum cut with the smallest inside if
 /// the flow is known to be maximal: that of a hint, or the same flow if no hint passes the validation.
-fn more_above<N: FlowNetwork>(
+fn more_above<N: FlowNetwork, W: FlowHints>(
     alloc: Global,
     net: &N,
     flow: &Flow,
-    kept: &mut Option<KeptPreflow>,
+    kept: &mut Option<W::Kept>,
+    watch: &mut W,
 ) -> Result<(Flow, Option<Labels>), NoMemory>
     requires { IsValidFlow (N.numbered net.now) flow.now }
     ensures valid { IfOk result (λ more. IsValidFlow (N.numbered net.now) more.0) }
@@ -94,13 +94,13 @@ fn more_above<N: FlowNetwork>(
     ensures least { IfOk result (λ more. IfSome more.1 (λ labels. IsLeastInside (N.numbered net.now) labels)) }
     ensures cost { IfOk result (λ more. IfSome more.1 (λ labels. cost_of (N.numbered net.now) labels ≡ value_of (N.numbered net.now) more.0)) }
 {
-    if let Some(preflow) = kept.take() {
-        let found = find_hint_on(alloc, net, preflow)?;
+    if let Some(left) = kept.take() {
+        let found = watch.resume(alloc, net, left)?;
         if let Some(more) = tested(alloc, net, flow, found, kept)? {
             return Ok(more);
         }
     }
-    let found = find_hint_above(alloc, net, flow.on_sink.as_slice(), &mut Silent)?;
+    let found = watch.find_above(alloc, net, flow.on_sink.as_slice())?;
     if let Some(more) = tested(alloc, net, flow, found, kept)? {
         return Ok(more);
     }
@@ -110,14 +110,16 @@ fn more_above<N: FlowNetwork>(
 /// Returns a maximum flow by which no less flows into any sink than by a valid one, and the minimum cut with the smallest
 /// inside, whose cost is its value: flow that has reached a sink stays there, and only more is sent.
 ///
-/// It resumes from the preflow of an earlier call, this one or `minimum_cut_and_preflow`, and leaves its own. The preflow
-/// affects only the time: it takes longer if there is none, for example after out of memory, or that of another network.
+/// It takes hints from a callback, which resume from what the hint of an earlier call left, of this one or of
+/// `minimum_cut_and_preflow`, and leave their own. That affects only the time: it takes longer if there is nothing, for example after
+/// out of memory, or that of another network.
 #[tactic(auto, using(crate::proofs::Cuts::shown_largest))]
-pub fn minimum_cut_above<N: FlowNetwork>(
+pub fn minimum_cut_above<N: FlowNetwork, W: FlowHints>(
     alloc: Global,
     net: &N,
     flow: &Flow,
-    kept: &mut Option<KeptPreflow>,
+    kept: &mut Option<W::Kept>,
+    watch: &mut W,
 ) -> Result<(Flow, Labels), NoMemory>
     requires { IsValidFlow (N.numbered net.now) flow.now }
     ensures valid { IfOk result (λ cut. IsValidFlow (N.numbered net.now) cut.0) }
@@ -131,7 +133,7 @@ pub fn minimum_cut_above<N: FlowNetwork>(
             return Ok((copied(alloc, flow)?, labels));
         }
     }
-    let (mut more, found) = more_above(alloc, net, flow, kept)?;
+    let (mut more, found) = more_above(alloc, net, flow, kept, watch)?;
     if let Some(labels) = found {
         return Ok((more, labels));
     }
@@ -151,7 +153,7 @@ pub fn resume<N: FlowNetwork>(alloc: Global, net: &N, flow: &mut Flow) -> Result
     ensures rises { value_of (N.numbered net.now) flow.old ≤ value_of (N.numbered net.now) flow.new }
     ensures sinks { KeepsSinks flow.old flow.new }
 {
-    let (more, _labels) = minimum_cut_above(alloc, net, flow, &mut None)?;
+    let (more, _labels) = minimum_cut_above(alloc, net, flow, &mut None, &mut Silent)?;
     *flow = more;
     Ok(())
 }

@@ -15,11 +15,11 @@ use crate::paths::{augment, bottleneck};
 use crate::phases::Phase;
 use crate::residual::ResidualArc;
 use crate::searches::{Search, search_back};
+use crate::spread::find_levels;
 use crate::validity::is_valid_flow;
-use flow_hint::{Hint, KeptPreflow, Levels, find_hint, find_hint_above, find_levels};
-use flow_net::{Flow, FlowNetwork, Labels, Sequence};
-use host::{Silent, Stage, Watch};
+use flow_net::{Flow, FlowHints, FlowNetwork, Hint, Labels, Levels, Sequence};
 use std::alloc::Global;
+use watch::{Silent, Stage, Watch};
 
 /// An augmenting path, and the node at its end.
 #[derive(Debug, Drop)]
@@ -204,12 +204,14 @@ fn largest_flow<N: FlowNetwork, W: Watch>(
 }
 
 /// Returns a maximum flow: it is valid, so 0 at the sinks of fixed nodes, and no valid flow has a larger value.
+///
+/// It takes no hints, and so longer than [`minimum_cut`] with some.
 pub fn solve<N: FlowNetwork>(alloc: Global, net: &N) -> Result<Flow, NoMemory>
     ensures valid { IfOk result (λ flow. IsValidFlow (N.numbered net.now) flow) }
     ensures largest { IfOk result (λ flow. IsLargest (N.numbered net.now) flow) }
 {
-    let hint = find_hint(alloc, net, &mut Silent)?;
-    let (flow, _labels) = largest_flow(alloc, net, hint, &mut Silent)?;
+    let mut flow = zero_flow(alloc, net)?;
+    finish(alloc, net, &mut flow, &mut Silent)?;
     Ok(flow)
 }
 
@@ -281,9 +283,9 @@ fn cut_by<N: FlowNetwork, W: Watch>(
 /// Returns a maximum flow, and the minimum cut with the smallest inside, whose cost is its value. It takes less time than
 /// `solve` and `least_inside` one after the other.
 ///
-/// Reports to a progress callback the stage, and from how many nodes the hint moved amounts on; and if rounds have to follow,
-/// the stage of rounds and their number.
-pub fn minimum_cut<N: FlowNetwork, W: Watch>(
+/// Takes hints from a progress callback, and reports to it the stage and, if rounds have to follow, the stage of rounds and their
+/// number.
+pub fn minimum_cut<N: FlowNetwork, W: FlowHints>(
     alloc: Global,
     net: &N,
     watch: &mut W,
@@ -294,24 +296,24 @@ pub fn minimum_cut<N: FlowNetwork, W: Watch>(
     ensures cost { IfOk result (λ cut. cost_of (N.numbered net.now) cut.1 ≡ value_of (N.numbered net.now) cut.0) }
 {
     watch.stage(Stage::Flow, 0);
-    let hint = find_hint(alloc, net, watch)?;
+    let hint = watch.find(alloc, net)?;
     cut_by(alloc, net, hint, watch)
 }
 
-/// Returns the result of `minimum_cut`, and the preflow of its hint, if there is one, from which `minimum_cut_above` can
-/// resume. Reports progress as `minimum_cut` does.
-pub fn minimum_cut_and_preflow<N: FlowNetwork, W: Watch>(
+/// Returns the result of `minimum_cut`, and what its hint leaves, if there is one, from which `minimum_cut_above` can resume.
+/// Reports progress as `minimum_cut` does.
+pub fn minimum_cut_and_preflow<N: FlowNetwork, W: FlowHints>(
     alloc: Global,
     net: &N,
     watch: &mut W,
-) -> Result<(Flow, Labels, Option<KeptPreflow>), NoMemory>
+) -> Result<(Flow, Labels, Option<W::Kept>), NoMemory>
     ensures valid { IfOk result (λ cut. IsValidFlow (N.numbered net.now) cut.0) }
     ensures largest { IfOk result (λ cut. IsLargest (N.numbered net.now) cut.0) }
     ensures least { IfOk result (λ cut. IsLeastInside (N.numbered net.now) cut.1) }
     ensures cost { IfOk result (λ cut. cost_of (N.numbered net.now) cut.1 ≡ value_of (N.numbered net.now) cut.0) }
 {
     watch.stage(Stage::Flow, 0);
-    let (hint, kept) = match find_hint_above(alloc, net, &[], watch)? {
+    let (hint, kept) = match watch.find_above(alloc, net, &[])? {
         Some((hint, kept)) => (Some(hint), Some(kept)),
         None => (None, None),
     };

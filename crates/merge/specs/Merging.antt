@@ -8,15 +8,15 @@ use Rattle.std.specs.List.{position_or_len}
 use Rattle.std.specs.Ordering.{int_eq}
 use Rattle.geo_sign.specs.Point.{Point}
 
--- the two points are equal
+-- Tests whether two points have the same coordinates.
 abbrev pub is_same_point : Point → Point → Bool
 is_same_point a b = int_eq a.x b.x && int_eq a.y b.y && int_eq a.z b.z
 
--- the rows' points, once each: the first row's, and then the distinct points of the other rows that differ from it
+-- The points without repetitions, in the order of their first occurrence.
 abbrev pub distinct_points : List Point → List Point
 distinct_points [] = []
 distinct_points (p ∷ rest) = p ∷ filter (λ q. not (is_same_point p q)) (distinct_points rest)
 
--- the first index of a point in a list, or the list's length if it is not there
+-- The index of the first point in a list that equals a given one, or the list's length if there is none.
 abbrev pub index_among : List Point → Point → ℕ
 index_among points p = position_or_len (is_same_point p) points

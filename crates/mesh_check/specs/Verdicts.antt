@@ -1,13 +1,18 @@
 -- Whether a finished mesh is what it has to be.
 --
 --   IsNonManifoldVertex points faces v   the faces at a vertex are not one cycle
---   IsManifold points faces              no edge has other than two faces, and no vertex is so
---   IsManifoldIfAsked asked points faces   so it is, if that is asked
---   HasNonManifold asked points faces e v   it is asked, and e edges and v vertices are not manifold, at least one of both
+--   IsManifold points faces              each edge has exactly two faces, and the faces at each vertex are one cycle
+--   IsManifoldIfAsked asked points faces   if it is asked, the mesh is manifold
+--   HasNonManifold asked points faces edges vertices
+--                                        a manifold mesh is asked for, and the mesh has these numbers of non-manifold
+--                                        edges and vertices, at least one in all
 --   KeepsDemands homes d points faces    the mesh is closed, manifold if asked, and each vertex is near a home
---   HasFarVertex homes d points faces v   the first vertex that is far, in a mesh that keeps the demands before
---   IsFirstFault homes d points faces fault     the first of these that does not hold
---   IsJudgment homes d points faces verdict      a fault, or how many pairs of faces cross
+--   HasFarVertex homes d points faces v  the mesh is closed, and manifold if asked; v is its first vertex that is not
+--                                        near a home
+--   IsFirstFault homes d points faces fault   the fault is the first demand that does not hold
+--   IsJudgment homes d points faces verdict
+--                                        the verdict is the first fault; or there is none, and the verdict has the
+--                                        numbers of pairs of faces that cross
 use Rattle.std.specs.Prelude.{ℕ, ◌+◌, ◌≡◌, ◌<◌, Bool, true, List, length}
 use Rattle.geo_sign.specs.Point.{Point}
 use Rattle.counting.specs.Sets.{AreSoMany}
@@ -17,7 +22,7 @@ use Rattle.mesh_crossings.specs.Counts.{CountsCrossings}
 use Rattle.mesh_within.specs.Far.{AreAllNear, IsFirstFar}
 use Rattle.mesh_check.specs.declared.verdict.Demands.{Demands}
 use Rattle.mesh_check.specs.declared.verdict.Fault.{Fault}
-use Rattle.mesh_check.specs.declared.verdict.Fault.TheVariants.{Unbalanced, NonManifold, FarVertex}
+use Rattle.mesh_check.specs.declared.verdict.Fault.TheVariants.{Unbalanced, NonManifold, FarVertex, UnreachedVertex}
 use Rattle.mesh_check.specs.declared.verdict.Verdict.{Verdict}
 use Rattle.mesh_check.specs.declared.verdict.Verdict.TheVariants.{Keeps, Breaks}
 
@@ -59,6 +64,7 @@ IsFirstFault homes d points faces (Unbalanced e) = IsFirstUnbalanced faces e.fro
 IsFirstFault homes d points faces (NonManifold edges vertices) =
     IsBalanced faces × HasNonManifold d.manifold points faces edges vertices
 IsFirstFault homes d points faces (FarVertex v) = HasFarVertex homes d points faces v
+IsFirstFault homes d points faces (UnreachedVertex v) = ⊥
 
 -- a fault, or that there is none and how many pairs of faces cross
 abbrev pub IsJudgment : List Point → Demands → List Point → List (List ℕ) → Verdict → Type 0

@@ -1,17 +1,17 @@
 //! Tests the demands in their order.
 
 ghost use Rattle.std.specs.Prelude.{IfOk, MatchOption};
-ghost use Rattle.mesh_ply.specs.Meshes.{IsMesh};
+ghost use Rattle.mesh.specs.Meshes.{IsMesh};
 ghost use Rattle.mesh_edges.specs.Edges.{IsBalanced};
 ghost use Rattle.mesh_check.specs.Verdicts.{IsManifoldIfAsked, HasNonManifold, KeepsDemands, IsFirstFault, IsJudgment};
 
 use crate::NoMemory;
 use crate::verdict::{Demands, Fault, Verdict};
 use geo_sign::Point;
+use mesh::Mesh;
 use mesh_crossings::count_crossings;
 use mesh_edges::first_unbalanced;
 use mesh_measures::measure_topology;
-use mesh_ply::Mesh;
 use mesh_within::first_far;
 use std::alloc::Global;
 

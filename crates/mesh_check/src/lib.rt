@@ -1,15 +1,22 @@
 //! Whether a finished mesh is what it has to be: closed, manifold if vertices were split, and with each vertex near one of the mesh that
 //! it was made of.
 //!
+//! Verified: `judge` returns the first unmet demand: closed, manifold (if asked), near the original; else it counts crossings.
+//! If all are met, it returns how many pairs of faces cross or are undecided.
+//!
+//! `judge_simplified` does the same for a simplified mesh: closed, and each corner of the original near a face.
+//!
 //! [`judge`] tests this for any mesh and trusts nothing that is said of it. It finds the first fault, or counts the pairs of faces that
 //! cross, which no finished mesh promises to have none of.
 //!
-//! It depends on `mesh_edges` (closed meshes), `mesh_measures` (edges and vertices), `mesh_within` (distances) and `mesh_crossings`.
+//! It depends on `mesh_edges` (closed meshes), `mesh_measures` (edges and vertices), `mesh_within` (distances), `mesh_reach` (near faces) and `mesh_crossings`.
 #![tactic(auto)]
 
 mod judging;
+mod simplified;
 mod verdict;
 
 pub use judging::judge;
 pub use mesh_edges::NoMemory;
+pub use simplified::judge_simplified;
 pub use verdict::{Demands, Fault, Verdict};

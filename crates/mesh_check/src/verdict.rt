@@ -28,6 +28,8 @@ pub enum Fault {
     },
     /// The first vertex that is too far from each vertex of the mesh before.
     FarVertex(usize),
+    /// The first corner of the mesh before for which no face is shown to be near enough.
+    UnreachedVertex(u32),
 }
 
 /// What was found.

@@ -9,7 +9,7 @@ use Rattle.std.proofs.lemmas.Option.{IfSome_then}
 use Rattle.host.specs.State.{State, Told, Files}
 use Rattle.host.specs.Whole.{OnlyReads}
 use Rattle.sha2.specs.Sha256.{sha256}
-use Rattle.mesh_ply.specs.Meshes.{Surface}
+use Rattle.mesh.specs.Meshes.{Surface}
 use Rattle.mesh_check.specs.declared.verdict.Verdict.{Verdict}
 use Rattle.mesh_check.specs.declared.verdict.Verdict.TheVariants.{Keeps, Breaks}
 use Rattle.mesh_provenance.specs.declared.provenance.Provenance.{Provenance}

@@ -7,7 +7,7 @@ use Rattle.std.proofs.Common.{subst, ◌∙◌, arith, unwrap_or}
 use Rattle.host.specs.State.{State, Told, Files, file_bytes}
 use Rattle.host.specs.Whole.{OnlyReads, apart_from_left}
 use Rattle.sha2.specs.Sha256.{sha256}
-use Rattle.mesh_ply.specs.Meshes.{Surface}
+use Rattle.mesh.specs.Meshes.{Surface}
 use Rattle.mesh_provenance.specs.Laws.{IsFile}
 use Rattle.mesh_provenance.specs.Texts.{file_text}
 use Rattle.mesh_provenance.specs.declared.provenance.Provenance.{Provenance}

@@ -2,3 +2,4 @@ pub mod Checking
 pub mod Finishing
 pub mod InputReplies
 pub mod Texts
+pub mod Simplifying

@@ -1,28 +1,38 @@
--- `check MESH OUT`: whether a finished mesh is what it states, of the mesh that it was made of.
+-- `check MESH OUT`: whether a finished or simplified mesh is what it states, of the mesh that it was made of.
 --
---   confirm_names words                the names that the program holds
---   not_stated_line, other_mesh_line   the lines of a mesh without comments, and of one that was made of another file
---   fault_line fault                   the line of a demand that the mesh does not keep
---   unbalanced_out_line, nonmanifold_line   the lines of demands on edges and vertices
---   confirmed_line points faces counts   the line of a mesh that keeps them all
---   reach_of smoothing, demands_of p   how far vertices may be, and all that the comments demand
---   line_answer status line, verdict_answer out verdict   the answers
---   IsJudged mesh p out answer         the demands of these comments decide
---   ConfirmAnswer digest mesh p out answer   the first reason for no that applies, or yes
---   OutAnswer limit name digest mesh files answer   the answers to the file of the finished mesh
---   confirm_task names                   the command
+--   confirm_names words                the file names that the program holds for `check`, in the form that definitions
+--                                      use
+--   not_stated_line                    the line that `check` prints for a mesh without comments
+--   other_mesh_line                    the line for a mesh that was made of another file
+--   fault_line fault                   the line for a demand that the mesh does not meet
+--   unbalanced_out_line from to there back   the line for an unbalanced edge of the finished mesh
+--   nonmanifold_line edges vertices    the line for its numbers of non-manifold edges and vertices
+--   confirmed_line points faces counts   the line for a mesh that meets all demands
+--   reach_of smoothing                 how far vertices may be from those of the original mesh
+--   demands_of o fine                  all that these options demand of a finished mesh with this scale
+--   line_answer status line            the answer that has this status and this line, and writes no file
+--   verdict_answer out verdict         the answer that follows from a verdict on the finished mesh
+--   IsJudgedBy mesh made fine out verdict   the verdict follows from what was done
+--   IsJudged mesh p out answer         the answer follows from the demands that these comments state
+--   ConfirmAnswer digest mesh p out answer   the answer of `check`: the first reason for no that applies, or yes
+--   OutAnswer limit name digest mesh files answer   the answers of `check` to the file of the finished mesh
+--   confirm_task names                 the command `check`
 use Rattle.std.specs.Prelude.{ℕ, List, [], ◌∷◌, ◌++◌, codes, ◌≡◌, ◌≢◌, ◌⊎◌, ⊤, length, Option, None, Some}
 use Rattle.host.specs.State.{Files}
 use Rattle.sha2.specs.Sha256.{sha256}
-use Rattle.mesh_ply.specs.Meshes.{Surface}
+use Rattle.mesh.specs.Meshes.{Surface}
 use Rattle.mesh_crossings.specs.declared.counts.CrossingCounts.{CrossingCounts}
 use Rattle.mesh_check.specs.Verdicts.{IsJudgment}
+use Rattle.mesh_check.specs.Simplified.{IsSimplifyJudgment}
 use Rattle.mesh_check.specs.declared.verdict.Demands.{Demands}
 use Rattle.mesh_check.specs.declared.verdict.Fault.{Fault}
-use Rattle.mesh_check.specs.declared.verdict.Fault.TheVariants.{Unbalanced, NonManifold, FarVertex}
+use Rattle.mesh_check.specs.declared.verdict.Fault.TheVariants.{Unbalanced, NonManifold, FarVertex, UnreachedVertex}
 use Rattle.mesh_check.specs.declared.verdict.Verdict.{Verdict}
 use Rattle.mesh_check.specs.declared.verdict.Verdict.TheVariants.{Keeps, Breaks}
-use Rattle.mesh_provenance.specs.declared.options.SmoothOptions.{SmoothOptions}
+use Rattle.finish_options.specs.declared.options.FinishOptions.{FinishOptions}
+use Rattle.finish_options.specs.declared.options.SmoothOptions.{SmoothOptions}
+use Rattle.finish_options.specs.declared.options.Made.{Made}
+use Rattle.finish_options.specs.declared.options.Made.TheVariants.{Finish, Simplify}
 use Rattle.mesh_provenance.specs.declared.provenance.Provenance.{Provenance}
 use Rattle.command_run.specs.Answers.{Answer, Task}
 use Rattle.command_run.specs.Lines.{labelled, number_line, text_line}
@@ -62,6 +72,7 @@ abbrev pub fault_line : Fault → List ℕ
 fault_line (Unbalanced e) = unbalanced_out_line e.from e.to e.there e.back
 fault_line (NonManifold edges vertices) = nonmanifold_line edges vertices
 fault_line (FarVertex v) = number_line (codes "no 5 far_vertex ") v
+fault_line (UnreachedVertex v) = number_line (codes "no 6 unreached_vertex ") v
 
 -- `yes points N faces M crossing_pairs C undecided_pairs U`, and ` first_pair I J` if any pair crosses
 unfoldable pub confirmed_line : (points faces : ℕ) → CrossingCounts → List ℕ
@@ -73,9 +84,9 @@ abbrev pub reach_of : Option SmoothOptions → ℕ
 reach_of None = 0
 reach_of (Some s) = s.within
 
--- what the comments demand of the mesh
-abbrev pub demands_of : Provenance → Demands
-demands_of p = record { manifold = p.options.manifold; fine = p.fine; within = reach_of p.options.smoothing }
+-- what these options demand of a finished mesh with this scale
+abbrev pub demands_of : FinishOptions → (fine : ℕ) → Demands
+demands_of o fine = record { manifold = o.manifold; fine = fine; within = reach_of o.smoothing }
 
 -- both files were read, and this line is printed
 abbrev pub line_answer : Status → List ℕ → Answer
@@ -86,10 +97,16 @@ abbrev pub verdict_answer : Surface → Verdict → Answer
 verdict_answer out (Keeps counts) = line_answer Done (confirmed_line (length out.points) (length out.faces) counts)
 verdict_answer out (Breaks fault) = line_answer No (fault_line fault)
 
+-- what was done says which demands decide
+abbrev pub IsJudgedBy : Surface → Made → (fine : ℕ) → Surface → Verdict → Type 0
+IsJudgedBy mesh (Finish o) fine out verdict = IsJudgment mesh.points (demands_of o fine) out.points out.faces verdict
+IsJudgedBy mesh (Simplify o) fine out verdict =
+    IsSimplifyJudgment fine o.within mesh.points mesh.faces out.points out.faces verdict
+
 -- the demands of these comments decide
 pub record IsJudged (mesh : Surface) (p : Provenance) (out : Surface) (answer : Answer) : Type 0 where
   pub verdict : Verdict
-  pub holds : IsJudgment mesh.points (demands_of p) out.points out.faces verdict
+  pub holds : IsJudgedBy mesh p.made p.fine out verdict
   pub is : answer ≡ verdict_answer out verdict
 
 -- The finished mesh has no comments, or was made of a file with another digest than this one of the mesh, or the demands decide.

@@ -1,16 +1,17 @@
 -- The commands of the program.
 --
 --   Asked                        a command with its names and options
---   finish_of words              what the arguments after `finish` ask for
---   inspect_of words             what the arguments after `inspect` ask for
---   confirm_of words               what the arguments after `check` ask for
+--   finish_of words              what the arguments after `finish` ask for: two names, not empty and not equal, and
+--                                options
+--   inspect_of words             what the argument after `inspect` asks for: one name that is not empty
+--   confirm_of words             what the arguments after `check` ask for: two names, not empty and not equal
 --   command_of words             the command that the arguments ask for, if they are valid
 --   asked command                a command as the program holds it
 --   task_of asked                what a command is apart from its arguments
 --   AnswerOf asked files answer  the answer of a command, or to invalid arguments, where the files are these
---   most_reads asked             how many files it reads at most
---   StatusFits status asked      the statuses that a run of it may end with
---   Outcome asked status ..      what a run of it does to its host
+--   most_reads asked             how many files a command reads at most
+--   StatusFits status asked      the statuses with which a run of a command may end
+--   Outcome asked status before after   what a run does to its host, by the answers of a command (`Run`)
 use Rattle.std.specs.Option.{option_map}
 use Rattle.std.specs.Prelude.{ℕ, List, [], ◌∷◌, if◌then◌else◌, Option, Some, None, codes, ◌≡◌, ⊤}
 use Rattle.std.specs.Str.{bytes_eq}
@@ -24,13 +25,17 @@ use Rattle.mesh_cmd.specs.Check.{confirm_names, confirm_task}
 use Rattle.mesh_cmd.specs.Finish.{finish_names, finish_task}
 use Rattle.mesh_cmd.specs.Inspect.{inspect_task}
 use Rattle.mesh_cmd.specs.Options.{finish_options}
+use Rattle.mesh_cmd.specs.Simplify.{simplify_names, simplify_task}
+use Rattle.mesh_cmd.specs.SimplifyRequests.{simplify_request}
 use Rattle.mesh_cmd.specs.declared.commands.Command.{Command}
 use Rattle.mesh_cmd.specs.declared.commands.Command.TheVariants as commands
 use Rattle.mesh_cmd.specs.declared.options.FinishRequest.{FinishRequest}
+use Rattle.mesh_cmd.specs.declared.simplify_request.SimplifyRequest.{SimplifyRequest}
 
 -- a command with its names and options
 pub data Asked : Type 0 where
   finish : Names → FinishRequest → Asked
+  simplify : Names → SimplifyRequest → Asked
   inspect : List ℕ → Asked
   check : Names → Asked
 
@@ -41,6 +46,15 @@ finish_of (mesh ∷ []) = None
 finish_of (mesh ∷ output ∷ options) =
     if are_names (mesh ∷ output ∷ [])
     then option_map (finish (record { input = mesh; output = output })) (finish_options options)
+    else None
+
+-- two names, and options
+abbrev pub simplify_of : List (List ℕ) → Option Asked
+simplify_of [] = None
+simplify_of (mesh ∷ []) = None
+simplify_of (mesh ∷ output ∷ options) =
+    if are_names (mesh ∷ output ∷ [])
+    then option_map (simplify (record { input = mesh; output = output })) (simplify_request options)
     else None
 
 -- one name
@@ -62,6 +76,7 @@ abbrev pub command_of : List (List ℕ) → Option Asked
 command_of [] = None
 command_of (word ∷ words) =
     if bytes_eq word (codes "finish") then finish_of words
+    else if bytes_eq word (codes "simplify") then simplify_of words
     else if bytes_eq word (codes "inspect") then inspect_of words
     else if bytes_eq word (codes "check") then confirm_of words
     else None
@@ -69,12 +84,14 @@ command_of (word ∷ words) =
 -- a command as the program holds it
 abbrev pub asked : Command → Asked
 asked (commands.Finish words) = finish (finish_names words) words.request
+asked (commands.Simplify words) = simplify (simplify_names words) words.request
 asked (commands.Inspect words) = inspect words.mesh.now
 asked (commands.Check words) = check (confirm_names words)
 
 -- what a command is apart from its arguments
 abbrev pub task_of : Asked → Task
 task_of (finish names request) = finish_task names request
+task_of (simplify names request) = simplify_task names request
 task_of (inspect name) = inspect_task name
 task_of (check names) = confirm_task names
 

@@ -1,29 +1,36 @@
 -- `finish MESH OUT`: a mesh after what the options ask for.
 --
---   finish_names words                   the names that the program holds
+--   finish_names words                   the file names that the program holds for `finish`, in the form that
+--                                        definitions use
 --   scale_text smoothing fine            the part of the line on the scale of a smoothed mesh
---   finished_line smoothing points faces fine   the line
+--   finished_line smoothing points faces fine   the line of `finish`
 --   stated_by request digest fine        where a mesh comes from, if its file states that
 --   finish_done output request ..        the answer that writes this mesh
 --   not_closed_line from to there back   the line of a mesh that is not closed
 --   unverified_line step                 the line of a step whose result did not pass its verification
---   WritesFinished output request ..     the answer writes a mesh after what the options ask for
---   IsNotClosed mesh answer              the mesh is not closed, which the answer says
---   IsUnverified answer                  a step did not pass its verification, which the answer says
---   IsNotFinished mesh answer            one of the last two
---   FinishAnswer output request ..       a mesh is written, or it is said why not
---   finish_task names request            the command
+--   WritesFinished output request digest mesh answer
+--                                        the answer writes a mesh that the steps which the options ask for make of this
+--                                        mesh (`AreFinished`)
+--   IsNotClosed mesh answer              the mesh is not closed, and the answer states that
+--   IsUnverified options mesh answer     the mesh is closed, a step that the options ask for did not pass its
+--                                        verification, and the answer states that
+--   IsNotFinished options mesh answer    no mesh is written, and the answer states why: the mesh is not closed
+--                                        (`IsNotClosed`), or a step did not pass its verification (`IsUnverified`)
+--   FinishAnswer output request digest mesh answer   a mesh is written, or the answer states why not
+--   finish_task names request            the definition (`Task`) of the command `finish` with these names and options
 use Rattle.std.specs.Prelude.{ℕ, List, [], ◌∷◌, ◌++◌, codes, ◌≡◌, ◌⊎◌, length, Option, None, Some, if◌then◌else◌}
 use Rattle.sha2.specs.Sha256.{sha256}
-use Rattle.mesh_ply.specs.Meshes.{Surface}
+use Rattle.mesh.specs.Meshes.{Surface}
 use Rattle.mesh_ply.specs.Texts.{IsPrinted}
 use Rattle.mesh_provenance.specs.Texts.{file_text}
 use Rattle.mesh_provenance.specs.declared.provenance.Provenance.{Provenance}
-use Rattle.mesh_edges.specs.Edges.{IsFirstUnbalanced}
-use Rattle.mesh_finish.specs.Steps.{AreFinished}
-use Rattle.mesh_provenance.specs.declared.options.SmoothOptions.{SmoothOptions}
+use Rattle.mesh_edges.specs.Edges.{IsBalanced, IsFirstUnbalanced}
+use Rattle.mesh_finish.specs.Steps.{AreFinished, IsUnverifiedStep}
+use Rattle.finish_options.specs.declared.options.FinishOptions.{FinishOptions}
+use Rattle.finish_options.specs.declared.options.Made.TheVariants as making
+use Rattle.finish_options.specs.declared.options.SmoothOptions.{SmoothOptions}
 use Rattle.mesh_finish.specs.declared.options.Step.{Step}
-use Rattle.mesh_finish.specs.declared.options.Step.TheVariants.{Pairing, Pieces, Splitting, Umbrellas}
+use Rattle.mesh_finish.specs.declared.options.Step.TheVariants.{Pieces, Umbrellas}
 use Rattle.command_run.specs.Answers.{Answer, Task, invalid}
 use Rattle.command_run.specs.Lines.{labelled, text_line}
 use Rattle.command_run.specs.Words.{Names}
@@ -50,7 +57,7 @@ finished_line smoothing points faces fine =
 -- the options, the scale and the digest of the file that was read, unless the header is to have no comments
 abbrev pub stated_by : FinishRequest → (digest : List ℕ) → (fine : ℕ) → Option Provenance
 stated_by request digest fine =
-    if request.comments then Some (record { options = request.options; fine = fine; digest = digest }) else None
+    if request.comments then Some (record { made = making.Finish request.options; fine = fine; digest = digest }) else None
 
 -- the answer that writes the text of this mesh, with where it comes from
 abbrev pub finish_done : (output : List ℕ) → FinishRequest → (digest : List ℕ) → Surface → (fine : ℕ) → Answer
@@ -70,9 +77,7 @@ not_closed_line from to there back =
 
 -- the line of a step whose result did not pass its verification
 abbrev pub unverified_line : Step → List ℕ
-unverified_line Pairing = text_line (codes "refused 31 unverified pairing")
 unverified_line Pieces = text_line (codes "refused 31 unverified pieces")
-unverified_line Splitting = text_line (codes "refused 31 unverified splitting")
 unverified_line Umbrellas = text_line (codes "refused 31 unverified umbrellas")
 
 -- The text of a mesh after what the options ask for is written. Unless the options leave it out, its header states them, its scale,
@@ -93,17 +98,20 @@ pub record IsNotClosed (mesh : Surface) (answer : Answer) : Type 0 where
   pub first : IsFirstUnbalanced mesh.faces from to there back
   pub is : answer ≡ invalid 1 (not_closed_line from to there back)
 
--- a step did not pass its verification, which the line says
-abbrev pub IsUnverified : Answer → Type 0
-IsUnverified answer = (step : Step) × (answer ≡ invalid 1 (unverified_line step))
+-- a step that the options ask for did not pass its verification in a closed mesh, which the line states
+pub record IsUnverified (options : FinishOptions) (mesh : Surface) (answer : Answer) : Type 0 where
+  pub step : Step
+  pub closed : IsBalanced mesh.faces
+  pub why : IsUnverifiedStep options mesh.points mesh.faces step
+  pub is : answer ≡ invalid 1 (unverified_line step)
 
 -- it is said why no mesh is written
-abbrev pub IsNotFinished : Surface → Answer → Type 0
-IsNotFinished mesh answer = IsNotClosed mesh answer ⊎ IsUnverified answer
+abbrev pub IsNotFinished : FinishOptions → Surface → Answer → Type 0
+IsNotFinished options mesh answer = IsNotClosed mesh answer ⊎ IsUnverified options mesh answer
 
 -- a finished mesh is written, or it is said why not
 abbrev pub FinishAnswer : List ℕ → FinishRequest → (digest : List ℕ) → Surface → Answer → Type 0
-FinishAnswer output request digest mesh answer = WritesFinished output request digest mesh answer ⊎ IsNotFinished mesh answer
+FinishAnswer output request digest mesh answer = WritesFinished output request digest mesh answer ⊎ IsNotFinished request.options mesh answer
 
 -- It reads the mesh, and writes a finished one if the mesh is valid. The digest is the SHA-256 of the bytes that were read, by the kit's
 -- own definition.

@@ -1,20 +1,27 @@
 -- An input of a command: a mesh as `build` writes it, or with comments as `finish` does.
 --
---   too_long_out_line, out_error_line why   the lines for the file of a finished mesh that is rejected
---   reads_at, too_long_at, error_line_at    by the role of a file: how many files are read with it, and the lines that reject it
---   FileInvalid role limit bytes answer  the bytes are neither, and the first error is printed
+--   too_long_out_line                    the line for the file of a finished mesh that is too long
+--   out_error_line why                   the line that rejects the file of a finished mesh
+--   reads_at role                        by the role of a file (the original mesh or the finished one): how many files
+--                                        have been read, this one included (1 or 2)
+--   too_long_at role                     the line if it is too long
+--   error_line_at role why               the line for its first error
+--   FileInvalid role limit bytes answer  the bytes are no mesh, with comments or without, and the first error is
+--                                        printed
 --   IsUnreadFile role limit bytes answer the file is too long, or it is neither
 --   Answering                            the answers to the bytes of a file with this provenance and mesh
---   FileAnswered limit Answers ..        it is one of the two, with this answer
---   ToInput role limit name Answers ..    the answer of a command to these files, by the named one
---   file_task Denies input Answers       a command that reads one such mesh
+--   FileAnswered limit Answers bytes answer
+--                                        the bytes are a mesh, with comments or without, and this is the answer to it
+--   ToInput role limit name Answers files answer
+--                                        the answer of a command to these files, which follows from the named one
+--   file_task Denies input Answers       a command that reads one mesh, with comments or without
 --   surface_of_input input               the points and faces of a mesh that the program holds
 --   IsUnderstoodInput, IsInputReading    the result of parsing the bytes of a file, and those of the named file
 --   IsFileIfRead reading                 a mesh that was read has a text
 use Rattle.std.specs.Prelude.{ℕ, List, codes, ◌≡◌, length, ◌≤◌, Option, Some, None, ◌⊎◌, ⊤}
 use Rattle.host.specs.State.{Files, Told}
 use Rattle.sha2.specs.Sha256.{sha256}
-use Rattle.mesh_ply.specs.Meshes.{Surface}
+use Rattle.mesh.specs.Meshes.{Surface}
 use Rattle.mesh_ply.specs.declared.refusal.MeshRefusal.{MeshRefusal}
 use Rattle.mesh_ply.specs.declared.refusal.MeshRefusal.TheVariants as meshes
 use Rattle.mesh_provenance.specs.Laws.{IsFile}
@@ -65,7 +72,7 @@ pub record FileInvalid (role : Role) (limit : ℕ) (bytes : List ℕ) (answer : 
   pub line_is : error_line_at role why ≡ Some line
   pub is : answer ≡ invalid (reads_at role) line
 
--- the file is rejected, for its length or its content
+-- a file is rejected: it is too long (`FileTooLong`), or no mesh with comments or without (`FileInvalid`)
 abbrev pub IsUnreadFile : Role → (limit : ℕ) → (bytes : List ℕ) → Answer → Type 0
 IsUnreadFile role limit bytes answer =
     FileTooLong limit (reads_at role) (too_long_at role) bytes answer ⊎ FileInvalid role limit bytes answer

@@ -2,14 +2,17 @@
 --
 --   AreMeasuresOf mesh m         m are the measures of a mesh
 --   closed_text unbalanced       the part of the line on the first unbalanced edge
---   topology_text t              its part on how the faces are connected
---   sizes_text, volume_text, measures_text   its other parts
---   inspected_line points faces m   the line
---   IsInspection mesh answer     the answer says the measures of a mesh
---   inspect_task name            the command
+--   topology_text t              the part of the line of `inspect` with the numbers of non-manifold edges, non-manifold
+--                                vertices and pieces
+--   sizes_text points faces      the part of the line of `inspect` with the numbers of points and faces
+--   volume_text six              the part of the line of `inspect` with the signed volume, as a sixth of an integer
+--   measures_text m              the line of `inspect` after the numbers of points and faces: all measures of the mesh
+--   inspected_line points faces m   the line of `inspect`
+--   IsInspection mesh answer     the answer states the measures of a mesh
+--   inspect_task name            the definition (`Task`) of the command `inspect` for the mesh of this name
 use Rattle.std.specs.Prelude.{ℕ, ℤ, List, [], Option, Some, None, ◌++◌, codes, ◌≡◌, ◌<◌, length, IfNone, IfSome}
 use Rattle.std.specs.Fmt.{signed_decimal}
-use Rattle.mesh_ply.specs.Meshes.{Surface}
+use Rattle.mesh.specs.Meshes.{Surface}
 use Rattle.mesh_edges.specs.Edges.{face_at, IsBalanced, IsFirstUnbalanced}
 use Rattle.mesh_edges.specs.declared.balance.UnbalancedEdge.{UnbalancedEdge}
 use Rattle.counting.specs.Sets.{AreSoMany}

@@ -5,3 +5,5 @@ pub mod Finish
 pub mod Input
 pub mod Inspect
 pub mod Options
+pub mod Simplify
+pub mod SimplifyRequests

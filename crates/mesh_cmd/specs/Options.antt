@@ -1,14 +1,13 @@
 -- The options of `finish`, which are given one after another.
 --
---   limited most number, whole_number most result, limited_in most text    the number from 1 to `most` that digits are
---   without_flips, with_split, without_comments   the options with one more, if it is not given yet
+--   limited most number, whole_number most result, limited_in most text
+--                                      the number that digits state, from 1 to `most`
+--   without_flips, with_split, without_comments, with_key_number o word, with_option o word, with_options o words
+--                                      the options that arguments are, one after another, each at most once
 --   first_number given number          a number, if none is given yet
 --   with_pieces, with_steps, with_within   the options with a number more, if it is not given yet
---   with_key_number o word             the options with the number of an argument, if it is one that is not given yet
---   with_option o word                 the options with that of an argument, if it is one that is not given yet
---   with_options o words               the options with those of all arguments
 --   smoothing_given steps within       how a mesh is smoothed, if both numbers are given or neither
---   options_given o                    the options that are given so
+--   options_given o                    the options that have this smoothing
 --   finish_options words               the options that the arguments after the names are
 use Rattle.std.specs.Prelude.{ℕ, List, [], ◌∷◌, if◌then◌else◌, true, false, Option, Some, None, codes, drop, nat_le, nat_eq, ◌&&◌}
 use Rattle.std.specs.Prelude.{ℤ, Result, Ok, Err, unsigned_abs}
@@ -18,8 +17,8 @@ use Rattle.std.specs.Option.{option_and_then, option_map}
 use Rattle.std.specs.Str.{bytes_eq}
 use Rattle.num_text.specs.WholeNumbers.{whole_of}
 use Rattle.num_text.specs.declared.refusal.NumRefusal.{NumRefusal}
-use Rattle.mesh_provenance.specs.declared.options.SmoothOptions.{SmoothOptions}
-use Rattle.mesh_provenance.specs.declared.options.TheConstants.{MOST_STEPS, FARTHEST}
+use Rattle.finish_options.specs.declared.options.SmoothOptions.{SmoothOptions}
+use Rattle.finish_options.specs.declared.options.TheConstants.{MOST_STEPS, FARTHEST}
 use Rattle.mesh_cmd.specs.declared.options.FinishRequest.{FinishRequest}
 use Rattle.mesh_cmd.specs.declared.options.GivenOptions.{GivenOptions}
 

@@ -8,6 +8,7 @@ ghost use Rattle.mesh_cmd.specs.Commands.{command_of, asked, task_of};
 mod check;
 mod finish;
 mod inspect;
+mod simplify;
 
 pub use check::CheckWords;
 use check::{check_command, reply_to_check};
@@ -17,6 +18,8 @@ use finish::{finish_command, reply_to_finish};
 use host::Host;
 use inspect::{inspect_command, reply_to_inspect};
 pub use inspect::{InspectWords, Measures};
+pub use simplify::SimplifyWords;
+use simplify::{reply_to_simplify, simplify_command};
 use std::alloc::Global;
 
 /// What a run is asked for.
@@ -26,9 +29,12 @@ pub enum Command<'a> {
     /// pieces, splits vertices so that each edge has two faces, flips edges where the angles between faces fall, moves vertices by at
     /// most D units so that neighboring faces agree on their directions, and writes the result with its provenance.
     Finish(FinishWords<'a>),
+    /// `simplify MESH OUT within=D [faces=N] [comments=no]`: reads the mesh, collapses edges while each corner of its faces stays at most
+    /// D units from a face, down to N faces, and writes the result with its provenance.
+    Simplify(SimplifyWords<'a>),
     /// `inspect MESH`: reads the mesh and says its measures.
     Inspect(InspectWords<'a>),
-    /// `check MESH OUT`: reads the mesh and a finished one, and says whether the second is what its comments state, of the first.
+    /// `check MESH OUT`: reads the mesh and a finished or simplified one, and says whether the second is what its comments state, of the first.
     Check(CheckWords<'a>),
 }
 
@@ -43,6 +49,7 @@ pub fn understand(words: &[String]) -> Option<Command<'_>>
     };
     match command.as_str() {
         "finish" => finish_command(words),
+        "simplify" => simplify_command(words),
         "inspect" => inspect_command(words),
         "check" => check_command(words),
         _ => None,
@@ -62,6 +69,7 @@ pub fn reply_to<'a, H: Host>(
 {
     match command {
         Command::Finish(words) => reply_to_finish(alloc, host, words),
+        Command::Simplify(words) => reply_to_simplify(alloc, host, words),
         Command::Inspect(words) => reply_to_inspect(alloc, host, words),
         Command::Check(words) => reply_to_check(alloc, host, words),
     }

@@ -10,7 +10,8 @@ use command_run::{
     Line, NoMemory, Stop, line_of_mesh_error, line_of_number, line_of_text, line_of_too_long_mesh,
 };
 use host::{Host, ReadRefusal, read_all};
-use mesh_ply::{Mesh, MeshRefusal};
+use mesh::Mesh;
+use mesh_ply::MeshRefusal;
 use mesh_provenance::{AnnotatedMesh, Provenance, read_annotated};
 use sha2::{Digest, Sha256};
 use std::alloc::{AllocError, Global};

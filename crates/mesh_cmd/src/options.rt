@@ -2,7 +2,7 @@
 ghost use Rattle.std.specs.Prelude.{◌≡◌, map, string_bytes};
 ghost use Rattle.mesh_cmd.specs.Options.{finish_options, options_given, smoothing_given, with_options, with_option, with_key_number, without_flips, with_split, without_comments, first_number, with_pieces, with_steps, with_within, limited_in, limited};
 
-use mesh_provenance::{FARTHEST, FinishOptions, MOST_STEPS, SmoothOptions};
+use finish_options::{FARTHEST, FinishOptions, MOST_STEPS, SmoothOptions};
 use num_text::{all_digits, whole};
 
 /// What is done to a mesh, and whether its file states that.
@@ -191,7 +191,7 @@ fn with_within(options: GivenOptions, number: u32) -> Option<GivenOptions>
 }
 
 /// Returns a number, if none is given yet.
-fn first_number(given: Option<u32>, number: u32) -> Option<u32>
+pub(crate) fn first_number(given: Option<u32>, number: u32) -> Option<u32>
     ensures { result ≡ first_number given number }
 {
     match given {
@@ -201,7 +201,7 @@ fn first_number(given: Option<u32>, number: u32) -> Option<u32>
 }
 
 /// Returns the number from 1 to `most` that digits are.
-fn limited_in(most: u32, text: &[u8]) -> Option<u32>
+pub(crate) fn limited_in(most: u32, text: &[u8]) -> Option<u32>
     ensures { result ≡ limited_in most text.now }
 {
     if !all_digits(text) {

@@ -1,10 +1,12 @@
 -- Meshes whose vertices are copies of old ones.
 --
---   IsCopy points faces new_points new_faces origin   vertex w of the new mesh is a copy of the old vertex number w of origin
+--   IsCopy points faces new_points new_faces origin   vertex w of the new mesh is a copy of the old vertex whose number
+--                                                     is entry w of the list `origin`
 --   IsAscending xs, IsNonDescending xs                each number is above, or not below, the one before it
-use Rattle.std.specs.Prelude.{ℕ, ◌≡◌, ◌+◌, ◌<◌, ◌≤◌, List, length, map, slice_index}
+--   IsCornerOf faces w f                              face number f has the vertex w
+use Rattle.std.specs.Prelude.{ℕ, ◌≡◌, ◌+◌, ◌<◌, ◌≤◌, true, List, [], length, map, slice_index, slice_index_or}
 use Rattle.geo_sign.specs.Point.{Point}
-use Rattle.mesh_ply.specs.Meshes.{point_at}
+use Rattle.mesh.specs.Meshes.{point_at, is_vertex_of}
 
 -- Each new vertex stands where its original stands, and the new faces, with originals in the place of copies, are the old ones.
 pub record IsCopy (points : List Point) (faces : List (List ℕ)) (new_points : List Point) (new_faces : List (List ℕ))
@@ -19,3 +21,8 @@ IsAscending xs = (k : ℕ) → k + 1 < length xs → slice_index xs k < slice_in
 -- no number is below the one before it
 abbrev pub IsNonDescending : List ℕ → Type 0
 IsNonDescending xs = (k : ℕ) → k + 1 < length xs → slice_index xs k ≤ slice_index xs (k + 1)
+
+-- face number f has the vertex w
+pub record IsCornerOf (faces : List (List ℕ)) (w f : ℕ) : Type 0 where
+  pub within : f < length faces
+  pub corner : is_vertex_of w (slice_index_or faces f []) ≡ true

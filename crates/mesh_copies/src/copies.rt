@@ -2,7 +2,7 @@
 
 ghost use Rattle.std.specs.Prelude.{◌≡◌, ◌<◌, ◌^◌, All, IfOk, IfSome, length, map, slice_index};
 ghost use Rattle.std.specs.Bool.{OnTrue};
-ghost use Rattle.mesh_ply.specs.Meshes.{IsFace, IsMesh, point_at};
+ghost use Rattle.mesh.specs.Meshes.{IsFace, IsMesh, point_at};
 ghost use Rattle.mesh_copies.specs.Copies.{IsCopy};
 
 use crate::{Mesh, NoMemory};
@@ -61,6 +61,22 @@ fn points_of(
         list.push(points[*v as usize])?;
     }
     Ok(Some(list))
+}
+
+/// Returns the point of each origin.
+pub fn copied_points(
+    alloc: Global,
+    points: &[Point],
+    origin: &[u32],
+) -> Result<Vec<Point>, NoMemory>
+    requires { All (λ v. v < length points.now) origin.now }
+    ensures { IfOk result (λ new. new.items ≡ map (point_at points.now) origin.now) }
+{
+    let mut list = Vec::with_capacity(alloc, origin.len())?;
+    for old in origin {
+        list.push(points[*old as usize])?;
+    }
+    Ok(list)
 }
 
 /// Returns the mesh with these faces, whose vertex `w` is a copy of vertex `origin[w]`.

@@ -2,8 +2,8 @@
 use Rattle.std.proofs.Common.{ℕ, ◌≡◌, ◌<◌, arith, List, map, subst}
 use Rattle.std.specs.List.Sorted.{IsPermutation}
 use Rattle.std.proofs.lemmas.List.Sorted.{All-permutation, Contains-permutation, IsPermutation-map}
-use Rattle.mesh_ply.specs.Meshes.{below}
-use Rattle.mesh_ply.proofs.Vertices.{get_or-below, length_below}
+use Rattle.mesh.specs.Meshes.{below}
+use Rattle.mesh.proofs.Vertices.{get_or-below, length_below}
 use Rattle.mesh_crossings.specs.Tested.{Covers, face_number}
 use Rattle.mesh_crossings.specs.declared.order.Ranked.{Ranked}
 

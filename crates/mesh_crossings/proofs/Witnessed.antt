@@ -4,7 +4,7 @@ use Rattle.std.proofs.lemmas.Int.{to_z-of_z}
 use mir.Syntax.{w32}
 use Rattle.geo_sign.proofs.Bounds.{kept}
 use Rattle.geo_sign.specs.Point.{Point, point}
-use Rattle.mesh_ply.specs.Meshes.{point_at}
+use Rattle.mesh.specs.Meshes.{point_at}
 use Rattle.triangle_gap.specs.Gaps.{AreFacesApart, IsCommon}
 use Rattle.triangle_gap.specs.Shared.{weighted, weighted_sum}
 use Rattle.mesh_crossings.specs.Tested.{IsCornersOf}

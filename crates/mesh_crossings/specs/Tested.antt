@@ -14,7 +14,7 @@
 --   AreAllKnown .. numbers .. n    the same of all before index n
 use Rattle.std.specs.Prelude.{ℕ, ◌≡◌, ◌<◌, ◌⊎◌, ⊤, List, [], ◌∷◌, All, Contains, slice_index, slice_index_or}
 use Rattle.geo_sign.specs.Point.{Point}
-use Rattle.mesh_ply.specs.Meshes.{point_at}
+use Rattle.mesh.specs.Meshes.{point_at}
 use Rattle.mesh_edges.specs.Edges.{face_at}
 use Rattle.mesh_edges.specs.declared.pair.Pair.{Pair}
 use Rattle.triangle_gap.specs.Gaps.{AreFacesApart}

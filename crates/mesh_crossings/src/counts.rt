@@ -1,13 +1,13 @@
 //! How many pairs of faces cross, and the first of them.
 
 ghost use Rattle.std.specs.Prelude.{◌≡◌, IfOk, slice_get};
-ghost use Rattle.mesh_ply.specs.Meshes.{IsMesh};
+ghost use Rattle.mesh.specs.Meshes.{IsMesh};
 ghost use Rattle.mesh_crossings.specs.Counts.{CountsCrossings};
 
 use crate::NoMemory;
 use crate::gather::find_crossings;
+use mesh::Mesh;
 use mesh_edges::Pair;
-use mesh_ply::Mesh;
 use std::alloc::Global;
 
 /// How many pairs of faces cross, and the first of them.

@@ -1,7 +1,7 @@
 //! Tests each pair of faces whose boxes overlap.
 
 ghost use Rattle.std.specs.Prelude.{◌≡◌, ◌<◌, ℕ, All, Contains, IfOk, OnOk, length, map};
-ghost use Rattle.mesh_ply.specs.Meshes.{IsMesh};
+ghost use Rattle.mesh.specs.Meshes.{IsMesh};
 ghost use Rattle.mesh_edges.specs.Edges.{face_at};
 ghost use Rattle.mesh_flips.specs.Turns.{IsTriangle};
 ghost use Rattle.mesh_flips.specs.Fields.{IsReady};
@@ -14,9 +14,9 @@ use crate::order::{faces_of, in_order};
 use crate::tidy::tidied;
 use geo_sign::Point;
 use hull_tree::HullTree;
+use mesh::Mesh;
 use mesh_edges::Pair;
 use mesh_flips::{hull_of, tree_of};
-use mesh_ply::Mesh;
 use std::alloc::Global;
 
 /// Pairs of faces by their numbers, the smaller first.

@@ -1,5 +1,8 @@
 //! Pairs of faces that cross: they share a point that is no common corner and on no common edge.
 //!
+//! Verified: `find_crossings` shows crossing pairs of faces by a common point; all other pairs are apart, or listed as undecided.
+//! `count_crossings` counts them.
+//!
 //! [`find_crossings`] tests each pair of faces whose boxes overlap, and [`count_crossings`] counts what it finds. That two faces are apart
 //! is shown by planes (`triangle_gap`). That they cross is shown by whole weights of their corners that give one point of both: weights
 //! are proposed by volumes and areas, without a contract, and verified. A pair for which neither is shown is undecided. So the answer is

@@ -2,7 +2,7 @@
 
 ghost use Rattle.std.specs.Prelude.{◌≡◌, ◌<◌, ◌^◌, All, IfOk, length, map};
 ghost use Rattle.std.specs.List.Sorted.{IsPermutation};
-ghost use Rattle.mesh_ply.specs.Meshes.{below};
+ghost use Rattle.mesh.specs.Meshes.{below};
 ghost use Rattle.mesh_edges.specs.Edges.{face_at};
 ghost use Rattle.mesh_crossings.specs.Tested.{Covers, face_number};
 

@@ -2,7 +2,7 @@
 
 ghost use Rattle.std.specs.Prelude.{◌≡◌, ◌<◌, ◌≤◌, ◌^◌, ◌*ℤ◌, All, false, length, pos, unsigned_abs};
 ghost use Rattle.std.specs.Bool.{OnTrue};
-ghost use Rattle.mesh_ply.specs.Meshes.{is_vertex_of, point_at};
+ghost use Rattle.mesh.specs.Meshes.{is_vertex_of, point_at};
 ghost use Rattle.triangle_gap.specs.Gaps.{AreFacesApart, IsCommon};
 ghost use Rattle.triangle_gap.specs.Shared.{weighted, weighted_sum};
 ghost use Rattle.mesh_crossings.specs.Tested.{IsCornersOf};

@@ -7,7 +7,7 @@ use Rattle.std.proofs.lemmas.Bool.{cases_lt}
 use Rattle.std.proofs.lemmas.List.Elements.{All-tail}
 use Rattle.std.proofs.lemmas.List.Sorted.{sum_by-IsPermutation}
 use Rattle.std.proofs.lemmas.List.Sums.{sum_by-cons, sum_by_more, count_by-le-length}
-use Rattle.mesh_ply.specs.Meshes.{IsFace}
+use Rattle.mesh.specs.Meshes.{IsFace}
 use Rattle.mesh_edges.specs.Edges.{has_edge, faces_with_edge, ComesFirst, IsBalanced, IsFirstUnbalanced}
 use Rattle.mesh_edges.specs.Pairs.{key_of, key_of_pair, key_count, HasGained, IsPairOf, IsFirstUnequalPair}
 use Rattle.mesh_edges.specs.declared.pair.Pair.{Pair}

@@ -3,7 +3,7 @@
 --   face_at faces f        face number f
 --   is_edge u v a b        whether the edge from u to v is that from a to b
 --   has_edge u v face      whether the edge from u to v is one of the face's three, each from one of its vertices to the next
---   faces_with_edge u v faces   how many faces have it
+--   faces_with_edge u v faces   how many faces have the edge from u to v
 --   IsBalanced faces       each directed edge occurs as often as its reverse
 --   ComesFirst a b u v     the pair of numbers a, b is before u, v
 --   IsFirstUnbalanced faces from to m n   the smallest pair whose two counts differ, with both counts

@@ -1,11 +1,14 @@
 -- Pairs of vertices in the order of a number, and the lists in which the edges of faces are counted.
 --
---   key_of first second, key_of_pair p   a number by which pairs are in order
---   key_count k pairs                    how many pairs have this number
---   HasGained hits pairs more            each pair whose first number is the smaller, once more where the test says so
---   IsPairOf faces there back            each such pair as often as faces have the edge there, and as often as back
---   AreRising pairs                      in each pair the first number is the smaller
---   IsFirstUnequalPair there back p      the least pair that one list has more often than the other
+--   key_of first second, key_of_pair p   the number by which pairs of 32-bit numbers are in order: 2^32 times the first
+--                                        plus the second; this number of a pair
+--   key_count k pairs                    how often the pair with the number k (`key_of`) is in the list
+--   HasGained hits pairs more            each pair u, v with u < v is in the list `more` as often as in `pairs`, and
+--                                        once more if the test `hits` holds for u and v
+--   IsPairOf faces there back            each pair u, v with u < v is in the list `there` as often as faces have the
+--                                        edge from u to v, and in `back` as often as they have the edge from v to u
+--   AreRising pairs                      in each pair of the list the first number is the smaller one
+--   IsFirstUnequalPair there back p      p is the smallest pair that the two lists do not have equally often
 use Rattle.std.specs.Prelude.{ℕ, ◌≡◌, ◌≢◌, ◌+◌, ◌*◌, ◌<◌, ◌^◌, ◌==◌, Bool, List, count_by, All, if◌then◌else◌}
 use Rattle.mesh_edges.specs.Edges.{faces_with_edge}
 use Rattle.mesh_edges.specs.declared.pair.Pair.{Pair}

@@ -6,7 +6,7 @@
 
 ghost use Rattle.std.specs.Prelude.{◌≡◌, ◌≢◌, ◌<◌, ◌^◌, ℕ, OnOk, IfOk, IfSome, IfNone, All};
 ghost use Rattle.std.specs.List.Sorted.{IsNonDecreasingBy};
-ghost use Rattle.mesh_ply.specs.Meshes.{IsFace, IsMesh};
+ghost use Rattle.mesh.specs.Meshes.{IsFace, IsMesh};
 ghost use Rattle.mesh_edges.specs.Edges.{is_edge, has_edge, IsBalanced, IsFirstUnbalanced};
 ghost use Rattle.mesh_edges.specs.Pairs.{key_of_pair, key_count, HasGained, IsPairOf, AreRising, IsFirstUnequalPair};
 

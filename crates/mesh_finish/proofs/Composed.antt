@@ -5,10 +5,10 @@ use Rattle.geo_sign.specs.Point.{Point}
 use Rattle.mesh_edges.specs.Edges.{IsBalanced}
 use Rattle.mesh_flips.specs.Turns.{IsTriangle}
 use Rattle.mesh_split.specs.Splits.{AreSingle}
-use Rattle.mesh_split.proofs.Keys.{two_faces}
-use Rattle.mesh_finish.specs.Steps.{ArePiecesIf, IsSplitIf, AreFlippedIf, IsSmoothedIf, AreUmbrellas, AreFinished}
-use Rattle.mesh_provenance.specs.declared.options.FinishOptions.{FinishOptions}
-use Rattle.mesh_provenance.specs.declared.options.SmoothOptions.{SmoothOptions}
+use Rattle.mesh_split.proofs.Edges.{two_faces}
+use Rattle.mesh_finish.specs.Steps.{ArePiecesIf, IsSplitIf, AreFlippedIf, IsSmoothedIf, AreMade}
+use Rattle.finish_options.specs.declared.options.FinishOptions.{FinishOptions}
+use Rattle.finish_options.specs.declared.options.SmoothOptions.{SmoothOptions}
 use Rattle.mesh_finish.proofs.Rewritten.{smoothed_balanced, smoothed_single}
 
 -- with smoothing or without, the mesh stays closed
@@ -30,8 +30,8 @@ module _ (options : FinishOptions) (points : List Point) (faces : List (List ℕ
   pub composed : ArePiecesIf options.pieces points faces kp kf → IsSplitIf options.manifold kp kf sp sf → fp ≡ sp
       → AreFlippedIf options.flips sp sf ff → IsSmoothedIf options.smoothing fp ff np nf fine → (options.flips ≡ false → nf ≡ ff)
       → All (IsTriangle (length fp)) ff → IsBalanced faces → IsBalanced ff → (AreSingle sf → AreSingle ff)
-      → (options.manifold ≡ true → AreUmbrellas (length np) nf) → AreFinished options points faces np nf fine
-  composed pieces split same flips smooth still each was closed single around =
+      → AreMade options points faces np nf fine
+  composed pieces split same flips smooth still each was closed single =
       record {
         kept_points = kp;
         kept_faces = kf;
@@ -49,7 +49,6 @@ module _ (options : FinishOptions) (points : List Point) (faces : List (List ℕ
             two_faces nf
             (single_if options.smoothing fp ff np nf fine each smooth
             (single (subst (λ (b : Bool). IsSplitIf b kp kf sp sf) on split).once)) now;
-        umbrellas = around;
       }
     where
       now : IsBalanced nf

@@ -1,7 +1,7 @@
 -- A finished mesh.
 --
---   AreTurned old new           the same faces, each written from another corner on
---   IsFinished points old new   the faces in another order, then flipped, then written from another corner on
+--   AreTurned old new           the same faces, each written from any of its corners on
+--   IsFinished points old new   the faces in another order, then flipped, then each written from any of its corners on
 --   AreSmoothed points old new_points new fine within   points moved and faces flipped, then written from another corner on
 use Rattle.std.specs.Prelude.{ℕ, ◌≡◌, ◌<◌, List, length, IsPermutation}
 use Rattle.geo_sign.specs.Point.{Point}

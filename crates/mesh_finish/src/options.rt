@@ -9,13 +9,9 @@ use mesh_edges::UnbalancedEdge;
 /// A step whose result is found by a search and then verified.
 #[derive(Clone, Copy, Debug, PartialEq, Eq)]
 pub enum Step {
-    /// Half edges are paired.
-    Pairing,
     /// Pieces are kept.
     Pieces,
-    /// Vertices are split.
-    Splitting,
-    /// The faces around each vertex are one cycle.
+    /// The faces around each vertex of the result are one cycle, if vertices were split.
     Umbrellas,
 }
 
@@ -24,8 +20,7 @@ pub enum Step {
 pub enum FinishError {
     /// The mesh is not closed: this is its smallest edge that occurs another number of times than its reverse.
     NotClosed(UnbalancedEdge),
-    /// What the search of this step found did not pass its verification. This was never seen: half edges are paired so that no two
-    /// umbrellas meet in an edge more than once, so vertices can be split.
+    /// What this step made of a closed mesh did not pass its verification. This was never seen.
     Unverified(Step),
     /// Out of memory.
     NoMemory,

@@ -3,16 +3,17 @@
 ghost use Rattle.std.specs.Prelude.{◌≡◌, false, IfOk, All};
 ghost use Rattle.geo_sign.specs.Point.{IsWithin};
 ghost use Rattle.geo_sign.specs.declared.point.TheConstants.{BOX_LIMIT};
-ghost use Rattle.mesh_ply.specs.Meshes.{IsMesh};
+ghost use Rattle.mesh.specs.Meshes.{IsMesh};
 ghost use Rattle.mesh_finish.specs.Finished.{AreSmoothed};
 ghost use Rattle.mesh_finish.specs.Steps.{IsSmoothedIf};
 
 use crate::NoMemory;
 use crate::turned::turned_faces;
+use finish_options::{FinishOptions, SmoothOptions};
+use geo_sign::Point;
 use half_edges::find_twins;
-use mesh_ply::Mesh;
-use mesh_provenance::{FinishOptions, SmoothOptions};
-use mesh_smooth::{Smoothing, smooth_mesh};
+use mesh::Mesh;
+use mesh_smooth::{MoveHints, Smoothing, smooth_mesh};
 use std::alloc::Global;
 
 /// A finished mesh and its scale.
@@ -25,7 +26,12 @@ pub struct FinishedMesh {
 }
 
 /// Returns the mesh smoothed, on a finer grid.
-fn smooth_all(alloc: Global, mesh: Mesh, smoothing: Smoothing) -> Result<FinishedMesh, NoMemory>
+fn smooth_all(
+    alloc: Global,
+    mesh: Mesh,
+    smoothing: Smoothing,
+    targets: &[Point],
+) -> Result<FinishedMesh, NoMemory>
     requires { IsMesh mesh.points.items mesh.faces.items }
     ensures smoothed { IfOk result (λ new. AreSmoothed mesh.points.items mesh.faces.items new.mesh.points.items new.mesh.faces.items new.fine smoothing.within) }
     ensures still { smoothing.flips ≡ false → IfOk result (λ new. new.mesh.faces.items ≡ mesh.faces.items) }
@@ -34,7 +40,8 @@ fn smooth_all(alloc: Global, mesh: Mesh, smoothing: Smoothing) -> Result<Finishe
 {
     let Mesh { points, mut faces } = mesh;
     let twins = find_twins(alloc, &points, &faces)?;
-    let new = smooth_mesh(alloc, &points, &mut faces, twins, smoothing)?;
+    let hints = MoveHints { twins, targets };
+    let new = smooth_mesh(alloc, &points, &mut faces, hints, smoothing)?;
     let faces = turned_faces(alloc, &faces)?;
     Ok(FinishedMesh {
         mesh: Mesh {
@@ -45,11 +52,12 @@ fn smooth_all(alloc: Global, mesh: Mesh, smoothing: Smoothing) -> Result<Finishe
     })
 }
 
-/// Returns the mesh smoothed, if the options ask for it, or as it is.
+/// Returns the mesh smoothed, if the options ask for it, or as it is. The targets are hints.
 pub(crate) fn smoothed(
     alloc: Global,
     mesh: Mesh,
     options: FinishOptions,
+    targets: &[Point],
 ) -> Result<FinishedMesh, NoMemory>
     requires { IsMesh mesh.points.items mesh.faces.items }
     ensures smoothed { IfOk result (λ new. IsSmoothedIf options.smoothing mesh.points.items mesh.faces.items new.mesh.points.items new.mesh.faces.items new.fine) }
@@ -69,6 +77,7 @@ pub(crate) fn smoothed(
                     within,
                     flips,
                 },
+                targets,
             )?;
             Ok(new)
         }

@@ -1,7 +1,7 @@
 //! Writes faces as a valid mesh has them, the smallest number first.
 
 ghost use Rattle.std.specs.Prelude.{◌≡◌, ◌<◌, ℕ, All, IfOk, length};
-ghost use Rattle.mesh_ply.specs.Meshes.{IsFace};
+ghost use Rattle.mesh.specs.Meshes.{IsFace};
 ghost use Rattle.mesh_flips.specs.Turns.{IsTriangle, IsCycled};
 ghost use Rattle.mesh_finish.specs.Finished.{AreTurned};
 

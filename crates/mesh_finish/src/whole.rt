@@ -1,26 +1,27 @@
 //! The finished mesh.
 
-ghost use Rattle.std.specs.Prelude.{◌≡◌, IfOk, IfErr, All};
+ghost use Rattle.std.specs.Prelude.{◌≡◌, true, length, IfOk, IfErr, All};
+ghost use Rattle.std.specs.Bool.{OnTrue, OnFalse};
 ghost use Rattle.geo_sign.specs.Point.{IsWithin};
 ghost use Rattle.geo_sign.specs.declared.point.TheConstants.{BOX_LIMIT};
-ghost use Rattle.mesh_ply.specs.Meshes.{IsMesh};
+ghost use Rattle.mesh.specs.Meshes.{IsMesh};
 ghost use Rattle.mesh_edges.specs.Edges.{IsBalanced};
 ghost use Rattle.mesh_split.specs.Splits.{AreSingle};
 ghost use Rattle.mesh_finish.specs.Finished.{IsFinished};
-ghost use Rattle.mesh_finish.specs.Steps.{AreFlippedIf, AreFinished, ExplainsFinish};
+ghost use Rattle.mesh_finish.specs.Steps.{AreFlippedIf, AreMade, AreUmbrellas, AreFinished, ExplainsFinish};
 
 use crate::NoMemory;
-use crate::options::FinishError;
+use crate::options::{FinishError, Step};
 use crate::order::in_order;
 use crate::smoothed::{FinishedMesh, smoothed};
 use crate::steps::{kept, paired, split};
 use crate::turned::turned_faces;
-use crate::umbrellas::test_umbrellas;
+use crate::umbrellas::are_umbrellas;
+use finish_options::FinishOptions;
 use geo_sign::Point;
 use half_edges::find_twins;
-use mesh_flips::flip_edges;
-use mesh_ply::Mesh;
-use mesh_provenance::FinishOptions;
+use mesh::Mesh;
+use mesh_flips::{FlipOrder, flip_edges};
 use std::alloc::Global;
 
 /// Returns the faces of a mesh with edges flipped.
@@ -37,7 +38,7 @@ fn finished_faces(
 {
     let mut sorted = in_order(alloc, points, faces)?;
     let twins = find_twins(alloc, points, &sorted)?;
-    flip_edges(alloc, points, &mut sorted, twins)?;
+    flip_edges(alloc, points, &mut sorted, twins, FlipOrder::AreaFirst)?;
     let turned = turned_faces(alloc, &sorted)?;
     Ok(turned)
 }
@@ -74,25 +75,61 @@ fn flipped(alloc: Global, mesh: Mesh, flips: bool) -> Result<Mesh, NoMemory>
 }
 
 /// Returns the mesh after what the options ask for, and its scale.
+fn made(
+    alloc: Global,
+    mesh: Mesh,
+    options: FinishOptions,
+    targets: &[Point],
+) -> Result<FinishedMesh, FinishError>
+    requires { IsMesh mesh.points.items mesh.faces.items }
+    ensures made { IfOk result (λ new. AreMade options mesh.points.items mesh.faces.items new.mesh.points.items new.mesh.faces.items new.fine) }
+    ensures valid { IfOk result (λ new. IsMesh new.mesh.points.items new.mesh.faces.items) }
+    ensures boxed { All (IsWithin BOX_LIMIT) mesh.points.items → IfOk result (λ new. All (IsWithin BOX_LIMIT) new.mesh.points.items) }
+    ensures why { IfErr result (λ error. ExplainsFinish options mesh.points.items mesh.faces.items error) }
+{
+    let twins = paired(alloc, &mesh)?;
+    let kept = kept(alloc, mesh, twins, options.pieces)?;
+    let split = split(alloc, kept, options.manifold)?;
+    let flipped = flipped(alloc, split, options.flips)?;
+    let new = smoothed(alloc, flipped, options, targets)?;
+    Ok(new)
+}
+
+/// Returns whether the faces around each vertex are one cycle, if vertices were split.
+fn is_as_asked(alloc: Global, mesh: &Mesh, manifold: bool) -> Result<bool, NoMemory>
+    requires { IsMesh mesh.now.points.items mesh.now.faces.items }
+    ensures yes { manifold ≡ true → IfOk result (λ yes. OnTrue yes (AreUmbrellas (length mesh.now.points.items) mesh.now.faces.items)) }
+    ensures no { IfOk result (λ yes. OnFalse yes ((manifold ≡ true) × (¬ AreUmbrellas (length mesh.now.points.items) mesh.now.faces.items))) }
+{
+    if !manifold {
+        return Ok(true);
+    }
+    let answer = are_umbrellas(alloc, mesh)?;
+    Ok(answer)
+}
+
+/// Returns the mesh after what the options ask for, and its scale.
 ///
 /// Half edges are paired first, so a mesh that is not closed is an error in any case. Then pieces are kept, vertices split, edges
 /// flipped and points moved. If vertices were split, the faces around each vertex of the result are tested to be one cycle.
+///
+/// `targets` are places to which the points are to move, in units of the result, one for each point that is left after pieces and
+/// splitting: a hint, on which no clause depends. If it is empty, points move where neighboring faces agree on their directions.
 pub fn finish_mesh(
     alloc: Global,
     mesh: Mesh,
     options: FinishOptions,
+    targets: &[Point],
 ) -> Result<FinishedMesh, FinishError>
     requires { IsMesh mesh.points.items mesh.faces.items }
     ensures finished { IfOk result (λ new. AreFinished options mesh.points.items mesh.faces.items new.mesh.points.items new.mesh.faces.items new.fine) }
     ensures valid { IfOk result (λ new. IsMesh new.mesh.points.items new.mesh.faces.items) }
     ensures boxed { All (IsWithin BOX_LIMIT) mesh.points.items → IfOk result (λ new. All (IsWithin BOX_LIMIT) new.mesh.points.items) }
-    ensures why { IfErr result (λ error. ExplainsFinish mesh.faces.items error) }
+    ensures why { IfErr result (λ error. ExplainsFinish options mesh.points.items mesh.faces.items error) }
 {
-    let twins = paired(alloc, &mesh)?;
-    let kept = kept(alloc, mesh, twins, options.pieces)?;
-    let split = split(alloc, kept, options.manifold)?;
-    let flipped = flipped(alloc, split.mesh, options.flips)?;
-    let new = smoothed(alloc, flipped, options)?;
-    test_umbrellas(alloc, &new.mesh, options.manifold)?;
+    let new = made(alloc, mesh, options, targets)?;
+    if !is_as_asked(alloc, &new.mesh, options.manifold)? {
+        return Err(FinishError::Unverified(Step::Umbrellas));
+    }
     Ok(new)
 }

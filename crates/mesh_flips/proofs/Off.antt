@@ -5,7 +5,7 @@ use Rattle.std.proofs.Common.{ℕ, ◌≡◌, ◌+◌, inl, inr, ap, arith, ℤ,
 use Rattle.std.proofs.lemmas.Int.{ints}
 use Rattle.geo_sign.specs.Point.{Point}
 use Rattle.std.proofs.lemmas.Bool.{or_cases, eqb-true, false≢true}
-use Rattle.mesh_ply.specs.Meshes.{point_at, is_vertex_of}
+use Rattle.mesh.specs.Meshes.{point_at, is_vertex_of}
 use Rattle.hull_tree.specs.Hulls.{HoldsPoint, AreOff}
 use Rattle.hull_tree.specs.declared.hull.Hull.{Hull}
 use Rattle.triangle_gap.specs.Shared.{weighted_sum, weighted}

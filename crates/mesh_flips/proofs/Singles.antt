@@ -8,7 +8,7 @@ use Rattle.std.proofs.lemmas.Bool.{eq-eqb}
 use Rattle.std.proofs.lemmas.Bool.Decides.{nat_tests}
 use Rattle.std.proofs.lemmas.List.Sums.{sum_by-cons}
 use Rattle.geo_sign.specs.Point.{Point}
-use Rattle.mesh_ply.specs.Meshes.{is_vertex_of}
+use Rattle.mesh.specs.Meshes.{is_vertex_of}
 use Rattle.mesh_edges.specs.Edges.{has_edge, faces_with_edge, face_at}
 use Rattle.mesh_edges.proofs.Counts.{one_if}
 use Rattle.mesh_edges.proofs.FaceEdges.{ends_in}

@@ -4,7 +4,7 @@
 --   IsFree points faces one other q  all faces but the quad's own are, and the new ones are apart
 use Rattle.std.specs.Prelude.{ℕ, ◌≡◌, ◌≢◌, ◌<◌, true, List, [], ◌∷◌, length}
 use Rattle.geo_sign.specs.Point.{Point}
-use Rattle.mesh_ply.specs.Meshes.{is_vertex_of}
+use Rattle.mesh.specs.Meshes.{is_vertex_of}
 use Rattle.mesh_edges.specs.Edges.{face_at}
 use Rattle.triangle_gap.specs.Gaps.{AreFacesApart}
 use Rattle.mesh_flips.specs.declared.quad.Quad.{Quad}

@@ -2,13 +2,14 @@
 --
 --   HoldsFace points h f            a box contains the corners of a face
 --   HoldsQuad points h q            a box contains the corners of a quad
---   AreHullsOf points hulls q       boxes contain the new faces of a quad, and one both
+--   AreHullsOf points hulls q       boxes contain the new faces of a quad: one box for each face, and one that contains
+--                                   both
 --   HasBox points faces tree i      a box of face number i is inserted at i
 --   IsTreeOf points faces tree      the tree has a box of each face at the face's number
 --   IsReady points faces tree       it has, and each face is a triangle
 use Rattle.std.specs.Prelude.{ℕ, ◌<◌, ◌≤◌, ◌*◌, List, [], ◌∷◌, length, All}
 use Rattle.geo_sign.specs.Point.{Point}
-use Rattle.mesh_ply.specs.Meshes.{point_at}
+use Rattle.mesh.specs.Meshes.{point_at}
 use Rattle.mesh_edges.specs.Edges.{face_at}
 use Rattle.hull_tree.specs.Hulls.{HoldsPoint}
 use Rattle.hull_tree.specs.Trees.{IsInserted}

@@ -2,10 +2,10 @@
 --
 --   IsFlip old new         one edge is flipped
 --   AreFlips old new       any number of edges are flipped, one after another
---   SameExcess old new     for each directed edge, how much more often it occurs than its reverse is as before
+--   SameExcess old new     for each directed edge the number of its occurrences minus that of its reverse is as before
 --   KeepsApart before after old new   faces that were apart among the points before are apart among those after
 --   KeepsSingle old new    no directed edge that occurred at most once occurs more often
---   IsFlipped points old new    edges were flipped so that the last two hold
+--   IsFlipped points old new   edges were flipped so that `KeepsApart` and `KeepsSingle` hold
 use Rattle.std.specs.Prelude.{ℕ, ◌≡◌, ◌≢◌, ◌+◌, ◌<◌, ◌≤◌, List, length}
 use Rattle.geo_sign.specs.Point.{Point}
 use Rattle.triangle_gap.specs.Gaps.{AreFacesApart}

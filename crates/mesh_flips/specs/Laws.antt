@@ -1,6 +1,6 @@
 -- What flips keep.
 --
---   FlipsKeepExcess       for each directed edge, how much more often it occurs than its reverse is as before
+--   FlipsKeepExcess       for each directed edge, the number of its occurrences minus that of its reverse is as before
 --   FlipsKeepTriangles    each face still has three distinct corners among the same points
 --   FlipsKeepCount        there are as many faces
 --   FlipsKeepClosed       if each directed edge occurred as often as its reverse, it still does

@@ -1,8 +1,9 @@
 -- Two faces with a common edge, and the flip of that edge.
 --
---   IsQuad faces one other q    two faces of a list have the corners of q
---   flipped faces one other q   the list after the flip
---   HasCorners n q              its corners are below n
+--   IsQuad faces one other q    the faces with the numbers `one` and `other` are a b c and b a d, and c and d are
+--                               distinct
+--   flipped faces one other q   the list with a d c and d b c in their places
+--   HasCorners n q              the four corners of the quad q are numbers below n
 use Rattle.std.specs.Prelude.{ℕ, ◌≢◌, ◌<◌, List, [], ◌∷◌, length, slice_set}
 use Rattle.mesh_edges.specs.Edges.{face_at}
 use Rattle.mesh_flips.specs.Turns.{IsCycled}

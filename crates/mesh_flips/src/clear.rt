@@ -8,7 +8,7 @@ ghost use Rattle.mesh_edges.specs.Edges.{face_at};
 ghost use Rattle.mesh_flips.specs.Clear.{IsClear, IsFree};
 ghost use Rattle.triangle_gap.specs.Gaps.{AreFacesApart};
 ghost use Rattle.mesh_flips.specs.Fields.{HoldsFace, AreHullsOf, IsTreeOf};
-ghost use Rattle.mesh_ply.specs.Meshes.{is_vertex_of, point_at};
+ghost use Rattle.mesh.specs.Meshes.{is_vertex_of, point_at};
 
 use crate::NoMemory;
 use crate::quad::Quad;

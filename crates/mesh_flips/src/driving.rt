@@ -1,4 +1,4 @@
-//! Flips edges while that lowers the angles between faces.
+//! Flips edges while that lowers the area of two faces, then while it lowers the angles between faces.
 
 ghost use Rattle.std.specs.Prelude.{◌≡◌, ◌<◌, ◌^◌, All, IfOk, length};
 ghost use Rattle.mesh_flips.specs.Turns.{IsTriangle};
@@ -9,12 +9,32 @@ ghost use Rattle.mesh_flips.specs.Fields.{IsReady};
 
 use crate::NoMemory;
 use crate::clear::{hull_of, is_free};
+use crate::falls::longest_side;
 use crate::flips::flip;
-use crate::hints::{Hints, gain, hints_of};
+use crate::hints::{Aim, Hints, hints_of};
 use crate::quad::{Quad, quad_at};
 use geo_sign::Point;
 use hull_tree::HullTree;
 use std::alloc::Global;
+
+/// What flips lower, one after the other.
+#[derive(Clone, Copy, Debug, PartialEq, Eq)]
+pub enum FlipOrder {
+    /// The area of the faces, which closes pits, then the angles between faces.
+    AreaFirst,
+    /// The angles between faces alone.
+    Angles,
+}
+
+impl FlipOrder {
+    /// Returns how many of the faces take part where the area is lowered.
+    fn area_faces(self, count: usize) -> usize {
+        match self {
+            FlipOrder::AreaFirst => count,
+            FlipOrder::Angles => 0,
+        }
+    }
+}
 
 /// The part of the sum of angle times length by which a flip has to lower it, pass by pass.
 const LEAST_GAINS: [f64; 3] = [0.3, 0.1, 0.000000001];
@@ -43,15 +63,14 @@ fn turn(
     flip(faces, one, other, quad);
 }
 
-/// Flips an edge, if that gains enough and the new faces are clear of all others.
+/// Flips an edge, if that gains more than its aim says and the new faces are clear of all others.
 fn try_flip(
     points: &[Point],
     faces: &mut [[u32; 3]],
     tree: &mut HullTree,
-    found: &mut Vec<usize>,
     hints: &mut Hints,
     edge: u32,
-    least: f64,
+    aim: Aim,
 ) -> Result<(), NoMemory>
     requires { IsReady points.now faces.old tree.old }
     ensures flipped { IsFlipped points.now faces.old faces.new }
@@ -61,14 +80,14 @@ fn try_flip(
     let Some(quad) = quad_at(faces, edge, twin) else {
         return Ok(());
     };
-    let weighed = gain(hints, points, edge, twin, quad);
-    hints.note(edge, weighed.part);
-    if weighed.part <= least {
+    let weighed = hints.weigh(points, edge, quad, aim);
+    hints.note(edge, weighed.part, aim);
+    if weighed.part <= aim.least() {
         return Ok(());
     }
     let one = (edge / 3) as usize;
     let other = (twin / 3) as usize;
-    if !is_free(points, faces, tree, found, one, other, quad)? {
+    if !is_free(points, faces, tree, &mut hints.found, one, other, quad)? {
         return Ok(());
     }
     turn(points, faces, tree, one, other, quad);
@@ -80,9 +99,8 @@ fn flip_pass(
     points: &[Point],
     faces: &mut [[u32; 3]],
     tree: &mut HullTree,
-    found: &mut Vec<usize>,
     hints: &mut Hints,
-    least: f64,
+    aim: Aim,
 ) -> Result<(), NoMemory>
     requires { IsReady points.now faces.old tree.old }
     ensures flipped { IsFlipped points.now faces.old faces.new }
@@ -93,8 +111,57 @@ fn flip_pass(
     }
     for _ in 0..faces.len().saturating_mul(LOOKS) {
         match hints.next() {
-            Some(edge) => try_flip(points, faces, tree, found, hints, edge, least)?,
+            Some(edge) => try_flip(points, faces, tree, hints, edge, aim)?,
             None => return Ok(()),
+        }
+    }
+    Ok(())
+}
+
+/// Weighs an edge of the queue, if there is one, or else flips the edge with the greatest fall of the area. Returns whether there was
+/// an edge.
+fn step_down(
+    points: &[Point],
+    faces: &mut [[u32; 3]],
+    tree: &mut HullTree,
+    hints: &mut Hints,
+    longest: f64,
+) -> Result<bool, NoMemory>
+    requires { IsReady points.now faces.old tree.old }
+    ensures flipped { IsFlipped points.now faces.old faces.new }
+    ensures ready { IsReady points.now faces.new tree.new }
+{
+    if let Some(edge) = hints.next() {
+        hints.put_by_fall(points, faces, edge, longest)?;
+        return Ok(true);
+    }
+    let Some(fallen) = hints.falls.next() else {
+        return Ok(false);
+    };
+    if hints.falls.is_due(fallen) {
+        try_flip(points, faces, tree, hints, fallen.edge, Aim::Area(longest))?;
+    }
+    Ok(true)
+}
+
+/// Flips edges while that lowers the area of two faces, the greatest fall first, if the order begins with it.
+fn lower_area(
+    points: &[Point],
+    faces: &mut [[u32; 3]],
+    tree: &mut HullTree,
+    hints: &mut Hints,
+    longest: f64,
+    order: FlipOrder,
+) -> Result<(), NoMemory>
+    requires { IsReady points.now faces.old tree.old }
+    ensures flipped { IsFlipped points.now faces.old faces.new }
+    ensures ready { IsReady points.now faces.new tree.new }
+{
+    let count = order.area_faces(faces.len());
+    hints.wait_for_all(count)?;
+    for _ in 0..count.saturating_mul(LOOKS) {
+        if !step_down(points, faces, tree, hints, longest)? {
+            return Ok(());
         }
     }
     Ok(())
@@ -113,7 +180,8 @@ pub fn tree_of(alloc: Global, points: &[Point], faces: &[[u32; 3]]) -> Result<Hu
     Ok(tree)
 }
 
-/// Flips edges of a mesh where that lowers the angles between its faces.
+/// Flips edges of a mesh where that lowers the angles between faces; if the order says so, first where it lowers the area, the greatest
+/// fall first, except at edges of more than 8 median sides.
 ///
 /// `twins[h]` is the opposite of half edge `h`, which is side `h % 3` of face `h / 3`. It is a hint: if it is wrong, that edge is not
 /// flipped. Faces that were apart stay apart, and no directed edge occurs twice that did not. After `NoMemory` some edges are flipped,
@@ -125,6 +193,7 @@ pub fn flip_edges(
     points: &[Point],
     faces: &mut [[u32; 3]],
     twins: Vec<u32>,
+    order: FlipOrder,
 ) -> Result<Vec<u32>, NoMemory>
     requires each { All (IsTriangle (length points.now)) faces.old }
     requires few { length faces.old < 2 ^ 60 }
@@ -133,9 +202,10 @@ pub fn flip_edges(
 {
     let mut tree = tree_of(alloc, points, faces)?;
     let mut hints = hints_of(alloc, points, faces, twins)?;
-    let mut found = Vec::new(alloc);
+    let longest = longest_side(alloc, points, faces)?;
+    lower_area(points, faces, &mut tree, &mut hints, longest, order)?;
     for least in LEAST_GAINS {
-        flip_pass(points, faces, &mut tree, &mut found, &mut hints, least)?;
+        flip_pass(points, faces, &mut tree, &mut hints, Aim::Angle(least))?;
     }
     Ok(hints.twins)
 }

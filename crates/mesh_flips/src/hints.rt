@@ -2,7 +2,8 @@
 //! flip reads the two faces themselves.
 
 use crate::NoMemory;
-use crate::quad::Quad;
+use crate::falls::{Falls, fall};
+use crate::quad::{Quad, quad_at};
 use crate::way::Way;
 use geo_sign::Point;
 use std::alloc::Global;
@@ -17,6 +18,29 @@ pub(crate) struct Hints {
     /// Whether a flip of the edge gained anything when it was last weighed. All that it depends on is weighed again after each flip.
     pub(crate) gains: Vec<bool>,
     pub(crate) queue: VecDeque<u32>,
+    /// Edges by how much a flip lowers the area.
+    pub(crate) falls: Falls,
+    /// Faces near a quad, a list that is filled anew for each.
+    pub(crate) found: Vec<usize>,
+}
+
+/// What a flip has to lower.
+#[derive(Clone, Copy)]
+pub(crate) enum Aim {
+    /// The area of the two faces, if no edge of the four corners is longer than this.
+    Area(f64),
+    /// The sum of angle times length around the quad, by more than this part.
+    Angle(f64),
+}
+
+impl Aim {
+    /// Returns what a flip has to gain more than.
+    pub(crate) fn least(self) -> f64 {
+        match self {
+            Aim::Area(_) => 0.0,
+            Aim::Angle(least) => least,
+        }
+    }
 }
 
 /// What a flip would gain, and the normals of the new faces.
@@ -28,7 +52,7 @@ pub(crate) struct Weighed {
 }
 
 impl Weighed {
-    const NONE: Weighed = Weighed {
+    pub(crate) const NONE: Weighed = Weighed {
         part: 0.0,
         left: Way::NONE,
         right: Way::NONE,
@@ -54,7 +78,7 @@ pub(crate) fn before(h: u32) -> u32 {
 }
 
 /// Returns a point, or the origin past the end.
-fn place(points: &[Point], v: u32) -> Option<Point> {
+pub(crate) fn place(points: &[Point], v: u32) -> Option<Point> {
     points.get(v as usize).copied()
 }
 
@@ -122,9 +146,17 @@ impl Hints {
         Some(h)
     }
 
-    /// Notes whether a flip of an edge gains anything.
-    pub(crate) fn note(&mut self, h: u32, gain: f64) {
-        if (h as usize) < self.gains.len() {
+    /// Returns what a flip of an edge would gain.
+    pub(crate) fn weigh(&self, points: &[Point], edge: u32, quad: Quad, aim: Aim) -> Weighed {
+        match aim {
+            Aim::Area(longest) => fall(points, quad, longest),
+            Aim::Angle(_) => gain(self, points, edge, self.twin(edge), quad),
+        }
+    }
+
+    /// Notes whether a flip of an edge gains anything; the fall of areas is weighed each time.
+    pub(crate) fn note(&mut self, h: u32, gain: f64, aim: Aim) {
+        if matches!(aim, Aim::Angle(_)) && (h as usize) < self.gains.len() {
             self.gains[h as usize] = gain > 0.0;
         }
     }
@@ -143,6 +175,28 @@ impl Hints {
         self.wait_to_gain(first)?;
         self.wait_to_gain(first.saturating_add(1))?;
         self.wait_to_gain(first.saturating_add(2))
+    }
+
+    /// Weighs by how much a flip of an edge lowers the area, and appends the edge to the queue of that fall.
+    pub(crate) fn put_by_fall(
+        &mut self,
+        points: &[Point],
+        faces: &[[u32; 3]],
+        edge: u32,
+        longest: f64,
+    ) -> Result<(), NoMemory> {
+        match quad_at(faces, edge, self.twin(edge)) {
+            Some(quad) => self.falls.put(edge, fall(points, quad, longest).part),
+            None => Ok(()),
+        }
+    }
+
+    /// Appends the edges of all faces to the queue.
+    pub(crate) fn wait_for_all(&mut self, faces: usize) -> Result<(), NoMemory> {
+        for face in 0..faces {
+            self.wait_around(face.min(u32::MAX as usize) as u32)?;
+        }
+        Ok(())
     }
 
     /// Appends the three edges of a face to the queue.
@@ -232,10 +286,12 @@ pub(crate) fn hints_of(
     let waits = vec![in alloc; false; twins.len()]?;
     let gains = vec![in alloc; true; twins.len()]?;
     Ok(Hints {
+        falls: Falls::new(alloc, twins.len())?,
         twins,
         normals,
         waits,
         gains,
         queue: VecDeque::new(alloc),
+        found: Vec::new(alloc),
     })
 }

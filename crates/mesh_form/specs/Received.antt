@@ -1,20 +1,24 @@
 -- The state of a mesh writer.
 --
---   Received             its stage, the numbers of points and faces due, the points and faces received
---   fresh, IsFresh       nothing was received, and no numbers are due
+--   Received             the state of a mesh writer: its stage, the numbers of points and faces due, the points and
+--                        faces received
+--   fresh                nothing received, and nothing due
+--   IsFresh              not begun, and nothing received
 --   TakesPoint r         a point may follow: begun, and fewer points than are due
 --   TakesFace f r        the face may follow: begun, all points received, fewer faces than are due
 --   HasAllDue r          begun, and everything that is due was received
---   begun, with_point, with_face, with_end   the effect of the calls of a writer
+--   begun, with_point, with_face, with_end   the state of a mesh writer after each of its calls
 --   HasPoints k r points, HasFaces k r points faces   begun, k of the points and no faces; all points and k faces
 --   HasAll r points faces      ended, with exactly these points and faces
---   HasPrefix r points faces   a prefix of the points, and after all of them a prefix of the faces; not ended
---   HasFront r points faces    such a prefix, or all of it
---   IsReceived           the invariant of a `Receipt`
---   once_ended stage t   the text t at the stage Ended, else nothing
+--   HasPrefix r points faces
+--                        not ended; a prefix of the points was received, and after all of them a prefix of the faces
+--   HasFront r points faces   a prefix as in `HasPrefix` was received, or all points and faces as in `HasAll`
+--   IsReceived           the invariant of a mesh writer: it has received no more than is due, and faces among the
+--                        points that are due
+--   once_ended stage t   the text of a mesh writer that has ended; before that there is none
 use Rattle.std.specs.Prelude.{ℕ, ◌≡◌, ◌≢◌, ◌<◌, ◌≤◌, ◌^◌, ◌⊎◌, List, [], ◌∷◌, ◌++◌, length, take, All}
 use Rattle.geo_sign.specs.Point.{Point}
-use Rattle.mesh_ply.specs.Meshes.{IsFace}
+use Rattle.mesh.specs.Meshes.{IsFace}
 use Rattle.mesh_form.specs.declared.stage.Stage.{Stage}
 use Rattle.mesh_form.specs.declared.stage.Stage.TheVariants.{Fresh, Begun, Ended}
 

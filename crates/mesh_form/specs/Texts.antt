@@ -1,6 +1,8 @@
 -- The texts of OFF and of Wavefront OBJ, each line ended by a line feed. For PLY see `mesh_text`.
 --
---   off_head, off_rest, v_word, f_word   the fixed parts of their lines
+--   off_head, off_rest, v_word, f_word
+--                           the first line of an OFF text, and the end of its second line; the prefixes of the lines of
+--                           points and of faces in an OBJ text
 --   off_counts n m          the line `n m 0`
 --   off_text points faces   OFF: its name, the counts, a line for each point, a line `3 a b c` for each face
 --   obj_vertex_line p       `v x y z`

@@ -1,11 +1,11 @@
 //! Passes a mesh to a writer.
 ghost use Rattle.std.specs.Prelude.{◌≡◌, ℕ, length, map, All, OnOk, OnErr};
-ghost use Rattle.mesh_ply.specs.Meshes.{IsFace, IsMesh};
+ghost use Rattle.mesh.specs.Meshes.{IsFace, IsMesh};
 ghost use Rattle.mesh_form.specs.Received.{IsFresh, TakesPoint, TakesFace, HasAllDue, HasPoints, HasFaces, HasPrefix, HasAll, HasFront, begun, with_point, with_face, with_end};
 
 use crate::form::Form;
 use geo_sign::Point;
-use mesh_ply::{Mesh, NoMemory};
+use mesh::{Mesh, NoMemory};
 
 // The calls of a boxed writer, one by one, with the effect on the writer in the box.
 

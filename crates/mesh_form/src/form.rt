@@ -8,7 +8,7 @@ ghost use Rattle.mesh_form.specs.Received.{Received, IsFresh, TakesPoint, TakesF
 ghost use Rattle.mesh_form.specs.declared.stage.Stage.TheVariants.{Ended};
 
 use geo_sign::Point;
-use mesh_ply::NoMemory;
+use mesh::NoMemory;
 
 /// A mesh writer: receives points first, then faces, and in the end has a text.
 ///

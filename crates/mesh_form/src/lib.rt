@@ -1,5 +1,7 @@
 //! Mesh writers: output formats for meshes, passed by the caller.
 //!
+//! Verified: `drive` passes points and faces in order to a mesh writer (`Form`); `PlyForm`, `OffForm`, `ObjForm` print exact texts.
+//!
 //! A `Form` receives a mesh's points and then its faces, one at a time, and has a text in the end. `drive` passes a mesh to it.
 //! This crate has three writers, each the `TextForm` of a `FileFormat`: the mesh text of `mesh_ply` (`PlyForm`), OFF
 //! (`OffForm`) and Wavefront OBJ (`ObjForm`). A caller's own writer needs no change here: one whose text is printed from the
@@ -19,7 +21,7 @@ mod text_form;
 
 pub use driving::{drive, drive_all};
 pub use form::Form;
-pub use mesh_ply::NoMemory;
+pub use mesh::NoMemory;
 pub use obj::{Obj, ObjForm};
 pub use off::{Off, OffForm};
 pub use ply::{Ply, PlyForm};

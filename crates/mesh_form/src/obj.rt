@@ -7,7 +7,8 @@ use crate::form::Form;
 use crate::text_form::{FileFormat, TextForm};
 use geo_sign::Point;
 use line_text::push_number;
-use mesh_ply::{Mesh, NoMemory, push_point};
+use mesh::{Mesh, NoMemory};
+use mesh_ply::push_point;
 use std::alloc::Global;
 use std::marker::Model;
 

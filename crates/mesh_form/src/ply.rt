@@ -4,7 +4,8 @@ ghost use Rattle.mesh_ply.specs.Texts.{mesh_text};
 use crate::form::Form;
 use crate::text_form::{FileFormat, TextForm};
 use geo_sign::Point;
-use mesh_ply::{Mesh, NoMemory, push_mesh};
+use mesh::{Mesh, NoMemory};
+use mesh_ply::push_mesh;
 use std::alloc::Global;
 use std::marker::Model;
 

@@ -1,7 +1,7 @@
 //! The mesh that a writer has received.
 use crate::stage::Stage;
 use geo_sign::Point;
-use mesh_ply::{Mesh, NoMemory};
+use mesh::{Mesh, NoMemory};
 use std::alloc::Global;
 use std::marker::Model;
 
@@ -26,7 +26,7 @@ impl Model for Receipt {
 
 impl Receipt {
     ghost use Rattle.std.specs.Prelude.{◌≡◌, OnOk, OnErr};
-    ghost use Rattle.mesh_ply.specs.Meshes.{IsMesh};
+    ghost use Rattle.mesh.specs.Meshes.{IsMesh};
     ghost use Rattle.mesh_form.specs.Received.{IsFresh, TakesPoint, TakesFace, HasAllDue, fresh, begun, with_point, with_face, with_end};
 
     /// Returns an empty one. Allocates no memory.

@@ -1,12 +1,12 @@
 //! A writer whose text is that of a file format.
 ghost use Rattle.std.specs.Prelude.{◌≡◌, ◌++◌, ℕ, List, OnOk, OnErr, length, take};
 ghost use Rattle.geo_sign.specs.Point.{Point};
-ghost use Rattle.mesh_ply.specs.Meshes.{IsMesh};
+ghost use Rattle.mesh.specs.Meshes.{IsMesh};
 
 use crate::form::Form;
 use crate::receipt::Receipt;
 use geo_sign::Point;
-use mesh_ply::{Mesh, NoMemory};
+use mesh::{Mesh, NoMemory};
 use std::alloc::Global;
 use std::marker::{Model, PhantomData};
 

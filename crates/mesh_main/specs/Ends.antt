@@ -2,8 +2,9 @@
 --
 --   RunsOn words code before after    a run on these arguments ended with this status
 --   DoesNothing code before after     there was no memory for the arguments
---   EndsOn args code before after     the program ended so on what the system gave as arguments
---   EndsAfterARun code                it ended so on some arguments, over a host that was not used
+--   EndsOn args code before after     the program ended with this status on the arguments that the system gave
+--   EndsAfterARun code                the program ended with this status on some arguments, over a host that was not
+--                                     used
 use Rattle.std.specs.Prelude.{◌≡◌, ◌≢◌, ◌⊎◌, ℕ, List, [], map, string_bytes, Result, Ok, Err}
 use Rattle.std.specs.IoError.{error_kind}
 use Rattle.std.specs.declared.alloc.Global.{Global}

@@ -4,17 +4,18 @@
 use real_host::Advice;
 
 /// The commands, each with its arguments.
-const USES: [(&str, &str); 3] = [
+const USES: [(&str, &str); 4] = [
     (
         "finish",
         "MESH OUT [pieces=N] [manifold=yes] [flips=no] [smooth=N within=D] [comments=no]",
     ),
+    ("simplify", "MESH OUT within=D [faces=N] [comments=no]"),
     ("inspect", "MESH"),
     ("check", "MESH OUT"),
 ];
 
 /// How the line of an error begins, and how to fix what caused it.
-const CURES: [(&[u8], &str); 13] = [
+const CURES: [(&[u8], &str); 14] = [
     (
         b"refused 19 too_long mesh",
         "over 4 GiB, so most likely another file than was meant",
@@ -41,23 +42,23 @@ const CURES: [(&[u8], &str); 13] = [
     ),
     (
         b"refused 32 out_line",
-        "the finished mesh is not as recon-mesh finish wrote it: edited, saved by a viewer, brought to floats, or with other line ends (then n is 1): take that file",
+        "the second mesh is not as recon-mesh wrote it: edited, saved by a viewer, brought to floats, or with other line ends (then n is 1): take that file",
     ),
     (
         b"refused 33 out_cut",
-        "the finished mesh is truncated: take the file that recon-mesh finish wrote",
+        "the second mesh is truncated: take the file that recon-mesh wrote",
     ),
     (
         b"no 1 not_stated",
-        "the finished mesh has no comments: finish the mesh without comments=no",
+        "the second mesh has no comments: make it again without comments=no",
     ),
     (
         b"no 2 other_mesh",
-        "the finished mesh was made from another file than this one: take the file with the SHA-256 in its header",
+        "the second mesh was made from another file than this one: take the file with the SHA-256 in its header",
     ),
     (
         b"no 3 unbalanced",
-        "the finished mesh is not closed at the edge between points a and b, counted from 0: its file was changed, so finish the mesh again",
+        "the second mesh is not closed at the edge between points a and b, counted from 0: its file was changed, so make it again",
     ),
     (
         b"no 4 nonmanifold",
@@ -66,6 +67,10 @@ const CURES: [(&[u8], &str); 13] = [
     (
         b"no 5 far_vertex",
         "this vertex, counted from 0, is farther from the mesh than its header states: its file was changed, so finish the mesh again",
+    ),
+    (
+        b"no 6 unreached_vertex",
+        "no face is shown to be as near to this vertex of the mesh, counted from 0, as the header of the simplified mesh states: its file was changed, so simplify the mesh again",
     ),
 ];
 

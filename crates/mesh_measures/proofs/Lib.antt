@@ -1,4 +1,3 @@
-pub mod Paths
 pub mod Starts
 pub mod Listed
 pub mod Runs

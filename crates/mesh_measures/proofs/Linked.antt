@@ -7,15 +7,16 @@ use Rattle.mesh_edges.proofs.FaceEdges.{key_parts}
 use Rattle.half_edges.specs.HalfEdges.{start}
 use Rattle.disjoint_sets.specs.Sets.{AreTogether, IsForest}
 use Rattle.disjoint_sets.proofs.Tops.{together_self}
-use Rattle.mesh_measures.specs.Corners.{AreNeighbors, AreOfOneFace, ArePath}
-use Rattle.mesh_measures.specs.Corners.ArePath.{none}
+use Rattle.disjoint_sets.specs.Paths.{ArePath}
+use Rattle.mesh_measures.specs.Corners.{AreNeighbors, AreOfOneFace}
+use Rattle.disjoint_sets.specs.Paths.ArePath.{none}
 use Rattle.mesh_measures.specs.Merges.{AreCornerSets, AreConnectedBy, AreOfOneEdge, ArePieceSets, IsMergedBy, part_at, part_of}
 use Rattle.mesh_measures.specs.Pieces.{AreAdjacent}
 use Rattle.mesh_measures.specs.Sides.{AreSides, IsSide, face_side, key_at, side_key}
 use Rattle.mesh_measures.specs.declared.merges.Part.{Part}
 use Rattle.mesh_measures.specs.declared.merges.Part.TheVariants.{Face, Low, High}
 use Rattle.mesh_measures.specs.declared.sides.Side.{Side}
-use Rattle.mesh_measures.proofs.Paths.{one_link, path_by, path_together}
+use Rattle.disjoint_sets.proofs.Paths.{one_link, path_by, path_together}
 use Rattle.mesh_measures.proofs.Runs.{blank, key_is}
 
 pub part_is : (part : Part) (sides : List Side) (i : ℕ) (d : Side) → i < length sides

@@ -12,7 +12,7 @@ use Rattle.std.proofs.lemmas.List.{take_all}
 use Rattle.std.proofs.lemmas.List.Sums.{sum_by-append}
 use Rattle.std.specs.List.Sorted.{IsNonDecreasingBy, IsPermutation}
 use Rattle.std.proofs.lemmas.List.Sorted.{All-permutation, Contains-permutation, sum_by-IsPermutation}
-use Rattle.mesh_ply.specs.Meshes.{IsFace}
+use Rattle.mesh.specs.Meshes.{IsFace}
 use Rattle.mesh_edges.specs.Edges.{face_at, is_edge, has_edge}
 use Rattle.mesh_edges.specs.Pairs.{key_of}
 use Rattle.mesh_edges.proofs.Counts.{one_if, hits, hits-cons}

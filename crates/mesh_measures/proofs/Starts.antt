@@ -2,7 +2,7 @@
 use Rattle.std.proofs.Common.{ℕ, ◌≡◌, ◌+◌, ◌*◌, ◌/◌, ◌%◌, ◌<◌, ◌⊎◌, inl, inr, refl, ap, sym, ◌∙◌, subst, arith, List, [], ◌∷◌, length, get_or}
 use Rattle.std.specs.List.{All}
 use Rattle.std.proofs.lemmas.Bool.{cases_lt}
-use Rattle.mesh_ply.specs.Meshes.{IsFace}
+use Rattle.mesh.specs.Meshes.{IsFace}
 use Rattle.mesh_edges.specs.Edges.{face_at}
 use Rattle.half_edges.specs.HalfEdges.{start}
 

@@ -6,7 +6,7 @@
 use Rattle.std.proofs.Common.{ℕ, zero, suc, ◌≡◌, ◌≢◌, ◌<◌, ◌≤◌, ◌^◌, ◌⊎◌, inl, inr, refl, ap, sym, ◌∙◌, subst, arith, Bool, true, false, List, length, get_or}
 use Rattle.std.specs.List.{All}
 use Rattle.std.proofs.lemmas.Bool.{cases_lt, cases_eq, false≢true}
-use Rattle.mesh_ply.specs.Meshes.{IsFace}
+use Rattle.mesh.specs.Meshes.{IsFace}
 use Rattle.mesh_edges.specs.Pairs.{key_of}
 use Rattle.mesh_edges.proofs.Counts.{hits}
 use Rattle.mesh_edges.proofs.EdgeCounts.{edge_count_past}
@@ -16,8 +16,9 @@ use Rattle.counting.specs.Sets.{AreSoMany}
 use Rattle.counting.proofs.Sets.{images, same_things}
 use Rattle.disjoint_sets.specs.Sets.{AreTogether, IsForest}
 use Rattle.disjoint_sets.proofs.Tops.{first_own, not_first, together_on, together_self, together_turned}
-use Rattle.mesh_measures.specs.Corners.{AreNeighbors, ArePath}
-use Rattle.mesh_measures.specs.Corners.ArePath.{none, more}
+use Rattle.disjoint_sets.specs.Paths.{ArePath}
+use Rattle.mesh_measures.specs.Corners.{AreNeighbors}
+use Rattle.disjoint_sets.specs.Paths.ArePath.{none, more}
 use Rattle.mesh_measures.specs.Manifolds.{faces_at_edge, IsCornerAt, IsManifoldVertex, IsNonManifoldEdge, IsNonManifoldPair}
 use Rattle.mesh_measures.specs.Marks.{IsFlagged, IsSuspect}
 use Rattle.mesh_measures.specs.Merges.{AreCornerSets, part_at}

@@ -2,7 +2,6 @@
 --
 --   AreOfOneFace faces c d     both are corners of one face
 --   AreNeighbors faces c d     two corners at one vertex whose faces have an edge at that vertex in common
---   ArePath Links from to      from one number to another by links, one after another
 use Rattle.std.specs.Prelude.{ℕ, ◌≡◌, ◌≢◌, ◌*◌, ◌/◌, ◌<◌, List, length}
 use Rattle.half_edges.specs.HalfEdges.{start}
 
@@ -21,8 +20,3 @@ pub record AreNeighbors (faces : List (List ℕ)) (c d : ℕ) : Type 0 where
   pub same : start faces c ≡ start faces d
   pub same_end : start faces c_end ≡ start faces d_end
   pub differ : start faces c ≢ start faces c_end
-
--- by no link, or by one more
-pub data ArePath (Links : ℕ → ℕ → Type 0) : (from to : ℕ) → Type 0 where
-  none : {c : ℕ} → ArePath Links c c
-  more : {c d e : ℕ} → ArePath Links c d → Links d e → ArePath Links c e

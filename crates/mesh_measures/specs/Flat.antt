@@ -3,7 +3,7 @@
 --   IsFlat points f     the three corners of a face are on one line, or two of them at one place
 use Rattle.std.specs.Prelude.{ℕ, ◌≡◌, List, [], ◌∷◌}
 use Rattle.geo_sign.specs.Point.{Point, origin, step, cross}
-use Rattle.mesh_ply.specs.Meshes.{point_at}
+use Rattle.mesh.specs.Meshes.{point_at}
 
 -- the vector product of two sides is zero
 abbrev pub IsFlat : List Point → List ℕ → Type 0

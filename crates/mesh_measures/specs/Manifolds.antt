@@ -1,14 +1,16 @@
 -- Edges and vertices at which a mesh is a surface without border.
 --
 --   faces_at_edge faces u v           how many faces have the edge between two vertices, in either direction
---   IsNonManifoldEdge faces u v       some face has it, and other than two do
---   IsNonManifoldPair faces e         the same of a pair of vertices, the smaller first
+--   IsNonManifoldEdge faces u v       some face has the edge between u and v, and the number of faces that have it is
+--                                     not two
+--   IsNonManifoldPair faces e         a pair of vertices, the smaller first, whose edge is non-manifold
 --   IsCornerAt faces v c              a corner of a face is at the vertex v
 --   IsManifoldVertex faces v          the faces at v are one cycle: each edge at v has two of them, and they are connected by edges at v
 use Rattle.std.specs.Prelude.{ℕ, ◌≡◌, ◌≢◌, ◌*◌, ◌+◌, ◌<◌, ◌≤◌, List, length}
 use Rattle.mesh_edges.specs.Edges.{faces_with_edge}
 use Rattle.half_edges.specs.HalfEdges.{start}
-use Rattle.mesh_measures.specs.Corners.{AreNeighbors, ArePath}
+use Rattle.disjoint_sets.specs.Paths.{ArePath}
+use Rattle.mesh_measures.specs.Corners.{AreNeighbors}
 
 -- how many faces have the edge between two vertices, in either direction
 abbrev pub faces_at_edge : List (List ℕ) → (u v : ℕ) → ℕ

@@ -1,10 +1,12 @@
 -- Vertices that are marked while sides and corners are passed.
 --
---   IsFlagged P flags              exactly the numbers with P have a flag that is set
---   IsEndOfOdd faces sides n v    v is at an end of one of the first n sides that is odd
+--   IsFlagged P flags             exactly the numbers with P have their flag set
+--   IsEndOfOdd faces sides n v    v is at an end of one of the first n sides for which `IsOddSide` holds
 --   HasCorner faces n v           one of the first n corners is at v
 --   HasSecond faces parents n v   one of the first n corners is at v, the first of its set, and not the first at v
---   IsSuspect faces sides parents v   one of the two holds of all
+--   IsSuspect faces sides parents v
+--                                 `IsEndOfOdd` with n as the number of all sides, or `HasSecond` with n as the number
+--                                 of all corners
 use Rattle.std.specs.Prelude.{ℕ, ◌≡◌, ◌*◌, ◌<◌, ◌⊎◌, Bool, true, false, List, length, slice_index_or}
 use Rattle.half_edges.specs.HalfEdges.{start}
 use Rattle.disjoint_sets.specs.Sets.{IsFirstOfSet}

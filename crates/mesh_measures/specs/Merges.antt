@@ -1,14 +1,17 @@
 -- Sets of faces or corners, merged where sides have one edge.
 --
 --   part_of part s, part_at part sides i     the face of a side, or the corner at one of its ends
---   AreOfOneEdge part sides x y              the parts of two sides with one edge
---   AreConnectedBy part sides parents x y         x and y were together, or are these
---   IsMergedBy part sides old new            they are together now where links connect them
---   AreCornerSets faces parents              corners are together where neighbors connect them
---   ArePieceSets faces parents               faces are together where adjacent faces connect them
+--   AreOfOneEdge part sides x y              x and y are the parts (faces, or corners at one end) of two sides with one
+--                                            edge
+--   AreConnectedBy part sides parents x y    x and y were together, or are `AreOfOneEdge`
+--   IsMergedBy part sides old new            numbers are together in `new` exactly if steps of `AreConnectedBy` in
+--                                            `old` lead from one to the other
+--   AreCornerSets faces parents              corners are together exactly if `AreNeighbors` steps connect them
+--   ArePieceSets faces parents               faces are together exactly if adjacent faces connect them
 use Rattle.std.specs.Prelude.{ℕ, ◌≡◌, ◌*◌, ◌/◌, ◌<◌, ◌⊎◌, List, length, map, slice_index}
 use Rattle.disjoint_sets.specs.Sets.{AreTogether}
-use Rattle.mesh_measures.specs.Corners.{AreNeighbors, ArePath}
+use Rattle.disjoint_sets.specs.Paths.{ArePath}
+use Rattle.mesh_measures.specs.Corners.{AreNeighbors}
 use Rattle.mesh_measures.specs.Pieces.{AreAdjacent}
 use Rattle.mesh_measures.specs.Sides.{key_at}
 use Rattle.mesh_measures.specs.declared.merges.Part.{Part}

@@ -1,9 +1,10 @@
 -- Pieces of a mesh: faces that are connected across common edges.
 --
 --   AreAdjacent faces f g       faces number f and g have an edge in common
---   IsFirstOfPiece faces f      no face before f is connected with it
+--   IsFirstOfPiece faces f      no face before f is connected with it by adjacent faces
 use Rattle.std.specs.Prelude.{ℕ, ◌≡◌, ◌/◌, ◌<◌, List}
-use Rattle.mesh_measures.specs.Corners.{AreNeighbors, ArePath}
+use Rattle.disjoint_sets.specs.Paths.{ArePath}
+use Rattle.mesh_measures.specs.Corners.{AreNeighbors}
 
 -- an edge in common, in either direction
 pub record AreAdjacent (faces : List (List ℕ)) (f g : ℕ) : Type 0 where

@@ -4,10 +4,11 @@
 --   side_between faces c d    the side between two corners, that at the smaller vertex first
 --   sides_of_face faces f     the three sides of a face
 --   side_key s, keys sides, key_at sides i    the numbers of their edges
---   IsSide faces s            a side is that between two corners of a face
+--   IsSide faces s            s is a side of a face (here not of a cell): an edge as it occurs in this face, between
+--                             two of its corners
 --   AreSides faces sides      all sides of the faces, sorted
 --   IsFirstOfEdge sides i     no side before side i has its edge
---   IsOddSide sides i         and other than two sides have it
+--   IsOddSide sides i         side i is the first with its edge, and the number of sides with that edge is not two
 use Rattle.std.specs.Prelude.{ℕ, ◌≡◌, ◌≢◌, ◌+◌, ◌*◌, ◌<◌, ◌^◌, ◌==◌, nat_lt, if◌then◌else◌, List, [], ◌∷◌, map, slice_index, count_by, All, Contains}
 use Rattle.std.specs.List.Sorted.{IsNonDecreasingBy}
 use Rattle.mesh_edges.specs.Pairs.{key_of}

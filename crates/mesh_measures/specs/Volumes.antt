@@ -6,7 +6,7 @@
 use Rattle.std.specs.Prelude.{ℕ, ◌<◌, ◌^◌, All, length, ℤ, pos, ◌+ℤ◌, List, [], ◌∷◌, fold}
 use Rattle.geo_sign.specs.Point.{Point, origin}
 use Rattle.geo_sign.specs.Orientation.{orientation}
-use Rattle.mesh_ply.specs.Meshes.{IsFace, point_at}
+use Rattle.mesh.specs.Meshes.{IsFace, point_at}
 
 -- fewer than 2^32 faces among the points
 pub record AreFacesOf (points : List Point) (faces : List (List ℕ)) : Type 0 where

@@ -3,7 +3,7 @@
 ghost use Rattle.std.specs.Prelude.{◌≡◌, ◌<◌, ◌≤◌, ◌^◌, length, pos, unsigned_abs};
 ghost use Rattle.std.specs.Bool.{OnTrue, OnFalse};
 ghost use Rattle.geo_sign.specs.Point.{IsWithin, origin, point, step};
-ghost use Rattle.mesh_ply.specs.Meshes.{IsFace, IsMesh};
+ghost use Rattle.mesh.specs.Meshes.{IsFace, IsMesh};
 ghost use Rattle.mesh_edges.specs.Edges.{face_at};
 ghost use Rattle.counting.specs.Sets.{AreSoMany};
 ghost use Rattle.mesh_measures.specs.Flat.{IsFlat};
@@ -12,7 +12,7 @@ ghost use Rattle.mesh_measures.specs.Volumes.{AreFacesOf};
 use crate::volume::{origin_point, place, point_of};
 use counting::next_count;
 use geo_sign::{Point, Vector};
-use mesh_ply::Mesh;
+use mesh::Mesh;
 
 /// Returns the vector from the origin to a point.
 fn vector_to(x: i64, y: i64, z: i64) -> Vector

@@ -1,5 +1,10 @@
 //! Measures of a mesh: its signed volume, its faces without area, and how its faces are connected.
 //!
+//! Verified: `six_volume`, `count_flat_faces`, `measure_topology` count volume, flat faces, non-manifold edges, pieces exactly.
+//! `six_volume` returns six times the signed volume, `count_flat_faces` the number of faces with three collinear
+//! corners. `measure_topology` returns three counts: edges that do not have two faces, vertices at which the faces are
+//! not one cycle, and pieces.
+//!
 //! It depends on `counting` (counts), `disjoint_sets` (connected faces and corners), `half_edges` (corners), `mesh_ply` (meshes) and
 //! `geo_sign` (points).
 #![tactic(auto)]

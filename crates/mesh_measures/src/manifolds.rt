@@ -2,7 +2,7 @@
 
 ghost use Rattle.std.specs.Prelude.{◌≡◌, ◌+◌, ◌*◌, ◌<◌, ◌≤◌, ◌^◌, ◌⊎◌, ℕ, All, IfOk, length, slice_index_or, true, false};
 ghost use Rattle.std.specs.List.Sorted.{IsNonDecreasingBy};
-ghost use Rattle.mesh_ply.specs.Meshes.{IsFace};
+ghost use Rattle.mesh.specs.Meshes.{IsFace};
 ghost use Rattle.half_edges.specs.HalfEdges.{start};
 ghost use Rattle.counting.specs.Sets.{AreSoMany};
 ghost use Rattle.mesh_measures.specs.Manifolds.{IsManifoldVertex, IsNonManifoldPair};

@@ -3,7 +3,7 @@
 ghost use Rattle.std.specs.Prelude.{◌≡◌, ◌++◌, ◌+◌, ◌*◌, ◌<◌, ◌^◌, ◌≢◌, All, IfOk, OnOk, length, count_by, ◌==◌};
 ghost use Rattle.std.specs.Bool.{OnTrue, OnFalse};
 ghost use Rattle.std.specs.List.Sorted.{IsPermutation, IsNonDecreasingBy};
-ghost use Rattle.mesh_ply.specs.Meshes.{IsFace};
+ghost use Rattle.mesh.specs.Meshes.{IsFace};
 ghost use Rattle.mesh_measures.specs.Sides.{AreSides, IsFirstOfEdge, IsOddSide, key_at, side_key, side_between, sides_of_face};
 
 use crate::NoMemory;

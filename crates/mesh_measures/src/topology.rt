@@ -1,7 +1,7 @@
 //! How the faces of a mesh are connected.
 
 ghost use Rattle.std.specs.Prelude.{IfOk};
-ghost use Rattle.mesh_ply.specs.Meshes.{IsMesh};
+ghost use Rattle.mesh.specs.Meshes.{IsMesh};
 ghost use Rattle.mesh_measures.specs.Topology.{IsTopologyOf};
 
 use crate::NoMemory;
@@ -9,7 +9,7 @@ use crate::manifolds::{count_edges, count_vertices};
 use crate::merges::{corner_sets, piece_sets};
 use crate::pieces::count_pieces;
 use crate::sides::sorted_sides;
-use mesh_ply::Mesh;
+use mesh::Mesh;
 use std::alloc::Global;
 
 /// How the faces of a mesh are connected.

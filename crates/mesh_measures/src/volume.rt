@@ -2,11 +2,11 @@
 
 ghost use Rattle.std.specs.Prelude.{◌≡◌, ◌<◌, ◌≤◌, ◌^◌, unsigned_abs, length};
 ghost use Rattle.geo_sign.specs.Point.{origin, point};
-ghost use Rattle.mesh_ply.specs.Meshes.{IsFace, IsMesh, point_at};
+ghost use Rattle.mesh.specs.Meshes.{IsFace, IsMesh, point_at};
 ghost use Rattle.mesh_measures.specs.Volumes.{AreFacesOf, face_volume, six_volume};
 
 use geo_sign::{Point, corner, orient_value};
-use mesh_ply::Mesh;
+use mesh::Mesh;
 
 /// Returns a point near the origin.
 pub(crate) fn point_of(x: i64, y: i64, z: i64) -> Point

@@ -2,8 +2,8 @@
 use Rattle.std.proofs.Common.{ℕ, ◌≡◌, ◌+◌, ◌≤◌, ◌++◌, refl, ap, sym, ◌∙◌, arith, Bool, true, false, cond, List, [], ◌∷◌, length, get_or, map}
 use Rattle.std.proofs.lemmas.Bool.{false≢true}
 use Rattle.std.proofs.lemmas.List.{map-append, length-map}
-use Rattle.mesh_ply.specs.Marks.{marked}
-use Rattle.mesh_ply.proofs.Vertices.{filter_below_more, length_filter_below}
+use Rattle.mesh.specs.Marks.{marked}
+use Rattle.mesh.proofs.Vertices.{filter_below_more, length_filter_below}
 use Rattle.mesh_edges.specs.Edges.{face_at}
 use Rattle.mesh_pieces.specs.Pieces.{kept_faces}
 

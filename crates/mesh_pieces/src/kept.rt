@@ -1,8 +1,9 @@
-//! What is verified of marks: that they mark whole pieces, and the faces that they keep.
+//! The faces that marks keep, and the vertices that they have.
 
 ghost use Rattle.std.specs.Prelude.{◌≡◌, ◌<◌, ◌≤◌, ◌/◌, ◌++◌, ℕ, [], ◌∷◌, false, IfOk, OnOk, length, slice_index, slice_index_or, if◌then◌else◌};
 ghost use Rattle.std.specs.Bool.{OnTrue};
-ghost use Rattle.mesh_pieces.specs.Pieces.{IsUnion, IsCornerOf, kept_faces};
+ghost use Rattle.mesh_copies.specs.Copies.{IsCornerOf};
+ghost use Rattle.mesh_pieces.specs.Pieces.{kept_faces};
 
 use crate::NoMemory;
 use std::alloc::Global;
@@ -12,26 +13,6 @@ fn is_kept(kept: &[bool], face: usize) -> bool
     ensures { result ≡ slice_index_or kept.now face false }
 {
     face < kept.len() && kept[face]
-}
-
-/// Returns whether the face of a half edge and that of its twin are both marked, or neither.
-fn are_alike(twins: &[u32], kept: &[bool], h: usize) -> bool
-    requires { h < length twins.now }
-    ensures { OnTrue result (slice_index_or kept.now (h / 3) false ≡ slice_index_or kept.now (slice_index twins.now h / 3) false) }
-{
-    is_kept(kept, h / 3) == is_kept(kept, (twins[h] / 3) as usize)
-}
-
-/// Returns whether each face is marked exactly where those across its edges are.
-pub(crate) fn is_union(twins: &[u32], kept: &[bool]) -> bool
-    ensures { OnTrue result (IsUnion twins.now kept.now) }
-{
-    for h in 0..twins.len() {
-        if !are_alike(twins, kept, h) {
-            return false;
-        }
-    }
-    true
 }
 
 /// Appends a face if it is marked.

@@ -1,13 +1,13 @@
 //! The mesh of the pieces that are kept.
 
 ghost use Rattle.std.specs.Prelude.{IfOk};
-ghost use Rattle.mesh_ply.specs.Meshes.{IsMesh};
+ghost use Rattle.mesh.specs.Meshes.{IsMesh};
 ghost use Rattle.half_edges.specs.HalfEdges.{ArePaired};
 ghost use Rattle.mesh_pieces.specs.Pieces.{ArePieces};
 
-use crate::kept::{are_used, is_union, marked_faces};
+use crate::kept::{are_used, marked_faces};
+use crate::largest::marks_of_largest;
 use crate::renumber::{Renumbered, kept_twins, without_unused};
-use crate::search::marks_of_largest;
 use crate::{Mesh, NoMemory};
 use half_edges::are_twins;
 use mesh_copies::{copy_mesh, is_ascending};
@@ -25,7 +25,7 @@ pub struct PairedMesh {
 /// Why no pieces were kept.
 #[derive(Clone, Copy, Debug, PartialEq, Eq)]
 pub enum PiecesError {
-    /// What the search found was not whole pieces. This was never seen.
+    /// The copy of the pieces did not pass its verification. This was never seen.
     Unverified,
     /// Out of memory.
     NoMemory,
@@ -39,8 +39,8 @@ impl From<NoMemory> for PiecesError {
 
 /// Returns the pieces with the most faces, at most `most` of them, of a mesh whose half edges have these twins.
 ///
-/// The kept faces stand in their order, and so do the points that they have; all other points are left out. That these are the largest
-/// pieces, and as many as asked for, is tested and not promised. The pieces are sorted by size, and all else is linear.
+/// The kept faces stand in their order, and so do the points that they have; all other points are left out. If a piece is left out, exactly
+/// `most` are kept, and none of these has fewer faces. The pieces are sorted by size, and all else is nearly linear.
 pub fn keep_pieces(
     alloc: Global,
     mesh: &Mesh,
@@ -49,14 +49,11 @@ pub fn keep_pieces(
 ) -> Result<PairedMesh, PiecesError>
     requires valid { IsMesh mesh.now.points.items mesh.now.faces.items }
     requires paired { ArePaired mesh.now.faces.items twins.now }
-    ensures pieces { IfOk result (λ new. ArePieces mesh.now.points.items mesh.now.faces.items new.mesh.points.items new.mesh.faces.items) }
+    ensures pieces { IfOk result (λ new. ArePieces most mesh.now.points.items mesh.now.faces.items new.mesh.points.items new.mesh.faces.items) }
     ensures valid { IfOk result (λ new. IsMesh new.mesh.points.items new.mesh.faces.items) }
     ensures paired { IfOk result (λ new. ArePaired new.mesh.faces.items new.twins.items) }
 {
-    let kept = marks_of_largest(alloc, mesh.faces.len(), twins, most)?;
-    if !is_union(twins, &kept) {
-        return Err(PiecesError::Unverified);
-    }
+    let kept = marks_of_largest(alloc, &mesh.faces, twins, most)?;
     let faces = marked_faces(alloc, &mesh.faces, &kept)?;
     let Renumbered {
         faces: new,

@@ -1,5 +1,3 @@
-pub mod Vertices
-pub mod Renumbered
 pub mod MeshCodes
 pub mod MeshForms
 pub mod MeshRefused

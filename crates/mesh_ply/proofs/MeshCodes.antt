@@ -5,11 +5,11 @@ use Rattle.std.specs.Int.Signed.{mag}
 use Rattle.std.proofs.lemmas.List.Elements.{All-weaker}
 use Rattle.geo_sign.specs.Point.{Point, point, IsWithin}
 use Rattle.line_text.specs.Numbers.{signed_ended, counted}
-use Rattle.line_text.specs.Facets.{IsFacetRow}
+use Rattle.geo_sign.specs.Numbers.{IsFacetRow}
 use Rattle.line_text.proofs.Codes.{IsCode, behind_same, counted_code, code_list, code_fewer}
 use Rattle.line_text.proofs.SignedTokens.{signed_code}
 use Rattle.line_text.proofs.FacetForms.{facet_code}
-use Rattle.mesh_ply.specs.Meshes.{IsFace, IsMesh}
+use Rattle.mesh.specs.Meshes.{IsFace, IsMesh}
 use Rattle.mesh_ply.specs.Texts.{ply_line, ascii_format_line, vertex_word, x_line, y_line, z_line, face_word, list_line, header_end}
 use Rattle.mesh_ply.specs.Texts.{IsCoordinate, point_line, face_line, mesh_text, IsPrinted}
 use Rattle.geo_sign.specs.declared.point.TheConstants.{BOX_LIMIT}

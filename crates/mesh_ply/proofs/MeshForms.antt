@@ -3,8 +3,9 @@ use Rattle.std.proofs.Common.{ℕ, ◌≡◌, ◌<◌, ◌^◌, sym, ◌∙◌, 
 use Rattle.std.proofs.lemmas.Int.{fits_signed_from_abs}
 use Rattle.geo_sign.specs.Point.{Point, point, IsWithin}
 use Rattle.line_text.specs.Numbers.{signed_ended, BeginsWithNone}
-use Rattle.line_text.specs.Facets.{IsFacetRow, facet_fields}
-use Rattle.mesh_ply.specs.Meshes.{IsFace}
+use Rattle.geo_sign.specs.Numbers.{IsFacetRow}
+use Rattle.line_text.specs.Facets.{facet_fields}
+use Rattle.mesh.specs.Meshes.{IsFace}
 use Rattle.mesh_ply.specs.Texts.{IsCoordinate, point_line, face_line}
 use Rattle.mesh_ply.proofs.MeshCodes.{coordinate_code, point_parts, row_of_face, face_row_code}
 use Rattle.geo_sign.specs.declared.point.TheConstants.{BOX_LIMIT}

@@ -15,7 +15,7 @@ use Rattle.line_text.specs.Refusals.{line_after, AreCountedRows, IsBehindEnd}
 use Rattle.line_text.specs.Lists.{WithMemory}
 use Rattle.line_text.proofs.Parts.{IsOnce, IsPassed, word_once, word_passed, number_once, number_passed, rows_once, rows_passed}
 use Rattle.line_text.proofs.Parts.{rows_good, end_once, end_passed}
-use Rattle.mesh_ply.specs.Meshes.{IsFace}
+use Rattle.mesh.specs.Meshes.{IsFace}
 use Rattle.mesh_ply.specs.Texts.{ply_line, ascii_format_line, vertex_word, x_line, y_line, z_line, face_word, list_line, header_end}
 use Rattle.mesh_ply.specs.Texts.{point_line, face_line, mesh_text, IsPrinted}
 use Rattle.mesh_ply.specs.declared.refusal.MeshRefusal.{MeshRefusal}

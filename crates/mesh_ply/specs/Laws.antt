@@ -1,19 +1,11 @@
 -- Theorems of meshes and their texts.
 --
---   FacetsMakeMeshes     the mesh of a list of faces is valid
 --   TextsTellMeshes      two printed meshes with the same text are equal
 --   NoTextIsAFront       the text of one mesh is a prefix of that of another only if they are equal
 --   WherePrinted text P  P holds of the points and the faces whose text this is
-use Rattle.std.specs.Prelude.{◌≡◌, ◌<◌, ◌^◌, ◌++◌, [], ℕ, List, length}
+use Rattle.std.specs.Prelude.{◌≡◌, ◌++◌, [], ℕ, List}
 use Rattle.geo_sign.specs.Point.{Point}
-use Rattle.mesh_ply.specs.Meshes.{mesh_of, IsFaceList, IsMesh}
 use Rattle.mesh_ply.specs.Texts.{mesh_text, IsPrinted}
-
--- fewer than 2^32 points and fewer than 2^32 facets, which are a list of faces among these points
-abbrev pub FacetsMakeMeshes : Type 0
-FacetsMakeMeshes =
-    (places : List Point) (facets : List (List ℕ)) → length places < 2 ^ 32 → length facets < 2 ^ 32
-    → IsFaceList (length places) facets → IsMesh (mesh_of places facets).points (mesh_of places facets).faces
 
 -- no text belongs to two meshes
 abbrev pub TextsTellMeshes : Type 0

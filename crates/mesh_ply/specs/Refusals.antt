@@ -1,10 +1,15 @@
 -- Why a text is not a mesh: the first error in line order.
 --
---   mesh_refusal l        the error of a line as one of a mesh
---   AtFaces, AtPoints     from the first face on, from the first point on, at line 10
---   AtFaceCount           from line 4 on, after the number of points
---   AtMesh                the whole text, line by line
---   IsRefusedMesh text r  the text is rejected with this error
+--   mesh_refusal l        the error l of a line as an error of a mesh: a bad line with its number, at most 2^32 - 1, a
+--                         truncated text, or out of memory
+--   AtFaces n m k text r  r is the first error of the rest of a mesh's text from line k on, which has to be m faces
+--                         among n points, then nothing
+--   AtPoints n m text r   r is the first error of the rest of a mesh's text from line 10 on, which has to be n points
+--                         of the box, then m faces, then nothing
+--   AtFaceCount n text r  r is the first error of the rest of a mesh's text from line 4 on, where n is the number of
+--                         points in line 3
+--   AtMesh text r         the text is rejected as that of a mesh: r is its first error
+--   IsRefusedMesh bytes r   the first error of a text as a mesh, line by line
 use Rattle.std.specs.Prelude.{ℕ, ◌≡◌, ◌-◌, ◌^◌, min, None, List}
 use Rattle.geo_sign.specs.Point.{IsWithin}
 use Rattle.line_text.specs.declared.refusal.LineRefusal.{LineRefusal}
@@ -12,7 +17,7 @@ use Rattle.line_text.specs.declared.refusal.LineRefusal.TheVariants as lines
 use Rattle.line_text.specs.Refusals.{line_after, AtWord, AtNumber, AtRows, IsBehindEnd}
 use Rattle.mesh_ply.specs.declared.refusal.MeshRefusal.{MeshRefusal}
 use Rattle.mesh_ply.specs.declared.refusal.MeshRefusal.TheVariants.{BadLine, MeshCut, NoMemory}
-use Rattle.mesh_ply.specs.Meshes.{IsFace}
+use Rattle.mesh.specs.Meshes.{IsFace}
 use Rattle.mesh_ply.specs.Texts.{ply_line, ascii_format_line, vertex_word, x_line, y_line, z_line, face_word, list_line, header_end}
 use Rattle.mesh_ply.specs.Texts.{point_line, face_line}
 use Rattle.geo_sign.specs.declared.point.TheConstants.{BOX_LIMIT}

@@ -4,8 +4,8 @@ ghost use Rattle.std.specs.Prelude.{◌≡◌, ◌<◌, ◌^◌, ◌++◌, IfSom
 ghost use Rattle.std.specs.Bool.{OnTrue, OnFalse};
 ghost use Rattle.geo_sign.specs.Point.{IsWithin};
 ghost use Rattle.line_text.specs.Numbers.{signed_ended, BeginsWithNone};
-ghost use Rattle.line_text.specs.Facets.{IsFacetRow};
-ghost use Rattle.mesh_ply.specs.Meshes.{IsFace};
+ghost use Rattle.geo_sign.specs.Numbers.{IsFacetRow};
+ghost use Rattle.mesh.specs.Meshes.{IsFace};
 ghost use Rattle.mesh_ply.specs.Texts.{IsCoordinate, point_line, face_line};
 ghost use Rattle.geo_sign.specs.declared.point.TheConstants.{BOX_LIMIT};
 

@@ -6,7 +6,7 @@ ghost use Rattle.std.specs.List.{flat_map};
 ghost use Rattle.geo_sign.specs.Point.{Point, IsWithin};
 ghost use Rattle.line_text.specs.Refusals.{AreCountedRows, IsRefusedRow};
 ghost use Rattle.line_text.specs.Lists.{WithMemory};
-ghost use Rattle.mesh_ply.specs.Meshes.{IsFace};
+ghost use Rattle.mesh.specs.Meshes.{IsFace};
 ghost use Rattle.mesh_ply.specs.Texts.{point_line, face_line, mesh_text, IsPrinted};
 ghost use Rattle.mesh_ply.specs.Laws.{WherePrinted};
 ghost use Rattle.mesh_ply.specs.TextParts.{text_behind_count, AreLinesOf};

@@ -11,50 +11,39 @@ use Rattle.line_text.specs.Numbers.{counted, BeginsWithNone}
 use Rattle.line_text.proofs.Codes.{IsCode, behind_same, counted_code}
 use Rattle.mesh_ply.specs.Texts.{ply_line, ascii_format_line, vertex_word, mesh_text, IsPrinted}
 use Rattle.mesh_ply.proofs.MeshCodes.{mesh_code}
-use Rattle.cert_text.specs.Stamps.{IsDigest}
+use Rattle.certificate.specs.Stamps.{IsDigest}
 use Rattle.cert_text.specs.Texts.{scan_word, scan_line}
 use Rattle.cert_text.proofs.StampCodes.{scan_code, scan_parts}
-use Rattle.mesh_provenance.specs.declared.options.FinishOptions.{FinishOptions}
+use Rattle.finish_options.specs.declared.options.Made.{Made}
 use Rattle.mesh_provenance.specs.declared.provenance.Provenance.{Provenance}
 use Rattle.mesh_provenance.specs.Laws.{TextsTellFiles}
-use Rattle.mesh_provenance.specs.Options.{AreOptions, options_end}
 use Rattle.mesh_provenance.specs.Refusals.{head_text, Origin, IsOrigin, origin_text}
-use Rattle.mesh_provenance.specs.Texts.{finish_word, scale_word, digest_word, digest_line, options_line, text_after_format}
+use Rattle.mesh_provenance.specs.Texts.{IsMade, scale_word, digest_word, digest_line, made_line, text_after_format}
 use Rattle.mesh_provenance.specs.Texts.{annotated_text}
-use Rattle.mesh_provenance.proofs.OptionCodes.{options_code}
+use Rattle.mesh_provenance.proofs.MadeCodes.{made_code, made_not_vertices}
 
 -- ---- the first three lines
-pub head_parts : (o : FinishOptions) (r : List ℕ)
-    → head_text o ++ r ≡ ply_line ++ (ascii_format_line ++ (finish_word ++ (options_end o ++ r)))
-head_parts o r =
-    append_assoc ply_line (ascii_format_line ++ options_line o) r
-    ∙ ap (λ (t : List ℕ). ply_line ++ t) (append_assoc ascii_format_line (options_line o) r
-    ∙ ap (λ (t : List ℕ). ascii_format_line ++ t) (append_assoc finish_word (options_end o) r))
+pub head_parts : (m : Made) (r : List ℕ) → head_text m ++ r ≡ ply_line ++ (ascii_format_line ++ (made_line m ++ r))
+head_parts m r =
+    append_assoc ply_line (ascii_format_line ++ made_line m) r
+    ∙ ap (λ (t : List ℕ). ply_line ++ t) (append_assoc ascii_format_line (made_line m) r)
 
-pub head_code : IsCode AreOptions head_text
+pub head_code : IsCode IsMade head_text
 head_code v w r s a b e =
-    options_code v w r s a b
-    (behind_same finish_word _ _
-    (behind_same ascii_format_line _ _ (behind_same ply_line _ _ (sym (head_parts v r) ∙ e ∙ head_parts w s))))
+    made_code v w r s a b
+    (behind_same ascii_format_line _ _ (behind_same ply_line _ _ (sym (head_parts v r) ∙ e ∙ head_parts w s)))
 
 -- ---- texts that do not begin with these lines
 pub no_format : (text rest : List ℕ) → text ≡ ply_line ++ rest → ((u : List ℕ) → ¬ (rest ≡ ascii_format_line ++ u))
-    → BeginsWithNone AreOptions head_text text
+    → BeginsWithNone IsMade head_text text
 no_format text rest a other = λ o r h e. other _ (behind_same ply_line _ _ (sym a ∙ (e ∙ head_parts o r)))
 
-pub no_options_word : (text t u : List ℕ) → text ≡ ply_line ++ t → t ≡ ascii_format_line ++ u
-    → ((v : List ℕ) → ¬ (u ≡ finish_word ++ v)) → BeginsWithNone AreOptions head_text text
-no_options_word text t u a b other = λ o r h e.
-    other _ (behind_same ascii_format_line _ _ (sym b ∙ behind_same ply_line _ _ (sym a ∙ (e ∙ head_parts o r))))
-
-pub no_options : {A : Type 0} (found : Option A) (text t u v : List ℕ) → text ≡ ply_line ++ t → t ≡ ascii_format_line ++ u
-    → u ≡ finish_word ++ v → IfNone found (BeginsWithNone AreOptions options_end v)
-    → IfNone found (BeginsWithNone AreOptions head_text text)
-no_options (Some x) text t u v a b d none = tt
-no_options None text t u v a b d none = λ o r h e.
-    none o r h
-    (behind_same finish_word _ _
-    (sym d ∙ behind_same ascii_format_line _ _ (sym b ∙ behind_same ply_line _ _ (sym a ∙ (e ∙ head_parts o r)))))
+pub no_made : {A : Type 0} (found : Option A) (text t u : List ℕ) → text ≡ ply_line ++ t → t ≡ ascii_format_line ++ u
+    → IfNone found (BeginsWithNone IsMade made_line u)
+    → IfNone found (BeginsWithNone IsMade head_text text)
+no_made (Some x) text t u a b none = tt
+no_made None text t u a b none = λ m r h e.
+    none m r h (behind_same ascii_format_line _ _ (sym b ∙ behind_same ply_line _ _ (sym a ∙ (e ∙ head_parts m r))))
 
 -- ---- the digest
 pub digest_parts : (d r : List ℕ) → digest_line d ++ r ≡ digest_word ++ (encode_lower d ++ 10 ∷ r)
@@ -101,26 +90,19 @@ pub origin_of : Provenance → Origin
 origin_of p = (p.fine, p.digest)
 
 pub annotated_parts : (p : Provenance) (ps : List Point) (fs : List (List ℕ))
-    → annotated_text p ps fs ≡ head_text p.options ++ (origin_text (p.fine, p.digest) ++ text_after_format ps fs)
+    → annotated_text p ps fs ≡ head_text p.made ++ (origin_text (p.fine, p.digest) ++ text_after_format ps fs)
 annotated_parts p ps fs =
     let rest : List ℕ = text_after_format ps fs in
     let origin : List ℕ = origin_text (p.fine, p.digest) in
-    ap (λ (t : List ℕ). ply_line ++ (ascii_format_line ++ t)) (append_assoc (options_line p.options) origin rest)
-    ∙ sym (append_assoc ply_line (ascii_format_line ++ options_line p.options) (origin ++ rest)
-    ∙ ap (λ (t : List ℕ). ply_line ++ t) (append_assoc ascii_format_line (options_line p.options) (origin ++ rest)))
+    ap (λ (t : List ℕ). ply_line ++ (ascii_format_line ++ t)) (append_assoc (made_line p.made) origin rest)
+    ∙ sym (append_assoc ply_line (ascii_format_line ++ made_line p.made) (origin ++ rest)
+    ∙ ap (λ (t : List ℕ). ply_line ++ t) (append_assoc ascii_format_line (made_line p.made) (origin ++ rest)))
 
-c_not_e : ◌≡◌ {A = ℕ} 99 101 → ⊥
-c_not_e e = omega arith
-
-words_differ : (r s : List ℕ) (n : ℕ) → finish_word ++ r ≡ counted vertex_word n ++ s → ⊥
-unfolding finish_word vertex_word
-words_differ r s n e = c_not_e (ap (λ (l : List ℕ). get_or l 0 0) e)
-
-pub head_not_printed : (o : FinishOptions) (r : List ℕ) (ps : List Point) (fs : List (List ℕ))
-    → head_text o ++ r ≡ mesh_text ps fs → ⊥
-head_not_printed o r ps fs e =
-    words_differ _ _ (length ps)
-    (behind_same ascii_format_line _ _ (behind_same ply_line _ _ (sym (head_parts o r) ∙ (e ∙ printed_parts ps fs))))
+pub head_not_printed : (m : Made) (r : List ℕ) (ps : List Point) (fs : List (List ℕ))
+    → head_text m ++ r ≡ mesh_text ps fs → ⊥
+head_not_printed m r ps fs e =
+    made_not_vertices m _ _ (length ps)
+    (behind_same ascii_format_line _ _ (behind_same ply_line _ _ (sym (head_parts m r) ∙ (e ∙ printed_parts ps fs))))
 
 -- texts with the same rest are of the same mesh
 pub rest_code : (ps qs : List Point) (fs gs : List (List ℕ)) → IsPrinted ps fs → IsPrinted qs gs
@@ -131,13 +113,13 @@ rest_code ps qs fs gs a b e =
     let both = mesh_code ps qs fs gs [] [] a b (ap (λ (t : List ℕ). t ++ []) texts) in
     (both.0, both.1)
 
-provenance_with : FinishOptions → Origin → Provenance
-provenance_with o n = record { options = o; fine = n.0; digest = n.1 }
+provenance_with : Made → Origin → Provenance
+provenance_with m n = record { made = m; fine = n.0; digest = n.1 }
 
-provenance_same : (p q : Provenance) → p.options ≡ q.options → origin_of p ≡ origin_of q → p ≡ q
+provenance_same : (p q : Provenance) → p.made ≡ q.made → origin_of p ≡ origin_of q → p ≡ q
 unfolding provenance_with origin_of
 provenance_same p q e f =
-    ap (λ (o : FinishOptions). provenance_with o (origin_of p)) e ∙ ap (λ (n : Origin). provenance_with q.options n) f
+    ap (λ (m : Made). provenance_with m (origin_of p)) e ∙ ap (λ (n : Origin). provenance_with q.made n) f
 
 pub file_code : TextsTellFiles
 unfolding origin_of
@@ -145,11 +127,11 @@ file_code None None ps qs fs gs a b e =
     let both = mesh_code ps qs fs gs [] [] a.1 b.1 (ap (λ (t : List ℕ). t ++ []) e) in
     (refl, both.0, both.1)
 file_code None (Some q) ps qs fs gs a b e =
-    absurd (head_not_printed q.options _ ps fs (sym (annotated_parts q qs gs) ∙ sym e))
-file_code (Some p) None ps qs fs gs a b e = absurd (head_not_printed p.options _ qs gs (sym (annotated_parts p ps fs) ∙ e))
+    absurd (head_not_printed q.made _ ps fs (sym (annotated_parts q qs gs) ∙ sym e))
+file_code (Some p) None ps qs fs gs a b e = absurd (head_not_printed p.made _ qs gs (sym (annotated_parts p ps fs) ∙ e))
 file_code (Some p) (Some q) ps qs fs gs a b e =
     let head =
-    head_code p.options q.options _ _ a.0.options b.0.options (sym (annotated_parts p ps fs) ∙ (e ∙ annotated_parts q qs gs)) in
+    head_code p.made q.made _ _ a.0.made b.0.made (sym (annotated_parts p ps fs) ∙ (e ∙ annotated_parts q qs gs)) in
     let origin =
     origin_code (origin_of p) (origin_of q) _ _ (a.0.fine, a.0.digest) (b.0.fine, b.0.digest) head.1 in
     let both = rest_code ps qs fs gs a.1 b.1 origin.1 in

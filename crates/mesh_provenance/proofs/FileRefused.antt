@@ -8,7 +8,7 @@ use Rattle.geo_sign.specs.Point.{Point}
 use Rattle.line_text.specs.Numbers.{BeginsWithNone}
 use Rattle.line_text.proofs.Fronts.{cut_or_bad_same}
 use Rattle.line_text.proofs.Parts.{IsOnce, IsPassed, number_once, number_passed}
-use Rattle.cert_text.specs.Stamps.{IsDigest}
+use Rattle.certificate.specs.Stamps.{IsDigest}
 use Rattle.cert_text.specs.Refusals.{RefusedLine}
 use Rattle.mesh_ply.specs.Refusals.{mesh_refusal, IsRefusedMesh}
 use Rattle.mesh_ply.specs.Texts.{ply_line, ascii_format_line, IsPrinted}
@@ -20,9 +20,8 @@ use Rattle.mesh_provenance.specs.declared.provenance.Provenance.{Provenance}
 use Rattle.mesh_provenance.specs.Laws.{IsFile}
 use Rattle.mesh_provenance.specs.Refusals.{head_text, Origin, IsOrigin, origin_text, RefusedOrigin, later, AtMeshBehind, AtOrigin}
 use Rattle.mesh_provenance.specs.Refusals.{IsReadBehind, IsRefusedFile}
-use Rattle.mesh_provenance.specs.Options.{AreOptions}
-use Rattle.mesh_provenance.specs.declared.options.FinishOptions.{FinishOptions}
-use Rattle.mesh_provenance.specs.Texts.{scale_word, digest_line, text_after_format, file_text}
+use Rattle.finish_options.specs.declared.options.Made.{Made}
+use Rattle.mesh_provenance.specs.Texts.{IsMade, scale_word, digest_line, text_after_format, file_text}
 use Rattle.mesh_provenance.proofs.FileCodes.{head_code, origin_parts, origin_code, printed_parts, annotated_parts, head_not_printed}
 use Rattle.mesh_provenance.proofs.FileCodes.{file_code}
 
@@ -72,9 +71,9 @@ pub file_passed : (p : Option Provenance) (ps : List Point) (fs : List (List ℕ
     → IsFile p ps fs → text ≡ file_text p ps fs → IsRefusedFile text r → ⊥
 file_passed None ps fs text r w e (inl h) = printed_not_refused ps fs text w.1 e h.1.0 h.1.1
 file_passed None ps fs text r w e (inr h) = head_not_printed h.value h.rest ps fs (sym h.front ∙ e)
-file_passed (Some p) ps fs text r w e (inl h) = h.0 p.options _ w.0.options (e ∙ annotated_parts p ps fs)
+file_passed (Some p) ps fs text r w e (inl h) = h.0 p.made _ w.0.made (e ∙ annotated_parts p ps fs)
 file_passed (Some p) ps fs text r w e (inr h) =
-    let same = head_code h.value p.options h.rest _ h.form w.0.options (sym h.front ∙ (e ∙ annotated_parts p ps fs)) in
+    let same = head_code h.value p.made h.rest _ h.form w.0.made (sym h.front ∙ (e ∙ annotated_parts p ps fs)) in
     origin_passed h.rest (p.fine, p.digest) ps fs r (w.0.fine, w.0.digest) w.1 same.1 h.next
 
 -- ---- an error after valid lines
@@ -84,24 +83,24 @@ behind_refused text rest o r form front (inl none) = inl none
 behind_refused text rest o r form front (inr h) =
     inr (inr (record { value = o; rest = rest; form = form; front = front; next = h }))
 
-pub head_refused : (text rest : List ℕ) (o : FinishOptions) (r : MeshRefusal) → AreOptions o → text ≡ head_text o ++ rest
+pub head_refused : (text rest : List ℕ) (o : Made) (r : MeshRefusal) → IsMade o → text ≡ head_text o ++ rest
     → (r ≡ NoMemory) ⊎ AtOrigin rest r → (r ≡ NoMemory) ⊎ IsRefusedFile text r
 head_refused text rest o r form front (inl none) = inl none
 head_refused text rest o r form front (inr h) =
     inr (inr (record { value = o; rest = rest; form = form; front = front; next = h }))
 
-pub printed_refused : (text : List ℕ) (r : MeshRefusal) → BeginsWithNone AreOptions head_text text
+pub printed_refused : (text : List ℕ) (r : MeshRefusal) → BeginsWithNone IsMade head_text text
     → (r ≡ NoMemory) ⊎ IsRefusedMesh text r → (r ≡ NoMemory) ⊎ IsRefusedFile text r
 printed_refused text r none (inl e) = inl e
 printed_refused text r none (inr h) = inr (inl (none, h))
 
 -- ---- valid lines
-pub file_is : (text rest : List ℕ) (o : FinishOptions) (p : Provenance) (ps : List Point) (fs : List (List ℕ)) → AreOptions o
+pub file_is : (text rest : List ℕ) (o : Made) (p : Provenance) (ps : List Point) (fs : List (List ℕ)) → IsMade o
     → text ≡ head_text o ++ rest → IsReadBehind o rest p ps fs → IsFile (Some p) ps fs × (text ≡ file_text (Some p) ps fs)
 file_is text rest o p ps fs form front h = (
   (
     record {
-      options = subst AreOptions (sym h.options) form;
+      made = subst IsMade (sym h.made) form;
       fine = h.origin.0;
       digest = h.origin.1;
     },
@@ -109,7 +108,7 @@ file_is text rest o p ps fs form front h = (
   ),
   front
       ∙ (ap (λ (t : List ℕ). head_text o ++ t) h.text_is
-      ∙ (ap (λ (x : FinishOptions). head_text x ++ (origin_text (p.fine, p.digest) ++ text_after_format ps fs)) (sym h.options)
+      ∙ (ap (λ (x : Made). head_text x ++ (origin_text (p.fine, p.digest) ++ text_after_format ps fs)) (sym h.made)
       ∙ sym (annotated_parts p ps fs))),
 )
 

@@ -9,8 +9,8 @@ use Rattle.std.proofs.Common.{List, [], ◌∷◌, ◌++◌, length, get_or, dec
 use Rattle.std.proofs.lemmas.Fmt.{decimal_injective}
 use Rattle.line_text.specs.Numbers.{ended, counted}
 use Rattle.line_text.proofs.Codes.{IsCode, behind_same, ended_code, counted_code, decimal_lacks}
-use Rattle.mesh_provenance.specs.declared.options.FinishOptions.{FinishOptions}
-use Rattle.mesh_provenance.specs.declared.options.SmoothOptions.{SmoothOptions}
+use Rattle.finish_options.specs.declared.options.FinishOptions.{FinishOptions}
+use Rattle.finish_options.specs.declared.options.SmoothOptions.{SmoothOptions}
 use Rattle.mesh_provenance.specs.Options.{IsPieces, IsSmoothing, AreOptions, pieces_word, split_word, flips_word, steps_word, within_word}
 use Rattle.mesh_provenance.specs.Options.{smooth_end, flips_end, split_end, options_end}
 use Rattle.mesh_provenance.specs.Tails.{IsStop, IsStopped, IsNumbers, numbers_end, IsFlipsTail, IsSplitTail, Counted, IsCounted, counted_end}

@@ -3,10 +3,11 @@ use Rattle.std.proofs.Common.{ℕ, ◌≡◌, ◌<◌, ◌-◌, ◌^◌, refl, a
 use Rattle.std.proofs.Common.{List, [], ◌∷◌, ◌++◌, length, get_or, take, drop, decimal, length-append}
 use Rattle.std.proofs.lemmas.Fmt.{decimal_injective}
 use Rattle.std.proofs.lemmas.List.{get_or-append_right, take-append-drop, drop_more, get_or-take, length-take}
-use Rattle.line_text.specs.Numbers.{ended, counted, BeginsWithNone, IsBetween}
+use Rattle.line_text.specs.Numbers.{ended, counted, BeginsWithNone}
+use Rattle.geo_sign.specs.Numbers.{IsBetween}
 use Rattle.line_text.proofs.Codes.{behind_same, ended_code}
-use Rattle.mesh_provenance.specs.declared.options.SmoothOptions.{SmoothOptions}
-use Rattle.mesh_provenance.specs.declared.options.TheConstants.{MOST_STEPS, FARTHEST}
+use Rattle.finish_options.specs.declared.options.SmoothOptions.{SmoothOptions}
+use Rattle.finish_options.specs.declared.options.TheConstants.{MOST_STEPS, FARTHEST}
 use Rattle.mesh_provenance.specs.Options.{IsSmoothing, AreOptions, pieces_word, split_word, flips_word, steps_word, within_word}
 use Rattle.mesh_provenance.specs.Options.{smooth_end, flips_end, split_end, options_end}
 use Rattle.mesh_provenance.specs.Tails.{IsStop, IsStopped, IsNumbers, numbers_end, IsFlipsTail, IsSplitTail, IsCounted, counted_end}

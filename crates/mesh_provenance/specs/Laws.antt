@@ -1,7 +1,7 @@
 -- Theorems of texts of meshes with their provenance.
 --
 --   IsFile p points faces      a mesh that has a text, with a valid provenance if it has one
---   TextsTellFiles             no text belongs to two
+--   TextsTellFiles             no text belongs to two meshes, or to one mesh with two provenances
 --   WhereFile text P           P holds of the provenance, points and faces whose text this is
 use Rattle.std.specs.Prelude.{ℕ, ◌≡◌, Option, IfSome, List}
 use Rattle.geo_sign.specs.Point.{Point}

@@ -1,15 +1,18 @@
 -- The options with which a mesh is finished, and their text.
 --
 --   IsPieces pieces, IsSmoothing s   the numbers of an option are in their ranges
---   AreOptions o                     the numbers of all options are
+--   AreOptions o                                       the numbers of all options are in their ranges
 --   pieces_word, .., within_word     the texts before the values of options
 --   pieces_text, split_text, flips_text, smooth_text   the text of an option, empty at its default
---   smooth_end, flips_end, split_end, options_end      the options from one on, and the end of their line
+--   smooth_end, flips_end, split_end                   the options from one on, and the end of their line
+--   options_end                                        the text of all options in their order, and the end of their
+--                                                      line
 use Rattle.std.specs.Prelude.{ℕ, ◌-◌, ◌^◌, Bool, true, false, Option, Some, None, IfSome, List, [], ◌∷◌, ◌++◌, codes, decimal}
-use Rattle.line_text.specs.Numbers.{space, line_feed, ended, IsBetween}
-use Rattle.mesh_provenance.specs.declared.options.FinishOptions.{FinishOptions}
-use Rattle.mesh_provenance.specs.declared.options.SmoothOptions.{SmoothOptions}
-use Rattle.mesh_provenance.specs.declared.options.TheConstants.{MOST_STEPS, FARTHEST}
+use Rattle.line_text.specs.Numbers.{space, line_feed, ended}
+use Rattle.geo_sign.specs.Numbers.{IsBetween}
+use Rattle.finish_options.specs.declared.options.FinishOptions.{FinishOptions}
+use Rattle.finish_options.specs.declared.options.SmoothOptions.{SmoothOptions}
+use Rattle.finish_options.specs.declared.options.TheConstants.{MOST_STEPS, FARTHEST}
 
 -- at least one piece is kept, if not all
 abbrev pub IsPieces : Option ℕ → Type 0

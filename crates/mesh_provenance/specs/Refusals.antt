@@ -1,32 +1,36 @@
 -- Why a text is neither a mesh with its provenance nor the printed form of a mesh: the first error in line order.
 --
---   head_text o             the first three lines of a mesh with its provenance
---   Origin, IsOrigin, origin_text   scale and digest, and their lines
---   RefusedOrigin text r    line 4 or 5 is rejected
---   later r                 the error of a printed form as one of the same text with three lines more
---   AtMeshBehind text r     the text after line 5 is rejected
---   AtOrigin text r         the text after line 3 is
---   IsReadBehind o text p points faces   it is the rest of a mesh with this provenance
+--   head_text m             the first three lines of a mesh with its provenance, the third with what was done
+--   Origin, IsOrigin o, origin_text o
+--                           the scale and the digest of a mesh with its provenance; both are valid; their two lines
+--   RefusedOrigin text r    r is the error of line 4 or else of line 5 of a mesh with its provenance: the scale or the
+--                           digest is invalid
+--   later r                 the error of a printed form, as that of the same text with three more lines
+--   AtMeshBehind text r     r is the first error of a mesh with its provenance after line 5: that of the same mesh
+--                           without the three comment lines, three lines later
+--   AtOrigin text r         r is the first error of a mesh with its provenance after line 3
+--   IsReadBehind m text p points faces
+--                           the text after line 3 is the rest of a mesh with the provenance p, in which m was done
 --   IsRefusedFile text r    the whole text is rejected
 use Rattle.std.specs.Prelude.{ℕ, ◌≡◌, ◌⊎◌, ◌+◌, ◌-◌, ◌^◌, min, List, ◌++◌}
 use Rattle.geo_sign.specs.Point.{Point}
-use Rattle.line_text.specs.Numbers.{counted, BeginsWithNone, IsBetween}
+use Rattle.line_text.specs.Numbers.{counted, BeginsWithNone}
+use Rattle.geo_sign.specs.Numbers.{IsBetween}
 use Rattle.line_text.specs.declared.refusal.LineRefusal.{LineRefusal}
 use Rattle.line_text.specs.Refusals.{AtNumber, BeginsWith}
-use Rattle.cert_text.specs.Stamps.{IsDigest}
+use Rattle.certificate.specs.Stamps.{IsDigest}
 use Rattle.cert_text.specs.Refusals.{RefusedLine}
 use Rattle.mesh_ply.specs.Refusals.{mesh_refusal, IsRefusedMesh}
 use Rattle.mesh_ply.specs.Texts.{ply_line, ascii_format_line, IsPrinted}
 use Rattle.mesh_ply.specs.declared.refusal.MeshRefusal.{MeshRefusal}
 use Rattle.mesh_ply.specs.declared.refusal.MeshRefusal.TheVariants.{BadLine, MeshCut, NoMemory}
-use Rattle.mesh_provenance.specs.Options.{AreOptions}
-use Rattle.mesh_provenance.specs.Texts.{scale_word, digest_line, options_line, text_after_format}
+use Rattle.mesh_provenance.specs.Texts.{IsMade, scale_word, digest_line, made_line, text_after_format}
 use Rattle.mesh_provenance.specs.declared.provenance.Provenance.{Provenance}
-use Rattle.mesh_provenance.specs.declared.options.FinishOptions.{FinishOptions}
+use Rattle.finish_options.specs.declared.options.Made.{Made}
 
 -- the first three lines
-abbrev pub head_text : FinishOptions → List ℕ
-head_text o = ply_line ++ (ascii_format_line ++ options_line o)
+abbrev pub head_text : Made → List ℕ
+head_text m = ply_line ++ (ascii_format_line ++ made_line m)
 
 -- scale and digest
 abbrev pub Origin : Type 0
@@ -61,8 +65,8 @@ AtOrigin text r =
     ⊎ BeginsWith IsOrigin origin_text text (λ _ rest. AtMeshBehind rest r)
 
 -- the text after line 3 is the rest of a mesh with this provenance
-pub record IsReadBehind (o : FinishOptions) (text : List ℕ) (p : Provenance) (points : List Point) (faces : List (List ℕ)) : Type 0 where
-  pub options : p.options ≡ o
+pub record IsReadBehind (m : Made) (text : List ℕ) (p : Provenance) (points : List Point) (faces : List (List ℕ)) : Type 0 where
+  pub made : p.made ≡ m
   pub origin : IsOrigin (p.fine, p.digest)
   pub printed : IsPrinted points faces
   pub text_is : text ≡ origin_text (p.fine, p.digest) ++ text_after_format points faces
@@ -71,5 +75,5 @@ pub record IsReadBehind (o : FinishOptions) (text : List ℕ) (p : Provenance) (
 -- after these. Any other text is rejected as a printed form.
 abbrev pub IsRefusedFile : List ℕ → MeshRefusal → Type 0
 IsRefusedFile text r =
-    (BeginsWithNone AreOptions head_text text × IsRefusedMesh text r)
-    ⊎ BeginsWith AreOptions head_text text (λ _ rest. AtOrigin rest r)
+    (BeginsWithNone IsMade head_text text × IsRefusedMesh text r)
+    ⊎ BeginsWith IsMade head_text text (λ _ rest. AtOrigin rest r)

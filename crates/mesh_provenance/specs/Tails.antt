@@ -5,10 +5,10 @@
 --   IsFlipsTail p, IsSplitTail p          what follows the flips, and the split, is valid
 --   Counted, IsCounted p, counted_end p   a number of pieces and what follows it, and their text after its key
 use Rattle.std.specs.Prelude.{ℕ, ◌≡◌, ◌⊎◌, ◌-◌, ◌^◌, Bool, Option, Some, List, [], ◌∷◌, ◌++◌, decimal}
-use Rattle.line_text.specs.Numbers.{IsBetween}
+use Rattle.geo_sign.specs.Numbers.{IsBetween}
 use Rattle.mesh_provenance.specs.Options.{IsSmoothing, smooth_end, split_end}
-use Rattle.mesh_provenance.specs.declared.options.SmoothOptions.{SmoothOptions}
-use Rattle.mesh_provenance.specs.declared.options.TheConstants.{MOST_STEPS, FARTHEST}
+use Rattle.finish_options.specs.declared.options.SmoothOptions.{SmoothOptions}
+use Rattle.finish_options.specs.declared.options.TheConstants.{MOST_STEPS, FARTHEST}
 
 -- a space or a line feed
 abbrev pub IsStop : ℕ → Type 0

@@ -1,27 +1,37 @@
--- Where a finished mesh comes from, and the text of a mesh that states it: the printed form of the mesh with three lines of comments
+-- Where a finished or simplified mesh comes from, and the text of a mesh that states it: the printed form of the mesh with three lines of comments
 -- after its first two.
 --
---   IsProvenance p                  its options, scale and digest are valid
+--   IsMade m                        the options of what was done are valid
+--   IsProvenance p                  the options, the scale and the digest of p are valid
 --   finish_word, scale_word, digest_word   the texts before the options, the scale and the digest
 --   digest_line digest              the line of a digest
---   provenance_lines p              the three lines
+--   made_line m                     the line of what was done, with its options
+--   provenance_lines p              the three comment lines of a finished mesh
 --   text_after_format points faces  the printed form after its first two lines
---   annotated_text p points faces   the printed form with the three lines
---   file_text p points faces        the same, or the printed form
+--   annotated_text p points faces   the printed form of the mesh with the three comment lines
+--   file_text p points faces        `annotated_text` if there is a provenance, else the printed form
 use Rattle.std.specs.Prelude.{ℕ, ◌-◌, ◌^◌, Option, Some, None, List, [], ◌∷◌, ◌++◌, codes, length}
 use Rattle.geo_sign.specs.Point.{Point}
 use Rattle.hex.specs.Hex.{encode_lower}
-use Rattle.line_text.specs.Numbers.{counted, IsBetween}
+use Rattle.line_text.specs.Numbers.{counted}
+use Rattle.geo_sign.specs.Numbers.{IsBetween}
 use Rattle.mesh_ply.specs.Texts.{ply_line, ascii_format_line, vertex_word, mesh_text}
 use Rattle.mesh_ply.specs.TextParts.{text_behind_count}
-use Rattle.cert_text.specs.Stamps.{IsDigest}
+use Rattle.certificate.specs.Stamps.{IsDigest}
 use Rattle.mesh_provenance.specs.Options.{AreOptions, options_end}
-use Rattle.mesh_provenance.specs.declared.options.FinishOptions.{FinishOptions}
+use Rattle.mesh_provenance.specs.Simplifying.{AreSimplifyOptions, simplify_word, simplify_end}
+use Rattle.finish_options.specs.declared.options.Made.{Made}
+use Rattle.finish_options.specs.declared.options.Made.TheVariants.{Finish, Simplify}
 use Rattle.mesh_provenance.specs.declared.provenance.Provenance.{Provenance}
+
+-- the options of what was done are valid
+abbrev pub IsMade : Made → Type 0
+IsMade (Finish o) = AreOptions o
+IsMade (Simplify o) = AreSimplifyOptions o
 
 -- valid options, a scale that fits 32 bits and is not 0, and 32 bytes
 pub record IsProvenance (p : Provenance) : Type 0 where
-  pub options : AreOptions p.options
+  pub made : IsMade p.made
   pub fine : IsBetween 1 (2 ^ 32 - 1) p.fine
   pub digest : IsDigest p.digest
 
@@ -41,13 +51,14 @@ digest_word = codes "comment sha256 "
 abbrev pub digest_line : List ℕ → List ℕ
 digest_line digest = digest_word ++ (encode_lower digest ++ 10 ∷ [])
 
--- the line of the options
-abbrev pub options_line : FinishOptions → List ℕ
-options_line o = finish_word ++ options_end o
+-- the line of what was done, with its options
+abbrev pub made_line : Made → List ℕ
+made_line (Finish o) = finish_word ++ options_end o
+made_line (Simplify o) = simplify_word ++ simplify_end o
 
 -- the options, the scale and the digest
 abbrev pub provenance_lines : Provenance → List ℕ
-provenance_lines p = options_line p.options ++ (counted scale_word p.fine ++ digest_line p.digest)
+provenance_lines p = made_line p.made ++ (counted scale_word p.fine ++ digest_line p.digest)
 
 -- the printed form after its first two lines
 abbrev pub text_after_format : List Point → List (List ℕ) → List ℕ

@@ -2,12 +2,13 @@
 
 ghost use Rattle.std.specs.Prelude.{◌≡◌, ◌<◌, ◌≤◌, ◌++◌, ◌-◌, ◌^◌, ℕ, List, length, slice_index, decimal, IfSome, IfNone};
 ghost use Rattle.std.specs.Bool.{OnTrue, OnFalse};
-ghost use Rattle.line_text.specs.Numbers.{BeginsWithNone, IsBetween};
+ghost use Rattle.line_text.specs.Numbers.{BeginsWithNone};
+ghost use Rattle.geo_sign.specs.Numbers.{IsBetween};
 ghost use Rattle.mesh_provenance.specs.Options.{IsSmoothing, AreOptions, smooth_end, flips_end, split_end, options_end};
 ghost use Rattle.mesh_provenance.specs.Tails.{IsStop, IsStopped, IsNumbers, numbers_end, IsFlipsTail, IsSplitTail, IsCounted, counted_end};
 
-use crate::options::{FARTHEST, FinishOptions, MOST_STEPS, SmoothOptions};
 use crate::words::{no_flips, pieces, smooth, split, within};
+use finish_options::{FARTHEST, FinishOptions, MOST_STEPS, SmoothOptions};
 use line_text::{behind, counted_within, number_of, number_within};
 
 /// Returns the numbers of smoothing and the end of the line.

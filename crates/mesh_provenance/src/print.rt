@@ -2,17 +2,19 @@
 
 ghost use Rattle.std.specs.Prelude.{◌≡◌, ◌++◌, OnOk};
 ghost use Rattle.mesh_provenance.specs.Options.{pieces_text, split_text, flips_text, smooth_text, options_end};
-ghost use Rattle.mesh_provenance.specs.Texts.{digest_line, options_line, provenance_lines, text_after_format, annotated_text};
+ghost use Rattle.mesh_provenance.specs.Simplifying.{simplify_word, simplify_end};
+ghost use Rattle.mesh_provenance.specs.Texts.{finish_word, digest_line, made_line, provenance_lines, text_after_format, annotated_text};
 
-use crate::options::{FinishOptions, SmoothOptions};
 use crate::provenance::Provenance;
 use crate::words::{
-    finish, first_line, format, header_rest, header_to_faces, no_flips, pieces, scale, sha256,
-    smooth, split, vertices, within,
+    faces, finish, first_line, format, header_rest, header_to_faces, no_flips, pieces, scale,
+    sha256, simplify, smooth, split, vertices, within,
 };
 use cert_text::digits_of;
+use finish_options::{FinishOptions, Made, SimplifyOptions, SmoothOptions};
 use line_text::push_counted;
-use mesh_ply::{Mesh, NoMemory, push_faces, push_points};
+use mesh::{Mesh, NoMemory};
+use mesh_ply::{push_faces, push_points};
 use num_text::push_whole;
 
 /// Appends the number of pieces, if there is one.
@@ -66,9 +68,9 @@ fn push_smoothing(out: &mut Vec<u8>, smoothing: Option<SmoothOptions>) -> Result
     }
 }
 
-/// Appends the line of the options.
+/// Appends the line of a finished mesh.
 fn push_options(out: &mut Vec<u8>, options: FinishOptions) -> Result<(), NoMemory>
-    ensures { OnOk result (out.new.items ≡ out.old.items ++ options_line options) }
+    ensures { OnOk result (out.new.items ≡ out.old.items ++ (finish_word ++ options_end options)) }
 {
     out.extend_from_slice(finish())?;
     push_pieces(out, options.pieces)?;
@@ -77,6 +79,27 @@ fn push_options(out: &mut Vec<u8>, options: FinishOptions) -> Result<(), NoMemor
     push_smoothing(out, options.smoothing)?;
     out.push(b'\n')?;
     Ok(())
+}
+
+/// Appends the line of a simplified mesh.
+fn push_simplifying(out: &mut Vec<u8>, options: SimplifyOptions) -> Result<(), NoMemory>
+    ensures { OnOk result (out.new.items ≡ out.old.items ++ (simplify_word ++ simplify_end options)) }
+{
+    out.extend_from_slice(simplify())?;
+    push_whole(out, i128::from(options.within))?;
+    out.push(b' ')?;
+    push_counted(out, faces(), u64::from(options.faces))?;
+    Ok(())
+}
+
+/// Appends the line of what was done.
+fn push_made(out: &mut Vec<u8>, made: Made) -> Result<(), NoMemory>
+    ensures { OnOk result (out.new.items ≡ out.old.items ++ made_line made) }
+{
+    match made {
+        Made::Finish(options) => push_options(out, options),
+        Made::Simplify(options) => push_simplifying(out, options),
+    }
 }
 
 /// Appends the line of a digest.
@@ -94,7 +117,7 @@ fn push_digest(out: &mut Vec<u8>, digest: &[u8; 32]) -> Result<(), NoMemory>
 fn push_provenance(out: &mut Vec<u8>, provenance: &Provenance) -> Result<(), NoMemory>
     ensures { OnOk result (out.new.items ≡ out.old.items ++ provenance_lines provenance.now) }
 {
-    push_options(out, provenance.options)?;
+    push_made(out, provenance.made)?;
     push_counted(out, scale(), u64::from(provenance.fine))?;
     push_digest(out, &provenance.digest)?;
     Ok(())

@@ -1,14 +1,14 @@
-//! Where a finished mesh comes from.
+//! Where a finished or simplified mesh comes from.
 
-use crate::options::FinishOptions;
-use mesh_ply::Mesh;
+use finish_options::Made;
+use mesh::Mesh;
 
 /// What was done to a mesh, and to which.
 #[derive(Clone, Copy, Debug, PartialEq, Eq)]
 pub struct Provenance {
-    /// The options with which the mesh was finished.
-    pub options: FinishOptions,
-    /// How many units of this mesh one unit of the mesh before has: 1 without smoothing.
+    /// What was done, with its options.
+    pub made: Made,
+    /// How many units of this mesh one unit of the mesh before has: 1 without smoothing, and after simplifying.
     pub fine: u32,
     /// The SHA-256 of the file of the mesh before.
     pub digest: [u8; 32],

@@ -3,34 +3,33 @@
 
 ghost use Rattle.std.specs.Prelude.{◌≡◌, ◌++◌, ◌⊎◌, None, Some, IfOk, IfErr, IsErr, IfSome, IfNone, MatchResult};
 ghost use Rattle.line_text.specs.Numbers.{BeginsWithNone};
-ghost use Rattle.cert_text.specs.Stamps.{IsDigest};
+ghost use Rattle.certificate.specs.Stamps.{IsDigest};
 ghost use Rattle.cert_text.specs.Refusals.{RefusedLine};
 ghost use Rattle.mesh_ply.specs.Refusals.{mesh_refusal, IsRefusedMesh};
 ghost use Rattle.mesh_ply.specs.Texts.{ply_line, ascii_format_line, IsPrinted};
 ghost use Rattle.mesh_ply.specs.declared.refusal.MeshRefusal.{MeshRefusal};
 ghost use Rattle.mesh_provenance.specs.Laws.{IsFile, WhereFile};
-ghost use Rattle.mesh_provenance.specs.Options.{AreOptions};
 ghost use Rattle.mesh_provenance.specs.Refusals.{head_text, IsOrigin, origin_text, RefusedOrigin, later, AtMeshBehind, AtOrigin, IsReadBehind, IsRefusedFile};
-ghost use Rattle.mesh_provenance.specs.Texts.{digest_line, file_text, text_after_format};
+ghost use Rattle.mesh_provenance.specs.Texts.{IsMade, digest_line, file_text, text_after_format};
 
-use crate::options::FinishOptions;
-use crate::options_read::options_first;
+use crate::made_read::made_first;
 use crate::provenance::{AnnotatedMesh, Provenance};
-use crate::words::{finish, first_line, format, scale, sha256};
+use crate::words::{first_line, format, scale, sha256};
 use cert_text::digest_of;
+use finish_options::Made;
 use line_text::{LineRefusal, behind, cut_at, number_line, refusal_of};
-use mesh_ply::{Mesh, MeshRefusal, NoMemory, read_mesh};
+use mesh::{Mesh, NoMemory};
+use mesh_ply::{MeshRefusal, read_mesh};
 use std::alloc::Global;
 
-/// Returns the options of the first three lines.
-fn head_first(text: &[u8]) -> Option<(FinishOptions, &[u8])>
-    ensures some { IfSome result (λ read. AreOptions read.0 × (text.now ≡ head_text read.0 ++ read.1.now)) }
-    ensures none { IfNone result (BeginsWithNone AreOptions head_text text.now) }
+/// Returns what was done, as the first three lines state it.
+fn head_first(text: &[u8]) -> Option<(Made, &[u8])>
+    ensures some { IfSome result (λ read. IsMade read.0 × (text.now ≡ head_text read.0 ++ read.1.now)) }
+    ensures none { IfNone result (BeginsWithNone IsMade head_text text.now) }
 {
     let rest = behind(text, first_line())?;
     let rest = behind(rest, format())?;
-    let rest = behind(rest, finish())?;
-    options_first(rest)
+    made_first(rest)
 }
 
 /// Returns the digest of its line.
@@ -116,13 +115,13 @@ fn read_mesh_behind(alloc: Global, text: &[u8]) -> Result<Mesh, MeshRefusal>
     }
 }
 
-/// Reads the text after the line of these options.
-fn read_behind_options(
+/// Reads the text after the line of what was done.
+fn read_behind_made(
     alloc: Global,
     text: &[u8],
-    options: FinishOptions,
+    made: Made,
 ) -> Result<(Provenance, Mesh), MeshRefusal>
-    ensures ok { IfOk result (λ read. IsReadBehind options text.now read.0 (read.1.points.items) (read.1.faces.items)) }
+    ensures ok { IfOk result (λ read. IsReadBehind made text.now read.0 (read.1.points.items) (read.1.faces.items)) }
     ensures refused { IfErr result (λ r. (r ≡ MeshRefusal.NoMemory) ⊎ AtOrigin text.now r) }
 {
     let ((fine, digest), rest) = match read_origin(text) {
@@ -130,11 +129,7 @@ fn read_behind_options(
         Err(refusal) => return Err(as_mesh_refusal(refusal)),
     };
     let mesh = read_mesh_behind(alloc, rest)?;
-    let provenance = Provenance {
-        options,
-        fine,
-        digest,
-    };
+    let provenance = Provenance { made, fine, digest };
     Ok((provenance, mesh))
 }
 
@@ -144,8 +139,8 @@ fn read_file(alloc: Global, bytes: &[u8]) -> Result<AnnotatedMesh, MeshRefusal>
     ensures refused { IfErr result (λ r. (r ≡ MeshRefusal.NoMemory) ⊎ IsRefusedFile bytes.now r) }
 {
     match head_first(bytes) {
-        Some((options, rest)) => {
-            let (provenance, mesh) = read_behind_options(alloc, rest, options)?;
+        Some((made, rest)) => {
+            let (provenance, mesh) = read_behind_made(alloc, rest, made)?;
             Ok(AnnotatedMesh {
                 mesh,
                 provenance: Some(provenance),

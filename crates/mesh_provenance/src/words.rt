@@ -3,6 +3,7 @@
 ghost use Rattle.std.specs.Prelude.{◌≡◌};
 ghost use Rattle.mesh_ply.specs.Texts.{ply_line, ascii_format_line, vertex_word, face_head, head_end};
 ghost use Rattle.mesh_provenance.specs.Options.{pieces_word, split_word, flips_word, steps_word, within_word};
+ghost use Rattle.mesh_provenance.specs.Simplifying.{simplify_word, faces_word};
 ghost use Rattle.mesh_provenance.specs.Texts.{finish_word, scale_word, digest_word};
 
 #[tactic(auto, unfolding(mesh_ply::specs::Texts::ply_line))]
@@ -31,6 +32,20 @@ pub fn finish() -> &'static [u8]
     ensures { result.now ≡ finish_word }
 {
     b"comment recon-mesh finish"
+}
+
+#[tactic(auto, unfolding(crate::specs::Simplifying::simplify_word))]
+pub fn simplify() -> &'static [u8]
+    ensures { result.now ≡ simplify_word }
+{
+    b"comment recon-mesh simplify within="
+}
+
+#[tactic(auto, unfolding(crate::specs::Simplifying::faces_word))]
+pub fn faces() -> &'static [u8]
+    ensures { result.now ≡ faces_word }
+{
+    b"faces="
 }
 
 #[tactic(auto, unfolding(crate::specs::Texts::scale_word))]

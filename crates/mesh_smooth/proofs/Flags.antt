@@ -1,7 +1,7 @@
 -- Points of a list of which one is set.
 use Rattle.std.proofs.Common.{ℕ, ◌≡◌, ◌≢◌, ◌<◌, List, length, set, get_or-set_other, get_or-set_same}
 use Rattle.geo_sign.specs.Point.{Point}
-use Rattle.mesh_ply.specs.Meshes.{point_at}
+use Rattle.mesh.specs.Meshes.{point_at}
 
 pub point_here : (points : List Point) (i : ℕ) (p : Point) → i < length points → point_at (set points i p) i ≡ p
 point_here points i p l = rw get_or-set_same

@@ -6,7 +6,7 @@ use Rattle.std.proofs.Common.{ℕ, ◌≡◌, ◌≢◌, ◌<◌, ◌≤◌, ◌
 use Rattle.std.specs.Bool.{OnFalse}
 use Rattle.std.proofs.lemmas.Bool.{cases_lt, false≢true}
 use Rattle.geo_sign.specs.Point.{Point}
-use Rattle.mesh_ply.specs.Meshes.{point_at}
+use Rattle.mesh.specs.Meshes.{point_at}
 use Rattle.mesh_edges.specs.Edges.{face_at}
 use Rattle.hull_tree.specs.declared.tree.HullTree.{HullTree}
 use Rattle.triangle_gap.specs.Gaps.{AreFacesApart}

@@ -10,7 +10,7 @@ use Rattle.geo_sign.proofs.Bounds.{kept, Held, held_kept}
 use Rattle.geo_sign.proofs.RingLaws.{*ℤ_assoc}
 use Rattle.geo_sign.specs.Point.{Point, point, IsWithin}
 use Rattle.geo_sign.specs.declared.point.TheConstants.{BOX_LIMIT}
-use Rattle.mesh_ply.specs.Meshes.{point_at}
+use Rattle.mesh.specs.Meshes.{point_at}
 use Rattle.triangle_gap.specs.Shared.{weighted_sum, weighted}
 use Rattle.mesh_edges.specs.Edges.{face_at}
 use Rattle.triangle_gap.specs.Gaps.{IsCommon, AreFacesApart}

@@ -4,7 +4,7 @@ use Rattle.std.proofs.Math.ListN.{length-set}
 use Rattle.std.proofs.lemmas.Int.{ints}
 use Rattle.std.specs.List.{All}
 use Rattle.geo_sign.specs.Point.{Point}
-use Rattle.mesh_ply.specs.Meshes.{point_at}
+use Rattle.mesh.specs.Meshes.{point_at}
 use Rattle.mesh_flips.specs.Flips.{IsFlipped, KeepsApart}
 use Rattle.mesh_flips.specs.Flips.AreFlips.{none}
 use Rattle.mesh_flips.specs.Turns.{IsTriangle}

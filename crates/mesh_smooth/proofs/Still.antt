@@ -1,7 +1,7 @@
 -- Faces whose corners have the same points.
 use Rattle.std.proofs.Common.{ℕ, ◌≡◌, ◌⊎◌, inl, inr, refl, ap, sym, subst, ◌∙◌, Bool, true, false, List, [], ◌∷◌, length}
 use Rattle.geo_sign.specs.Point.{Point}
-use Rattle.mesh_ply.specs.Meshes.{point_at}
+use Rattle.mesh.specs.Meshes.{point_at}
 use Rattle.hull_tree.specs.Hulls.{HoldsPoint}
 use Rattle.hull_tree.specs.declared.hull.Hull.{Hull}
 use Rattle.triangle_gap.specs.Gaps.{AreFacesApart}

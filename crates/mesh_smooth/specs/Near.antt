@@ -1,11 +1,14 @@
 -- Points that moved.
 --
---   IsNear home place within        a place is at most `within` from home
+--   IsNear home place within            the place of a moved point is at most `within` from its home, its place in the
+--                                       original mesh
 --   AreNearHome home points within      each point is at most `within` from its home
---   IsSmoothed home old new faces within   the new points are, and faces that were apart still are
+--   IsSmoothed home old new faces within
+--                                       each new point is at most `within` from its home, and faces that were apart
+--                                       still are
 use Rattle.std.specs.Prelude.{ℕ, ◌≡◌, ◌<◌, ◌*◌, pos, ◌≤ℤ◌, List, length}
 use Rattle.geo_sign.specs.Point.{Point, step, square}
-use Rattle.mesh_ply.specs.Meshes.{point_at}
+use Rattle.mesh.specs.Meshes.{point_at}
 use Rattle.mesh_flips.specs.Flips.{KeepsApart}
 
 -- the square of the distance is at most that of `within`

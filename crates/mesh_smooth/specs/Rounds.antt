@@ -5,7 +5,7 @@
 --   IsStill old new f              the corners of a face have the same points in both lists
 --   IsTested points faces crosses i j   two faces are apart, or both are marked
 --   AreTested .. f                 face f and each other that it is to be tested against
---   AreAllTested ..                   each face that is asked, against each other
+--   AreAllTested ..                each face that is to be tested again (`AreAsked`), against each other face
 --   HasGoneBack before old new flags more    some points went back to where they were before, and are flagged
 --   AreAsked faces back asked      a face is asked unless none of its corners is flagged
 --   IsAskedAt back asked f face    the same of one face
@@ -13,7 +13,7 @@
 --   HasRest points faces tree asked     the tree has a box of each face that is not asked
 use Rattle.std.specs.Prelude.{ℕ, ◌≡◌, ◌≢◌, ◌<◌, ◌≤◌, ◌*◌, ◌⊎◌, Bool, true, false, List, [], ◌∷◌, length, slice_index_or}
 use Rattle.geo_sign.specs.Point.{Point}
-use Rattle.mesh_ply.specs.Meshes.{point_at}
+use Rattle.mesh.specs.Meshes.{point_at}
 use Rattle.mesh_edges.specs.Edges.{face_at}
 use Rattle.hull_tree.specs.declared.tree.HullTree.{HullTree}
 use Rattle.triangle_gap.specs.Gaps.{AreFacesApart}

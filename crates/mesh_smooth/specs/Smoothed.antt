@@ -1,12 +1,15 @@
 -- Smoothed meshes on a finer grid.
 --
 --   magnified k p                      a point, each coordinate times k
---   IsMagnified k old new              as many points, each times k
+--   IsMagnified k old new              the same number of points, each times k
 --   IsReshaped before after old new   faces were flipped and points moved; what was apart still is
---   IsSmoothedMesh points new_points old new fine within   the same on a finer grid, each point near its home
+--   IsSmoothedMesh points new_points old new fine within
+--                                      one unit of the mesh is `fine` units of the finer grid. Each new point is at
+--                                      most `fine * within` from `fine` times the old one. Edges were flipped. Faces
+--                                      that were apart still are
 use Rattle.std.specs.Prelude.{ℕ, ◌≡◌, ◌<◌, ◌*◌, pos, ◌*ℤ◌, List, length}
 use Rattle.geo_sign.specs.Point.{Point, point}
-use Rattle.mesh_ply.specs.Meshes.{point_at}
+use Rattle.mesh.specs.Meshes.{point_at}
 use Rattle.mesh_flips.specs.Flips.{AreFlips, KeepsApart, KeepsSingle}
 use Rattle.mesh_smooth.specs.Near.{IsNear}
 

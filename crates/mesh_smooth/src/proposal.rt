@@ -3,6 +3,7 @@
 use crate::NoMemory;
 use crate::directions::{filtered_directions, from_to, spot_at};
 use crate::place::spot_of;
+use crate::step::MoveHints;
 use geo_sign::Point;
 use mesh_flips::Way;
 use std::alloc::Global;
@@ -83,24 +84,57 @@ fn pull_all(spots: &mut [Way], pulls: &[Pull], home: &[Point], within: f64) {
     }
 }
 
-/// Returns a proposed place for each vertex.
-pub(crate) fn proposed(
+/// Returns the target of each vertex, or the place at this distance from home on the way to it if it is further. A vertex without a
+/// target stays.
+fn held_targets(
+    alloc: Global,
+    points: &[Point],
+    targets: &[Point],
+    home: &[Point],
+    within: f64,
+) -> Result<Vec<Way>, NoMemory> {
+    let mut spots = Vec::with_capacity(alloc, points.len())?;
+    for v in 0..points.len() {
+        let place = targets.get(v).copied().unwrap_or(points[v]);
+        let start = home.get(v).copied().unwrap_or(place);
+        spots.push(held(spot_of(start), spot_of(place), within))?;
+    }
+    Ok(spots)
+}
+
+/// Returns a place for each vertex at which neighboring faces agree better on their directions.
+fn smoother_places(
     alloc: Global,
     points: &[Point],
     faces: &[[u32; 3]],
     twins: &[u32],
     home: &[Point],
-    within: u64,
+    within: f64,
 ) -> Result<Vec<Way>, NoMemory> {
     let mut spots = Vec::with_capacity(alloc, points.len())?;
     for p in points {
         spots.push(spot_of(*p))?;
     }
     let normals = filtered_directions(alloc, &spots, faces, twins)?;
-    let reach = f64::from(within.min(u32::MAX as u64) as u32);
     for _ in 0..ROUNDS {
         let pulls = pulls_of(alloc, &spots, faces, &normals)?;
-        pull_all(&mut spots, &pulls, home, reach);
+        pull_all(&mut spots, &pulls, home, within);
     }
     Ok(spots)
+}
+
+/// Returns a proposed place for each vertex.
+pub(crate) fn proposed(
+    alloc: Global,
+    points: &[Point],
+    faces: &[[u32; 3]],
+    hints: &MoveHints<'_>,
+    home: &[Point],
+    within: u64,
+) -> Result<Vec<Way>, NoMemory> {
+    let reach = f64::from(within.min(u32::MAX as u64) as u32);
+    if hints.targets.is_empty() {
+        return smoother_places(alloc, points, faces, &hints.twins, home, reach);
+    }
+    held_targets(alloc, points, hints.targets, home, reach)
 }

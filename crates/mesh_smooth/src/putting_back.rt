@@ -2,7 +2,7 @@
 
 ghost use Rattle.std.specs.Prelude.{◌≡◌, ◌<◌, ◌||◌, ℕ, All, length, true, false};
 ghost use Rattle.std.specs.Bool.{OnTrue, OnFalse};
-ghost use Rattle.mesh_ply.specs.Meshes.{point_at};
+ghost use Rattle.mesh.specs.Meshes.{point_at};
 ghost use Rattle.mesh_edges.specs.Edges.{face_at};
 ghost use Rattle.mesh_flips.specs.Turns.{IsTriangle};
 ghost use Rattle.mesh_smooth.specs.Rounds.{flag, KeepsFlags, IsStill, HasGoneBack, IsUnflagged, AreAsked};

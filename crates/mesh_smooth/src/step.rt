@@ -1,7 +1,7 @@
 //! One step of smoothing.
 
 ghost use Rattle.std.specs.Prelude.{◌≡◌, ◌<◌, ◌^◌, All, OnErr, length};
-ghost use Rattle.mesh_ply.specs.Meshes.{point_at};
+ghost use Rattle.mesh.specs.Meshes.{point_at};
 ghost use Rattle.mesh_flips.specs.Turns.{IsTriangle};
 ghost use Rattle.mesh_flips.specs.Flips.{KeepsApart};
 ghost use Rattle.mesh_smooth.specs.Near.{IsNear, AreNearHome, IsSmoothed};
@@ -74,16 +74,25 @@ fn settle(
     }
 }
 
-/// Moves the points of a mesh so that neighboring faces agree on their directions.
+/// What proposes the places of points. No clause depends on it.
+#[derive(Drop)]
+pub struct MoveHints<'a> {
+    /// The opposite of each half edge `h`, which is side `h % 3` of face `h / 3`.
+    pub twins: Vec<u32>,
+    /// Where the points are to go. If it is empty, they go where neighboring faces agree on their directions.
+    pub targets: &'a [Point],
+}
+
+/// Moves the points of a mesh to their targets, or else so that neighboring faces agree on their directions.
 ///
-/// `twins[h]` is the opposite of half edge `h`, which is side `h % 3` of face `h / 3`: a hint, on which no clause depends. Each point
+/// Each point
 /// stays at most `within` from its home, exactly, and faces that were apart stay apart. After `NoMemory` the points are as before the
 /// step, so the same holds.
 pub fn smooth(
     alloc: Global,
     points: &mut [Point],
     faces: &[[u32; 3]],
-    twins: &[u32],
+    hints: &MoveHints<'_>,
     home: &[Point],
     within: u64,
 ) -> Result<(), NoMemory>
@@ -94,7 +103,7 @@ pub fn smooth(
     ensures memory { OnErr result (points.new ≡ points.old) }
 {
     let before = Vec::from_slice(alloc, points)?;
-    let spots = proposed(alloc, points, faces, twins, home, within)?;
+    let spots = proposed(alloc, points, faces, hints, home, within)?;
     move_all(points, home, &spots, within);
     settle(alloc, points, &before, faces, home, within)?;
     Ok(())

@@ -9,15 +9,15 @@ ghost use Rattle.mesh_smooth.specs.Smoothed.{IsReshaped, IsSmoothedMesh};
 
 use crate::NoMemory;
 use crate::fine_grid::{finest, greatest, keep_box, magnified_points};
-use crate::step::smooth;
+use crate::step::{MoveHints, smooth};
 use geo_sign::Point;
-use mesh_flips::flip_edges;
+use mesh_flips::{FlipOrder, flip_edges};
 use std::alloc::Global;
 
 /// How a mesh is smoothed.
 #[derive(Clone, Copy, Debug)]
 pub struct Smoothing {
-    /// How often it is smoothed.
+    /// How often points move.
     pub steps: u32,
     /// How far a point may be from where it was, in units of the mesh.
     pub within: u32,
@@ -34,16 +34,17 @@ pub struct Smoothed {
     pub fine: u32,
 }
 
-/// Smooths a mesh by one step and flips its edges if asked to. Returns the opposites of half edges, a hint.
-fn smooth_and_flip(
+/// Moves the points of a mesh by one step and flips its edges if asked to. Returns the hints, with the opposites of half edges after
+/// the flips.
+fn smooth_and_flip<'a>(
     alloc: Global,
     points: &mut [Point],
     faces: &mut [[u32; 3]],
-    twins: Vec<u32>,
+    hints: MoveHints<'a>,
     home: &[Point],
     within: u64,
     flips: bool,
-) -> Result<Vec<u32>, NoMemory>
+) -> Result<MoveHints<'a>, NoMemory>
     requires each { All (IsTriangle (length points.old)) faces.old }
     requires few { length faces.old < 2 ^ 60 }
     requires near { AreNearHome home.now points.old within }
@@ -52,12 +53,13 @@ fn smooth_and_flip(
     ensures shape { OnOk result (IsReshaped points.old points.new faces.old faces.new) }
     ensures still { flips ≡ false → faces.new ≡ faces.old }
 {
-    smooth(alloc, points, faces, &twins, home, within)?;
+    smooth(alloc, points, faces, &hints, home, within)?;
     if !flips {
-        return Ok(twins);
+        return Ok(hints);
     }
-    let twins = flip_edges(alloc, points, faces, twins)?;
-    Ok(twins)
+    let MoveHints { twins, targets } = hints;
+    let twins = flip_edges(alloc, points, faces, twins, FlipOrder::Angles)?;
+    Ok(MoveHints { twins, targets })
 }
 
 /// Smooths a mesh by all steps. `within` is in units of the points' grid.
@@ -65,7 +67,7 @@ fn all_steps(
     alloc: Global,
     points: &mut [Point],
     faces: &mut [[u32; 3]],
-    twins: Vec<u32>,
+    hints: MoveHints<'_>,
     home: &[Point],
     within: u64,
     smoothing: Smoothing,
@@ -78,10 +80,10 @@ fn all_steps(
     ensures shape { OnOk result (IsReshaped points.old points.new faces.old faces.new) }
     ensures still { smoothing.flips ≡ false → faces.new ≡ faces.old }
 {
-    let mut twins = twins;
+    let mut hints = hints;
     for _ in 0..smoothing.steps {
         let flips = smoothing.flips;
-        twins = smooth_and_flip(alloc, points, faces, twins, home, within, flips)?;
+        hints = smooth_and_flip(alloc, points, faces, hints, home, within, flips)?;
     }
     Ok(())
 }
@@ -97,13 +99,13 @@ fn fine_distance(fine: u32, within: u32) -> u64
 /// between faces.
 ///
 /// Each point stays at most `within` units of the mesh from where it was, exactly. Faces that were apart stay apart, no directed
-/// edge occurs twice that did not, and the faces are reached by flips alone; without flips they are as they were. `twins` is a hint, as
-/// for [`smooth`] and [`flip_edges`].
+/// edge occurs twice that did not, and the faces are reached by flips alone; without flips they are as they were. `hints` are those
+/// of [`smooth`], with targets in units of the finer grid.
 pub fn smooth_mesh(
     alloc: Global,
     points: &[Point],
     faces: &mut [[u32; 3]],
-    twins: Vec<u32>,
+    hints: MoveHints<'_>,
     smoothing: Smoothing,
 ) -> Result<Smoothed, NoMemory>
     requires each { All (IsTriangle (length points.now)) faces.old }
@@ -118,7 +120,7 @@ pub fn smooth_mesh(
     let home = magnified_points(alloc, points, fine, reach)?;
     let mut moved = Vec::from_slice(alloc, &home)?;
     let within = fine_distance(fine, smoothing.within);
-    all_steps(alloc, &mut moved, faces, twins, &home, within, smoothing)?;
+    all_steps(alloc, &mut moved, faces, hints, &home, within, smoothing)?;
     keep_box(&moved);
     Ok(Smoothed {
         points: moved,

@@ -1,1 +1,3 @@
-pub mod Keys
+pub mod Edges
+pub mod Numbers
+pub mod Copied

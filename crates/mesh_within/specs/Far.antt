@@ -1,12 +1,14 @@
 -- Points near the points of a coarser grid, the homes. One unit of the homes is `fine` units of the points.
 --
---   IsNearHome fine within home p        a point is at most `within` units of the homes from one
---   IsNearSome fine within homes p       it is as near as that to one of them
---   AreAllNear fine within homes points  each point is
---   IsFirstFar fine within homes points i   point i is the first that is not
+--   IsNearHome fine within home p        `home` is a point of the original mesh. One unit of that mesh is `fine` units
+--                                        of the finer grid. In units of the finer grid, p is at most `fine * within`
+--                                        from `fine` times `home`
+--   IsNearSome fine within homes p       the point is as near as that to one of the homes
+--   AreAllNear fine within homes points  each point is as near as that to one of the homes
+--   IsFirstFar fine within homes points i   point i is the first that is not as near as that to one of the homes
 use Rattle.std.specs.Prelude.{ℕ, ◌<◌, ◌*◌, pos, ◌*ℤ◌, ◌≤ℤ◌, List, length}
 use Rattle.geo_sign.specs.Point.{Point, point, step, square}
-use Rattle.mesh_ply.specs.Meshes.{point_at}
+use Rattle.mesh.specs.Meshes.{point_at}
 
 -- the square of the distance to the home times `fine` is at most that of `within` times `fine`
 abbrev pub IsNearHome : (fine within : ℕ) → (home p : Point) → Type 0

@@ -1,7 +1,7 @@
 //! The first point that is far from each home.
 
 ghost use Rattle.std.specs.Prelude.{ℕ, ◌<◌, ◌≤◌, length, MatchOption};
-ghost use Rattle.mesh_ply.specs.Meshes.{point_at};
+ghost use Rattle.mesh.specs.Meshes.{point_at};
 ghost use Rattle.mesh_within.specs.Far.{IsNearHome, IsNearSome, AreAllNear, IsFirstFar};
 
 use crate::near::is_near;

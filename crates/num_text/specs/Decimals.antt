@@ -9,7 +9,9 @@
 --   numerator, denominator   the absolute value as a fraction N / M
 --   nearest         N / M in units, to the nearest whole number, halves upwards
 --   in_range        a number with its sign, if it is within the limit
---   scaled_of       the number of units in a token, or its first error
+--   scaled_of token unit
+--                   the number of scaled units that a decimal is, or why it is none. For the fraction N/M and `unit` U
+--                   it is the decimal's sign times floor((2 N U + M) / (2 M))
 use Rattle.std.specs.Prelude.{ℕ, ◌+◌, ◌*◌, ◌/◌, ◌^◌, ℤ, List, ◌++◌, Bool, not, ◌==◌, ◌||◌, ◌&&◌, nat_lt, length}
 use Rattle.std.specs.Prelude.{Result, Ok, Err, if◌then◌else◌}
 use Rattle.std.specs.List.{before_first, after_first, position_or_len}

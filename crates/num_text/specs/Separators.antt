@@ -3,10 +3,10 @@
 --   space, line_feed   the bytes that end a number within a line, and a line
 use Rattle.std.specs.Prelude.{ℕ}
 
--- ends a number within a line
+-- The byte 32, which ends a number within a line.
 abbrev pub space : ℕ
 space = 32
 
--- ends a line
+-- The byte 10, which ends each line.
 abbrev pub line_feed : ℕ
 line_feed = 10

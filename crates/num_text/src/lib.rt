@@ -1,5 +1,7 @@
 //! Reads whole numbers and decimals from tokens, and prints decimal text.
 //!
+//! Verified: `push_whole`, `push_natural`, `whole`, `scaled` print and read numbers exactly, with each error where it is defined.
+//!
 //! A token is a run of bytes of a text, such as a field of a PLY body. Both readers check all bytes of the token, in linear
 //! time, and allocate no memory. A decimal is read in *units*: the number times a whole scale, rounded to the nearest whole
 //! number, halves away from zero. So `0.25` at scale 1000 (thousandths) is 250.

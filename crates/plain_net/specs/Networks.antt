@@ -1,11 +1,12 @@
 -- The network of a scene by numbers: node k is the k-th cell, arc j is the j-th facet.
 --
---   complex_of voted         the cells of the nodes and the facets of the arcs
+--   complex_of voted         the cells of a network's nodes and the facets of its arcs
 --   facet_index facets f     the index of a facet in the list
 --   pair_of s complex f      the number of the reverse arc
 --   arc_of s complex f       the arc of a facet
---   IsNetworkOf s voted      the network of the scene, its cells and facets in ascending order
---   IsNetworkAmong v voted   the network of some scene of these vertices
+--   IsNetworkOf s voted      the listed network: node k is the k-th cell and arc j the j-th facet of the ascending
+--                            lists
+--   IsNetworkAmong v         the listed network of some scene over these vertices
 use Rattle.std.specs.Prelude.{ℕ, ◌≡◌, Option, Some, None, List, map, if◌then◌else◌}
 use Rattle.std.specs.List.{position_or_len}
 use Rattle.flow_net.specs.declared.Arc.{Arc}

@@ -5,7 +5,7 @@
 --   Adds           the effect of a statement on the header so far
 --   Leads          the effect of the statements of some lines, one after another
 --   IsLine         bytes that may be a header's line
---   HasHeader      a text begins with a header, and the body follows
+--   HasHeader bytes head body   the file is the lines of a header by the grammar, and then the body
 use Rattle.std.specs.Prelude.{ℕ, ◌+◌, ◌≡◌, ◌≤◌, ◌⊎◌, false, List, [], ◌∷◌, ◌++◌, length, All, codes, Option, Some, None}
 use Rattle.ply_head.specs.declared.header.Header.{Header}
 use Rattle.ply_head.specs.declared.header.Element.{Element}

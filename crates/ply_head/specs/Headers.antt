@@ -6,7 +6,9 @@
 --   with_property   the elements, with one more property in the last
 --   Step, step_of   the effect of a line on the header so far
 --   header_from     the header from line n on, and the body
---   header_of       the header and the body of a text
+--   header_of bytes
+--                   which lines a header may have and in which order; the header of a file, or the first error, line by
+--                   line
 --
 -- These definitions give the errors in their order. specs/Grammar says in the format's own terms which texts have a header, and
 -- a theorem of the crate states that both agree.

@@ -2,8 +2,9 @@
 --
 --   IsName              a valid name of an element or a property
 --   HasWholeCount       a list's count has an integer type
---   IsReadableProperty, IsReadableElement, IsReadable   the properties of each property, element and header that is read
---   KeepsLimits         the printed header keeps the limits on lines
+--   IsReadableProperty, IsReadableElement   the properties of each property, element and header that is read
+--   IsReadable          a header that a text may have: at most 1,000 elements, no two names equal
+--   KeepsLimits         the printed lines of a header are at most 1,000, of at most 1,000 bytes each
 use Rattle.std.specs.Prelude.{ℕ, ◌≡◌, ◌≢◌, ◌≤◌, ◌<◌, true, List, length, All, AllPairs, Some}
 use Rattle.std.specs.List.{list_all}
 use Rattle.ply_head.specs.declared.header.Shape.{Shape}

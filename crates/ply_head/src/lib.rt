@@ -1,5 +1,7 @@
 //! Reads the header of a PLY file, and prints it in one canonical spelling.
 //!
+//! Verified: `read_head` accepts exactly the grammar of PLY headers; what `push_head` prints is read back.
+//!
 //! The format is Greg Turk's PLY. A header is a sequence of lines, each ended by LF or CR LF. The first is `ply`, the next that
 //! is not skipped is `format KIND 1.0`, and the last is `end_header`. Between them are the elements, each an `element NAME
 //! COUNT` line with the `property` lines of its rows after it. Lines that begin with `comment` or `obj_info`, and blank lines,

@@ -6,7 +6,7 @@
 --   rows_of_element   a number of rows of an element, and what follows them
 --   ending            what has to follow the last row
 --   rows_from         the rows of elements, some already read
---   rows_of           the rows of a body
+--   rows_of head body   the rows of a body, and how they end
 --   Ends              the result of a call says how the rows end
 use Rattle.std.specs.Prelude.{ℕ, zero, suc, ◌+◌, ◌-◌, ◌≡◌, List, [], ◌∷◌, Result, Ok, Err, Option, Some, None}
 use Rattle.ply_head.specs.declared.header.Header.{Header}

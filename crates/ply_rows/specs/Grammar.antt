@@ -9,7 +9,9 @@
 --   BeginsRow      it begins with the properties of a row
 --   announced      the rows that elements announce, with their properties
 --   Follows        the rest of a body is these rows, and nothing follows
---   HasRows        a body is these rows of the header
+--   HasRows head body rows
+--                  the body is exactly these rows, one for each that the header states. A row is divided into one piece
+--                  for each property
 use Rattle.std.specs.Prelude.{ℕ, zero, suc, ◌+◌, ◌-◌, ◌*◌, ◌≡◌, ◌≤◌, pos, List, [], ◌∷◌, ◌++◌, length, take, Ok}
 use Rattle.num_text.specs.WholeNumbers.{whole_of}
 use Rattle.ply_head.specs.declared.header.Header.{Header}
@@ -81,7 +83,7 @@ BeginsRow (property ∷ properties) [] before left = ⊥
 BeginsRow (property ∷ properties) (field ∷ fields) before left =
     (behind : Rest) × (Begins property.shape field before behind × BeginsRow properties fields behind left)
 
--- this number of rows of an element, from one on: none if it has no properties
+-- as many rows of an element as the header states, from a given row on; no rows if the element has no properties
 abbrev pub announced_rows : List Property → ℕ → ℕ → ℕ → List (RowAt × List Property)
 announced_rows [] element row count = []
 announced_rows (property ∷ properties) element row zero = []

@@ -2,7 +2,9 @@
 --
 --   pieces       this number of pieces of a size, one after another
 --   items_from   the bytes of each of this number of items from an offset of a body on
---   items_in     the bytes of each item of a list's field
+--   items_in kind item body field
+--                the bytes of each item of a list's field. In a text these are the next tokens from the field's
+--                position on, as many as the field has; else as many values of the type
 --   HasItems     this number of items follows, from an offset of a body on
 --   IsValueOf    bytes of a value's size, in a binary body
 use Rattle.std.specs.Prelude.{ℕ, zero, suc, ◌+◌, ◌*◌, ◌≡◌, ◌≤◌, List, [], ◌∷◌, length, map, take, drop}

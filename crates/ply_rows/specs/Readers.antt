@@ -1,15 +1,16 @@
 -- The view of a reader of rows, and the invariants of its results.
 --
---   Reader         the header, the body, and the rows that are left
---   NextRow        the result of a call for the next row, and what it leaves
---   IsInside       a field is inside the body
+--   Reader         a header, a body, the rows that are left, and how they end
+--   NextRow        a call takes the next row. If there is none, or if memory runs out, it says so and leaves the reader
+--                  as it was
+--   IsInside       a field lies in the body
 --   IsSized        a field has the size of its value or its items
 --   HasSize        in a binary body, a field has the size of its value or its items
 --   HasTokens      a list's field has as many tokens as items from its offset on, in a text
 --   IsFieldOf      a field is one of a property
 --   AreFieldsOf    fields are those of properties, one for each
---   AreRowFields   fields are those of a row of the header
---   EndsInside     a trailing byte is one of the body
+--   AreRowFields   the fields of a row that the header has, one for each property
+--   EndsInside     a trailing byte lies in the body
 use Rattle.std.specs.Prelude.{ℕ, ◌≡◌, ◌≤◌, ◌<◌, ◌+◌, ◌*◌, List, [], length, slice_index_or, Result, Ok, Err, Option, Some, None}
 use Rattle.ply_head.specs.declared.header.Header.{Header}
 use Rattle.ply_head.specs.declared.header.Element.{Element}

@@ -1,5 +1,7 @@
 //! Reads the rows of a PLY body, one after another.
 //!
+//! Verified: `next_row` of `Rows` returns exactly the next row, text or binary, or the error at its position.
+//!
 //! The format is Greg Turk's PLY. After the header come the rows of its elements, in the header's order, and each row has its
 //! element's properties in order. An element without properties takes no bytes, and its rows are skipped.
 //!

@@ -1,8 +1,9 @@
 -- The operating system as a host: it exposes no bytes except those that its open files expose.
 --
---   real_state host           its counts and whether files are open
---   left_of remaining host    the bytes left of the file that is open for reading, if these files expose them
---   held_of contents host     the bytes of the file that is open for writing, if these files expose them
+--   real_state host           the view of the system's host: its counts and whether files are open, and no bytes
+--   left_of remaining host, held_of contents host
+--                             the bytes left of the file that is read, and those of the file that is written, if such
+--                             files state them
 use Rattle.std.specs.Prelude.{ℕ, List, Option, None}
 use Rattle.std.specs.Option.{is_some, option_and_then}
 use Rattle.host.specs.State.{State}

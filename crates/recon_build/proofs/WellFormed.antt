@@ -7,13 +7,13 @@ use Rattle.std.proofs.lemmas.List.Kept.{AllPairs-filter}
 use Rattle.std.specs.Option.{option_map}
 use Rattle.geo_sign.proofs.CellRows.{last_below}
 use Rattle.geo_sign.proofs.RowLaws.{by_rising}
-use Rattle.cert_text.specs.Stamps.{IsVersion}
-use Rattle.cert_text.specs.declared.stamp.Stamp.{Stamp}
-use Rattle.cert_text.specs.Certificates.{Claim, FitCounts, AreCellRows, IsFlowList, IsSinkList, IsWellFormed, stamp_view}
-use Rattle.cert_text.specs.Rows.{IsCellRow, IsFlowRow, IsSinkRow}
-use Rattle.line_text.specs.Facets.{IsFacetRow}
-use Rattle.cert_text.specs.declared.certificate.FlowRow.{FlowRow}
-use Rattle.cert_text.specs.declared.certificate.SinkRow.{SinkRow}
+use Rattle.certificate.specs.Stamps.{IsVersion}
+use Rattle.certificate.specs.declared.stamp.Stamp.{Stamp}
+use Rattle.certificate.specs.Certificates.{Claim, FitCounts, AreCellRows, IsFlowList, IsSinkList, IsWellFormed, stamp_view}
+use Rattle.certificate.specs.Rows.{IsCellRow, IsFlowRow, IsSinkRow}
+use Rattle.geo_sign.specs.Numbers.{IsFacetRow}
+use Rattle.certificate.specs.declared.certificate.FlowRow.{FlowRow}
+use Rattle.certificate.specs.declared.certificate.SinkRow.{SinkRow}
 use Rattle.geo_sign.specs.Vertices.{Vertices}
 use Rattle.geo_sign.specs.Cells.{IsRisingCell}
 use Rattle.geo_sign.specs.Rising.{IsBefore}
@@ -26,9 +26,9 @@ use Rattle.visibility.specs.Laws.{IsOrdered}
 use Rattle.visibility.proofs.Amounts.{capacity_fits, sink_fits}
 use Rattle.visibility.proofs.Ordered.{facets_are_ordered}
 use Rattle.flow_net.specs.declared.votes.Settings.{Settings}
-use Rattle.scan.specs.ScanRows.{point_limit}
-use Rattle.scan.specs.Views.{shown_of}
-use Rattle.scan.specs.declared.scan.Scan.{Scan}
+use Rattle.scan_rows.specs.ScanRows.{point_limit}
+use Rattle.scan_rows.specs.Views.{shown_of}
+use Rattle.scan_rows.specs.declared.scan.Scan.{Scan}
 use Rattle.solution.proofs.SightLists.{few_points}
 use Rattle.solution.specs.Solutions.{HasCounts, IsCertificate, flow_on, sink_at, flow_row, sink_row, flow_rows, sink_rows}
 use Rattle.flow_net.specs.Weights.{IsSightList}

@@ -2,7 +2,7 @@
 --
 --   CertifiesCut s slots cut claim     the claim is of this cut: of its complex and its labels
 use Rattle.std.specs.Prelude.{Option, List}
-use Rattle.cert_text.specs.Certificates.{Claim}
+use Rattle.certificate.specs.Certificates.{Claim}
 use Rattle.solution.specs.MinimumCuts.{IsCutOf}
 use Rattle.solution.specs.declared.cutting.MinimumCut.{MinimumCut}
 use Rattle.solution.specs.Solutions.{IsCertificate}

@@ -4,8 +4,8 @@
 --   HasFlowRows slots amounts rows       they are those of the flow given by amounts at the numbers of sides, in some order
 use Rattle.std.specs.Prelude.{ℕ, Bool, Option, List, slice_index}
 use Rattle.std.specs.List.Sorted.{IsPermutation}
-use Rattle.cert_text.specs.declared.certificate.FlowRow.{FlowRow}
-use Rattle.cert_text.specs.declared.certificate.SinkRow.{SinkRow}
+use Rattle.certificate.specs.declared.certificate.FlowRow.{FlowRow}
+use Rattle.certificate.specs.declared.certificate.SinkRow.{SinkRow}
 use Rattle.solution.specs.Solutions.{flow_rows}
 use Rattle.tetra_store.specs.declared.link.Cell.{Cell}
 use Rattle.cell_net.specs.ByNumber.{SaysOfSides, IsZeroElsewhere}

@@ -8,8 +8,8 @@
 use Rattle.std.specs.Prelude.{ℕ, ◌*◌, ◌+◌, ◌++◌, ◌==◌, Bool, not, Option, List, [], ◌∷◌, slice_index, if◌then◌else◌}
 use Rattle.std.specs.List.{flat_map}
 use Rattle.slab.specs.Slab.{entries_from}
-use Rattle.cert_text.specs.declared.certificate.FlowRow.{FlowRow}
-use Rattle.cert_text.specs.declared.certificate.SinkRow.{SinkRow}
+use Rattle.certificate.specs.declared.certificate.FlowRow.{FlowRow}
+use Rattle.certificate.specs.declared.certificate.SinkRow.{SinkRow}
 use Rattle.flow_net.specs.Nets.{flag_at}
 use Rattle.solution.specs.Solutions.{flow_row, sink_row}
 use Rattle.tetra_store.specs.declared.link.Cell.{Cell}

@@ -2,10 +2,10 @@
 
 ghost use Rattle.std.specs.Prelude.{◌≡◌, ◌≤◌, ◌*◌, ◌++◌, IfOk, length};
 ghost use Rattle.std.specs.Option.{option_map};
-ghost use Rattle.cert_text.specs.Certificates.{Claim, claim_of, stamp_view, IsWellFormed};
+ghost use Rattle.certificate.specs.Certificates.{Claim, claim_of, stamp_view, IsWellFormed};
 ghost use Rattle.geo_sign.specs.Vertices.{corners};
-ghost use Rattle.mesh_ply.specs.Meshes.{IsMesh, Surface};
-ghost use Rattle.scan.specs.Views.{shown_of};
+ghost use Rattle.mesh.specs.Meshes.{IsMesh, Surface};
+ghost use Rattle.scan_rows.specs.Views.{shown_of};
 ghost use Rattle.cell_net.specs.Counts.{AreCellsOf};
 ghost use Rattle.solution.specs.Laws.{IsSame};
 ghost use Rattle.solution.specs.Scans.{points_of, scene_of_scan};
@@ -17,16 +17,16 @@ ghost use Rattle.solution.specs.Stored.{IsStoreOf};
 
 use crate::NoMemory;
 use crate::rows::{flow_rows, inside_rows, sink_rows};
-use cert_text::{Certificate, Stamp};
-use flow_net::Settings;
+use certificate::{Certificate, Stamp};
+use flow_net::{FlowHints, Settings};
 use geo_sign::CORNERS;
-use host::{Silent, Watch};
-use mesh_ply::Mesh;
-use scan::Scan;
+use mesh::Mesh;
+use scan_rows::Scan;
 use solution::{MinimumCut, counted_cells, minimum_cut_of};
 use std::alloc::Global;
 use surface::facets_by_number;
 use tetra_store::Tetra;
+use watch::Silent;
 
 /// A surface, and the certificate of its optimality.
 #[derive(Drop)]
@@ -99,6 +99,9 @@ fn solve_over(
 /// whose inside is smallest. The certificate has these labels and a flow whose value is that cost, so that no labels can cost
 /// less. Equal points of several rows are one vertex, with the sights of all of them. The surface is closed: each directed edge
 /// of its faces occurs as often as its reverse. The only error is out of memory.
+///
+/// It takes no hints at the maximum flow, and so longer than [`solve_scan_watched`] with a callback that gives some, as `Hinting` of
+/// `flow_hint` does.
 pub fn solve_scan(
     alloc: Global,
     scan: &Scan,
@@ -115,9 +118,9 @@ pub fn solve_scan(
     solve_scan_watched(alloc, scan, settings, stamp, &mut Silent)
 }
 
-/// Returns the same, and reports the stages of the work to a progress callback, which does not affect the result: any other
-/// solution has the same mesh, and its certificate differs only in the flow, and in the fingerprint if another was passed.
-pub fn solve_scan_watched<W: Watch>(
+/// Returns the same with the hints of a progress callback, to which it reports the stages of the work. It does not affect the result: any
+/// other solution has the same mesh, and its certificate differs only in the flow, and in the fingerprint if another was passed.
+pub fn solve_scan_watched<W: FlowHints>(
     alloc: Global,
     scan: &Scan,
     settings: Settings,

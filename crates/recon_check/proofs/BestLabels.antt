@@ -6,11 +6,11 @@
 -- of labels that cost least, which the number of sights bounds (cost_fits).
 use Rattle.std.proofs.Common.{ℕ, ◌≡◌, ◌<◌, ◌^◌, sym, subst, ◌∙◌, arith, Bool, List}
 use Rattle.cell_net.specs.declared.network.CellNetwork.{CellNetwork}
-use Rattle.cert_text.specs.Certificates.{Claim, IsWellFormed}
+use Rattle.certificate.specs.Certificates.{Claim, IsWellFormed}
 use Rattle.flow_net.specs.Nets.{flag_at}
 use Rattle.flow_net.specs.declared.Labels.{Labels}
 use Rattle.flow_net.specs.declared.votes.Settings.{Settings}
-use Rattle.scan.specs.Shown.{Shown, IsShown}
+use Rattle.scan_rows.specs.Shown.{Shown, IsShown}
 use Rattle.solution.specs.Scans.{scene_of_scan}
 use Rattle.solution.proofs.LeastCosts.{least_cost_law}
 use Rattle.surface.specs.Labelled.{AreLabelsOver}

@@ -13,9 +13,9 @@ use Rattle.std.proofs.lemmas.Bool.{cases_Bool, cases_eq, cond-true, false_from_n
 use Rattle.std.proofs.lemmas.List.Sorted.{IsPermutation-sym, Contains-permutation, sum_by-IsPermutation}
 use Rattle.std.specs.List.Sorted.{IsPermutation}
 use Rattle.cell_net.specs.declared.network.CellNetwork.{CellNetwork}
-use Rattle.cert_text.specs.Certificates.{Claim}
-use Rattle.cert_text.specs.declared.certificate.FlowRow.{FlowRow}
-use Rattle.cert_text.specs.declared.certificate.SinkRow.{SinkRow}
+use Rattle.certificate.specs.Certificates.{Claim}
+use Rattle.certificate.specs.declared.certificate.FlowRow.{FlowRow}
+use Rattle.certificate.specs.declared.certificate.SinkRow.{SinkRow}
 use Rattle.flow_net.specs.Firsts.{NoneBelow}
 use Rattle.flow_net.specs.Faults.{IsFixedInside, IsOverCapacity, sink_limit, IsOverSink, total_out, IsUnbalanced, IsNotLeast}
 use Rattle.flow_net.specs.Faults.{AreWithinLimits}

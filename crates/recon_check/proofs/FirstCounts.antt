@@ -7,10 +7,10 @@ use Rattle.std.proofs.Common.{List, [], ◌∷◌, ◌++◌, All}
 use Rattle.std.specs.Option.{option_or}
 use Rattle.std.proofs.lemmas.Bool.{cond_both, eqb-true, eqb-false}
 use Rattle.std.proofs.lemmas.List.Elements.{All-push}
-use Rattle.cert_text.specs.Certificates.{Claim}
+use Rattle.certificate.specs.Certificates.{Claim}
 use Rattle.flow_net.specs.declared.votes.Settings.{Settings}
 use Rattle.solution.specs.Solutions.{HasCounts}
-use Rattle.scan.specs.Shown.{Shown}
+use Rattle.scan_rows.specs.Shown.{Shown}
 use Rattle.recon_check.specs.Answers.{stated_count, count_here, earlier, IsFault}
 use Rattle.recon_check.specs.declared.answer.Reason.{Reason}
 use Rattle.recon_check.specs.declared.answer.Reason.TheVariants.{OtherCounts}

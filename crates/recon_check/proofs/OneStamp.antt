@@ -5,8 +5,8 @@
 -- part (not_other).
 use Rattle.std.proofs.Common.{◌≡◌, ap, sym, subst, ◌∙◌, arith}
 use Rattle.std.proofs.lemmas.Option.{same_Some}
-use Rattle.cert_text.specs.Stamps.{StampView}
-use Rattle.cert_text.specs.Certificates.{Claim}
+use Rattle.certificate.specs.Stamps.{StampView}
+use Rattle.certificate.specs.Certificates.{Claim}
 use Rattle.recon_check.specs.Stamps.{IsStampedFor, IsOtherPart, IsOtherStamp}
 use Rattle.recon_check.specs.declared.answer.Reason.{Reason}
 use Rattle.recon_check.specs.declared.answer.Reason.TheVariants.{OtherScan, OtherUnit, OtherFixed}

@@ -7,19 +7,19 @@
 use Rattle.std.proofs.Common.{ℕ, ◌≡◌, ◌≤◌, ◌++◌, refl, ap, sym, subst, ◌∙◌, Bool, List, map, All}
 use Rattle.std.proofs.Common.{Contains}
 use Rattle.std.proofs.lemmas.List.Elements.{All-weaker}
-use Rattle.cert_text.specs.Certificates.{Claim, IsWellFormed}
-use Rattle.cert_text.specs.Rows.{IsFlowRow, IsSinkRow}
-use Rattle.cert_text.specs.declared.certificate.FlowRow.{FlowRow}
-use Rattle.cert_text.specs.declared.certificate.SinkRow.{SinkRow}
+use Rattle.certificate.specs.Certificates.{Claim, IsWellFormed}
+use Rattle.certificate.specs.Rows.{IsFlowRow, IsSinkRow}
+use Rattle.certificate.specs.declared.certificate.FlowRow.{FlowRow}
+use Rattle.certificate.specs.declared.certificate.SinkRow.{SinkRow}
 use Rattle.flow_net.proofs.Correspondences.{itself, cost_is, least_inside}
 use Rattle.flow_net.specs.declared.votes.Settings.{Settings}
 use Rattle.geo_sign.specs.Vertices.{corners}
-use Rattle.mesh_ply.specs.Meshes.{Surface, mesh_of}
+use Rattle.mesh.specs.Meshes.{Surface, mesh_of}
 use Rattle.solution.specs.Scans.{points_of, scene_of_scan}
 use Rattle.solution.specs.Solutions.{flow_on, sink_at, flow_row, sink_row, HasCounts, IsSolution}
 use Rattle.geo_sign.proofs.Booleans.{same_bools}
 use Rattle.solution.proofs.Uniqueness.{cut_same}
-use Rattle.scan.specs.Shown.{Shown}
+use Rattle.scan_rows.specs.Shown.{Shown}
 use Rattle.visibility.specs.Scenes.{Scene}
 use Rattle.visibility.specs.Complexes.{Complex}
 use Rattle.visibility.specs.Votes.{IsComplexOf}

@@ -12,9 +12,9 @@ use Rattle.std.proofs.lemmas.Bool.{false≢true, not-true}
 use Rattle.std.proofs.lemmas.List.{get_or_default}
 use Rattle.std.proofs.lemmas.List.Sorted.{IsPermutation-refl, Contains-permutation}
 use Rattle.cell_net.specs.Arcs.{across, is_free}
-use Rattle.cert_text.specs.Certificates.{Claim, IsWellFormed}
-use Rattle.cert_text.specs.declared.certificate.FlowRow.{FlowRow}
-use Rattle.cert_text.specs.declared.certificate.SinkRow.{SinkRow}
+use Rattle.certificate.specs.Certificates.{Claim, IsWellFormed}
+use Rattle.certificate.specs.declared.certificate.FlowRow.{FlowRow}
+use Rattle.certificate.specs.declared.certificate.SinkRow.{SinkRow}
 use Rattle.flow_net.specs.Firsts.{IsFirst}
 use Rattle.flow_net.specs.Nets.{flag_at}
 use Rattle.geo_sign.specs.Rising.{IsBefore}

@@ -16,8 +16,8 @@ use Rattle.std.proofs.lemmas.Bool.{cases_lt, false≢true}
 use Rattle.std.proofs.lemmas.List.Elements.{All-contains}
 use Rattle.flow_net.specs.Faults.{IsFixedInside, IsOverCapacity, sink_limit, IsOverSink, total_out, IsUnbalanced, IsNotLeast}
 use Rattle.flow_net.specs.Networks.{Network, amount_in as entering_of}
-use Rattle.cert_text.specs.Stamps.{StampView}
-use Rattle.cert_text.specs.Certificates.{Claim, IsWellFormed}
+use Rattle.certificate.specs.Stamps.{StampView}
+use Rattle.certificate.specs.Certificates.{Claim, IsWellFormed}
 use Rattle.cert_text.specs.Refusals.{IsRefusedCertificate}
 use Rattle.cert_text.specs.Texts.{cert_text}
 use Rattle.cert_text.specs.declared.refusal.CertRefusal.{CertRefusal}
@@ -26,11 +26,11 @@ use Rattle.cert_text.proofs.CertCodes.{cert_code}
 use Rattle.cert_text.proofs.OneRefusal.{refused_once, printed_not_refused}
 use Rattle.flow_net.specs.Firsts.{IsFirst}
 use Rattle.flow_net.specs.declared.votes.Settings.{Settings}
-use Rattle.mesh_ply.specs.Meshes.{Surface}
+use Rattle.mesh.specs.Meshes.{Surface}
 use Rattle.solution.specs.Scans.{scene_of_scan}
 use Rattle.solution.specs.Solutions.{flow_on, sink_at, HasCounts}
 use Rattle.solution.proofs.Uniqueness.{solution_law}
-use Rattle.scan.specs.Shown.{Shown}
+use Rattle.scan_rows.specs.Shown.{Shown}
 use Rattle.visibility.specs.Scenes.{Scene}
 use Rattle.geo_sign.specs.Tetrahedron.{facet_at}
 use Rattle.geo_sign.proofs.Members.{here, there}

@@ -4,13 +4,13 @@
 -- what is answered by a reason has no solution's texts (not_accepted). A fault over the complex of the scan is a fault (reason_fault), and
 -- a fault of what the text states is the answer, since no fault is one of the three by which a text is refused (fault_answer).
 use Rattle.std.proofs.Common.{ℕ, ◌≡◌, inl, inr, refl, List}
-use Rattle.cert_text.specs.Stamps.{StampView}
-use Rattle.cert_text.specs.Certificates.{Claim, IsWellFormed}
+use Rattle.certificate.specs.Stamps.{StampView}
+use Rattle.certificate.specs.Certificates.{Claim, IsWellFormed}
 use Rattle.cert_text.specs.Texts.{cert_text}
 use Rattle.flow_net.specs.declared.votes.Settings.{Settings}
 use Rattle.solution.specs.Scans.{scene_of_scan}
 use Rattle.solution.specs.Solutions.{HasCounts}
-use Rattle.scan.specs.Shown.{Shown}
+use Rattle.scan_rows.specs.Shown.{Shown}
 use Rattle.visibility.specs.Complexes.{Complex}
 use Rattle.visibility.specs.Votes.{IsComplexOf}
 use Rattle.recon_check.specs.Answers.{IsReason, IsFault, IsFaultHere, IsAccepted, IsAnswer, IsYesWhereSolved}

@@ -1,24 +1,48 @@
 -- Whether a mesh and a certificate are the best surface of a scan and the certificate that shows it: the first reason why
 -- they are not, or yes.
 --
---   best_surface scan complex inside              the surface of labels
---   surface_text surface                          its text
---   IsSolved scan settings mesh claim             a surface whose text the mesh is and the claim are a solution
---   stated_count, count_here which ..             a number that a certificate states, and the scan's
---   earlier which                                 the numbers that are compared before
---   IsOtherCount scan settings claim which a b    the first number that differs
---   IsReason scan s complex claim mesh reason     the first fault of what a certificate with the scan's numbers states
---   IsFaultOver, IsFault scan settings mesh ..    the first fault of what a certificate states
---   IsFaultHere scan settings stamp mesh ..       its fingerprint differs, or this is the first fault of what it states
---   HasCertificate cert P                         a certificate has the text, and something holds of what it states
---   IsAccepted scan settings stamp mesh cert      the two texts are those of a solution with no fingerprint or this one
---   IsSolvedWith scan settings mesh a b c claim   and these are its inside cells, faces and cost
---   IsAnswer scan settings stamp mesh cert ..     the answer
+--   best_surface scan complex inside              the mesh of the facets of a complex between outside and inside cells,
+--                                                 among the corners of the box and the distinct points of the scan
+--   surface_text surface                          the mesh text of a surface
+--   IsSolved scan settings mesh claim             a surface with this text and the claim solve the scan (`IsSolution`)
+--   stated_count which claim, count_here which scan settings
+--                                                 one of five numbers: as a certificate states it; as it is here. They
+--                                                 are the numbers of distinct points, scanners and sights of the scan,
+--                                                 the visibility weight and the area weight
+--   earlier which                                 of the five numbers that are compared, those before this one. The
+--                                                 order is points, scanners, sights, visibility weight, area weight
+--   IsOtherCount scan settings claim which a b    the first of the five numbers (`earlier`) in which a certificate
+--                                                 differs from the scan: the certificate states a, and the scan has b
+--   IsReason scan s complex claim mesh reason     the reason is the first fault of a certificate with the scan's
+--                                                 numbers, or of the mesh: in the order of the kinds of faults, then of
+--                                                 the rows, cells or facets
+--   IsFaultOver scan settings mesh claim reason   the certificate has the scan's numbers, and the reason is its first
+--                                                 fault over the cells and facets of the scan (`IsReason`)
+--   IsFault scan settings mesh claim reason       the reason is the first fault of a certificate apart from its
+--                                                 fingerprint: another number than the scan's (`IsOtherCount`), or else
+--                                                 a fault over cells and facets (`IsFaultOver`)
+--   IsFaultHere scan settings stamp mesh claim reason
+--                                                 the reason is the first part of the certificate's fingerprint that
+--                                                 differs from this one, or, if none does, the first other fault
+--                                                 (`IsFault`)
+--   HasCertificate cert P                         the text is that of a well-formed certificate, and P holds of what it
+--                                                 states
+--   IsAccepted scan settings stamp mesh cert      these are the texts of a surface and of a well-formed claim that
+--                                                 solve the scan (`IsSolution`), and the claim has no fingerprint or
+--                                                 this one
+--   IsSolvedWith scan settings mesh a b c claim   a surface with this mesh text and the claim solve the scan
+--                                                 (`IsSolved`), with a inside cells, b faces and the cost c
+--   IsAnswer scan settings stamp mesh cert answer
+--                                                 Yes with the numbers of such a solution, or the first reason in the
+--                                                 stated order
 --   IsYes answer                                  the answer is Yes
---   IsYesWhereSolved scan settings stamp mesh ..  it is Yes with the numbers of any solution that has these two texts
+--   IsYesWhereSolved scan settings stamp mesh cert answer
+--                                                 assume that a surface and a claim solve the scan, that these are
+--                                                 their texts, and that the claim has no fingerprint or this one; then
+--                                                 the answer is Yes with their numbers
 use Rattle.std.specs.Prelude.{ℕ, ◌≡◌, ◌≢◌, ◌⊎◌, ◌++◌, Bool, List, [], ◌∷◌, All, Contains, length, ⊤}
-use Rattle.cert_text.specs.Stamps.{StampView}
-use Rattle.cert_text.specs.Certificates.{Claim, IsWellFormed}
+use Rattle.certificate.specs.Stamps.{StampView}
+use Rattle.certificate.specs.Certificates.{Claim, IsWellFormed}
 use Rattle.cert_text.specs.Refusals.{IsRefusedCertificate}
 use Rattle.cert_text.specs.Texts.{cert_text}
 use Rattle.cert_text.specs.declared.refusal.CertRefusal.TheVariants as refusals
@@ -27,11 +51,11 @@ use Rattle.flow_net.specs.Faults.{IsFixedInside, IsOverCapacity, sink_limit, IsO
 use Rattle.flow_net.specs.Networks.{amount_in as entering}
 use Rattle.flow_net.specs.declared.votes.Settings.{Settings}
 use Rattle.geo_sign.specs.Vertices.{corners, boxed_vertices}
-use Rattle.mesh_ply.specs.Meshes.{Surface, mesh_of}
+use Rattle.mesh.specs.Meshes.{Surface, mesh_of}
 use Rattle.mesh_ply.specs.Texts.{mesh_text}
 use Rattle.solution.specs.Scans.{points_of, scene_of_scan}
 use Rattle.solution.specs.Solutions.{flow_on, sink_at, HasCounts, IsSolution}
-use Rattle.scan.specs.Shown.{Shown}
+use Rattle.scan_rows.specs.Shown.{Shown}
 use Rattle.visibility.specs.Scenes.{Scene}
 use Rattle.geo_sign.specs.Tetrahedron.{facet_at}
 use Rattle.visibility.specs.Complexes.{Complex}
@@ -51,12 +75,12 @@ use Rattle.recon_check.specs.declared.answer.Reason.TheVariants.{Unbalanced, Not
 use Rattle.recon_check.specs.declared.answer.Which.{Which}
 use Rattle.recon_check.specs.declared.answer.Which.TheVariants.{Points, Scanners, Sights, Vote, Smooth}
 
--- the mesh of the facets of outside cells with an inside adjacent cell
+-- The mesh of the facets between the outside and the inside cells of any labelling. `IsBestMesh` states the labelling.
 abbrev pub best_surface : Shown → Complex → (List ℕ → Bool) → Surface
 best_surface scan complex inside =
     mesh_of (corners ++ points_of scan) (cut_facets (boxed_vertices (points_of scan)) complex inside)
 
--- the text of a mesh
+-- The text of a mesh.
 abbrev pub surface_text : Surface → List ℕ
 surface_text surface = mesh_text surface.points surface.faces
 

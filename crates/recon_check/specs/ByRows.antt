@@ -5,10 +5,13 @@
 --   IsOverAt net sides amounts k        the flow on the arc at index k exceeds its capacity
 --   IsOverSinkAt net nodes amounts k    the flow at the sink of the node at index k exceeds its limit
 --   IsOutsideAt flags nodes k           the node at index k has no flag
---   numbers net                         linked cells and counts as a network by numbers
+--   numbers net                         the network by numbers (`numbered_with`) of linked cells and their counts
 --   IsUnbalanced net flow v             the flow is not conserved at the free node v
---   IsUnbalanceAt net flow v found      so it is of this cell, with these amounts
---   IsLeastUnbalance net flow found     and of no cell with a lesser row
+--   IsUnbalanceAt net flow v found      v is the number of a live cell at which the flow is not conserved
+--                                       (`IsUnbalanced`). `found` has its sorted vertex tuple, and the amounts that
+--                                       enter and leave
+--   IsLeastUnbalance net flow found     `found` describes the live cell with the smallest sorted vertex tuple at which
+--                                       the flow is not conserved (`IsUnbalanceAt`)
 use Rattle.std.specs.Prelude.{ℕ, ◌≡◌, ◌<◌, ◌≤◌, Bool, true, false, List, slice_index}
 use Rattle.cell_net.specs.Shape.{numbered_with}
 use Rattle.cell_net.specs.declared.network.CellNetwork.{CellNetwork}

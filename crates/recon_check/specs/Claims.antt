@@ -11,9 +11,9 @@
 use Rattle.std.specs.Prelude.{ℕ, ◌≡◌, Bool, List, [], All, Contains, length, map, slice_index_or}
 use Rattle.std.specs.List.{list_any}
 use Rattle.std.specs.Str.{bytes_eq}
-use Rattle.cert_text.specs.Certificates.{Claim}
-use Rattle.cert_text.specs.declared.certificate.FlowRow.{FlowRow}
-use Rattle.cert_text.specs.declared.certificate.SinkRow.{SinkRow}
+use Rattle.certificate.specs.Certificates.{Claim}
+use Rattle.certificate.specs.declared.certificate.FlowRow.{FlowRow}
+use Rattle.certificate.specs.declared.certificate.SinkRow.{SinkRow}
 use Rattle.flow_net.specs.Firsts.{IsFirst}
 use Rattle.visibility.specs.Complexes.{Complex}
 

@@ -1,6 +1,7 @@
 -- Where two texts differ.
 --
---   IsFirstDifference xs ys place    the first position at which they differ; a shorter text has nothing there
+--   IsFirstDifference xs ys place    the first position at which two texts differ; a text that has ended differs from
+--                                    one that has not
 use Rattle.std.specs.Prelude.{ℕ, ◌≡◌, ◌≢◌, ◌<◌, List, slice_get}
 
 -- the first position at which two texts differ, where a text that has ended has nothing

@@ -6,7 +6,7 @@
 --   IsCertified s complex claim            admissible labels whose cost is the value of a valid flow
 --   IsBest s complex claim                 and they are the minimum cut with the smallest inside
 use Rattle.std.specs.Prelude.{◌≡◌}
-use Rattle.cert_text.specs.Certificates.{Claim}
+use Rattle.certificate.specs.Certificates.{Claim}
 use Rattle.flow_net.specs.Faults.{AreWithinArcs, AreWithinLimits}
 use Rattle.solution.specs.Solutions.{flow_on, sink_at}
 use Rattle.visibility.specs.Scenes.{Scene}

@@ -1,12 +1,13 @@
 -- What a check of two texts found.
 --
---   answer_found checked          the answer
+--   answer_found checked          the answer that the result of a check gives: Yes with its three numbers, or No with
+--                                 the reason
 --   IsTextOf cert text            the text is that of this well-formed certificate
 --   IsParsedFrom text checked     if the answer is Yes, the parsed certificate is that of the text
 use Rattle.std.specs.Prelude.{ℕ, ◌≡◌, List, ⊤}
-use Rattle.cert_text.specs.Certificates.{claim_of, IsWellFormed}
+use Rattle.certificate.specs.Certificates.{claim_of, IsWellFormed}
 use Rattle.cert_text.specs.Texts.{cert_text}
-use Rattle.cert_text.specs.declared.certificate.Certificate.{Certificate}
+use Rattle.certificate.specs.declared.certificate.Certificate.{Certificate}
 use Rattle.recon_check.specs.declared.answer.Answer.{Answer}
 use Rattle.recon_check.specs.declared.answer.Answer.TheVariants as answers
 use Rattle.recon_check.specs.declared.checking.Checked.{Checked}

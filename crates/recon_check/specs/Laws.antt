@@ -2,9 +2,9 @@
 --
 --   OneAnswer     no mesh and certificate have two answers
 use Rattle.std.specs.Prelude.{ℕ, ◌≡◌, List}
-use Rattle.cert_text.specs.Stamps.{StampView}
+use Rattle.certificate.specs.Stamps.{StampView}
 use Rattle.flow_net.specs.declared.votes.Settings.{Settings}
-use Rattle.scan.specs.Shown.{Shown}
+use Rattle.scan_rows.specs.Shown.{Shown}
 use Rattle.recon_check.specs.Answers.{IsAnswer}
 use Rattle.recon_check.specs.declared.answer.Answer.{Answer}
 

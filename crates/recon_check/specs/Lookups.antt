@@ -1,16 +1,24 @@
 -- Rows found by their keys, and what is noted of them.
 --
---   least_number key              the first number of a key, which is its least
---   AreStarts keys starts         for each number the index of the first key that begins with it or a greater one
---   IsNoted keys key n old new    the number is written at the indices of the key, and the others are as before
+--   least_number key              the first number of a key, which is its smallest one
+--   AreStarts keys starts         for each number n, the list has the index of the first key whose first number is at
+--                                 least n
+--   IsNoted keys key n old new    the number n was written at each index at which the list of keys has this key. All
+--                                 other entries are as before
 --   AreNumbersOf is_there key_at keys numbers
---                                 one number a key, of what has it
+--                                 for each key the list has the number of a cell or side that exists (`is_there`) and
+--                                 has this key (`key_at`)
 --   AreFound limit upto is_there key_at keys numbers
---                                 one number a key: of what has it, below the limit, where anything up to a number has it
---   side_facet slots j            the facet of the side with number j
---   is_open_side slots fixed j         its adjacent cell is free
---   AreCellsFound, AreSidesFound  the same of live cells, and of sides whose adjacent cell is free
---   AreNumbersApart numbers       no two are equal
+--                                 for each key the list has the number of a cell or side that has this key, or a number
+--                                 that is at least the limit. The latter only if no cell or side with a number below
+--                                 `upto` has this key
+--   side_facet slots j            the facet of the side with the number j, from its smallest vertex on
+--   is_open_side slots fixed j    whether the adjacent cell at the side with the number j exists and is free
+--   AreCellsFound slots limit upto keys numbers
+--                                 `AreFound` for the live cells, whose keys are their sorted vertex tuples
+--   AreSidesFound slots fixed limit upto keys numbers
+--                                 `AreFound` for the sides that have a free adjacent cell, whose keys are their facets
+--   AreNumbersApart numbers       no two numbers of the list are equal
 use Rattle.std.specs.Prelude.{ℕ, ◌≡◌, ◌≢◌, ◌<◌, ◌≤◌, ◌/◌, ◌%◌, Bool, true, Option, List, [], length, slice_index, slice_index_or}
 use Rattle.cell_net.specs.Arcs.{across, is_free}
 use Rattle.tetra_store.specs.Links.{links_of}

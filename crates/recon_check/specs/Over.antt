@@ -1,14 +1,24 @@
 -- Labels and amounts by the numbers of cells and sides that are what a certificate states about a scene.
 --
---   IsStatedOver s complex net claim stated    linked cells and counts of the scene, and what the certificate states about them
---   IsAdmissibleOver, IsValidOver              all rows name something there, and no cell fixed outside is inside; and the flow is valid
---   TellsOf slots fixed claim reason           the reason is the first fault, of whatever scene the cells and flags are
---   TellsOver net claim stated Before reason   the reason is the first fault, where what is before it holds
---   ShowsOver net claim stated Before After    one of two holds where the other does
+--   IsStatedOver s complex net claim stated    the linked cells and counts are those of the scene. The labels and
+--                                              amounts by number are those that a well-formed certificate states about
+--                                              its cells and facets
+--   IsAdmissibleOver s complex claim           each row is about a cell or a facet of the complex, and no cell fixed
+--                                              outside is inside by the certificate
+--   IsValidOver s complex claim                each row is about a cell or a facet of the complex, the labels of the
+--                                              certificate are admissible, and its flow is valid
+--   TellsOf slots fixed claim reason           over each complex of each scene with these cells and flags
+--                                              (`IsFlaggedFor`), the reason is the first fault of the certificate
+--                                              (`IsReason`), whatever the mesh is
+--   TellsOver net claim stated Before reason   for each scene and complex, if `IsStatedOver` and `Before` hold, the
+--                                              reason is the first fault of the certificate (`IsReason`), whatever the
+--                                              mesh is
+--   ShowsOver net claim stated Before After    for each scene and complex, if `IsStatedOver` and `Before` hold, `After`
+--                                              holds too
 use Rattle.std.specs.Prelude.{ℕ, ◌≡◌, Bool, List, Option}
 use Rattle.cell_net.specs.declared.network.CellNetwork.{CellNetwork}
-use Rattle.cert_text.specs.Certificates.{Claim, IsWellFormed}
-use Rattle.scan.specs.Shown.{Shown}
+use Rattle.certificate.specs.Certificates.{Claim, IsWellFormed}
+use Rattle.scan_rows.specs.Shown.{Shown}
 use Rattle.solution.specs.Solutions.{flow_on, sink_at}
 use Rattle.tetra_store.specs.declared.link.Cell.{Cell}
 use Rattle.visibility.specs.Scenes.{Scene}
@@ -32,7 +42,7 @@ pub record IsStatedOver (s : Scene) (complex : Complex) (net : CellNetwork) (cla
   pub formed : IsWellFormed claim
   pub stated_is : IsStatedBy net.tetra.now.slots net.counts.fixed.now claim stated
 
--- each row is about a cell or facet
+-- each row of the certificate is about a cell of the complex, or about a facet that has a capacity
 abbrev pub IsThereOver : Scene → Complex → Claim → Type 0
 IsThereOver s complex claim = AreThere complex claim
 

@@ -2,12 +2,13 @@
 -- scanner of the run.
 --
 --   IsStampedFor here claim          the certificate has no fingerprint, or this one
---   IsOtherPart here stated reason   the first part of a fingerprint that differs
+--   IsOtherPart here stated reason   the reason is the first part in which a stated fingerprint differs from this
+--                                    run's, with both values: the digest, the scale or the fixed scanner
 --   IsOtherStamp here claim reason   the certificate has a fingerprint, and this is the first part of it that differs
 use Rattle.std.specs.Prelude.{◌≡◌, ◌≢◌, Some}
 use Rattle.std.specs.Option.{ForSome}
-use Rattle.cert_text.specs.Stamps.{StampView}
-use Rattle.cert_text.specs.Certificates.{Claim}
+use Rattle.certificate.specs.Stamps.{StampView}
+use Rattle.certificate.specs.Certificates.{Claim}
 use Rattle.recon_check.specs.declared.answer.Reason.{Reason}
 use Rattle.recon_check.specs.declared.answer.Reason.TheVariants.{OtherScan, OtherUnit, OtherFixed}
 

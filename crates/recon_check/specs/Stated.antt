@@ -1,12 +1,16 @@
 -- What the rows of a certificate state about linked cells, by the numbers that these have in the store: that of a cell is its id, that
 -- of side k of it 4 * id + k.
 --
---   IsFlaggedFor s slots fixed             the store has all cells of the scene, and the flags are those of its cells fixed outside
+--   IsFlaggedFor s slots fixed             the live cells of the store are all cells of the scene, and the flags are
+--                                          those of the cells that are fixed outside
 --   IsSaid is_there key_at at says nothing
---                                          by number what is said by key, and nothing elsewhere
---   IsStatedBy slots fixed claim stated    labels and amounts are what the rows state, and each row is about a cell or a side
+--                                          at the number of each cell or side that exists, `at` has what `says` gives
+--                                          for its key. At all other numbers `at` has the value `nothing`
+--   IsStatedBy slots fixed claim stated    labels and amounts by number are those that the rows of a certificate state
+--                                          (`IsSaid`), and each row is about a live cell or a side with a free adjacent
+--                                          cell
 use Rattle.std.specs.Prelude.{ℕ, ◌≡◌, ◌*◌, Bool, true, false, Option, List, length, slice_index}
-use Rattle.cert_text.specs.Certificates.{Claim}
+use Rattle.certificate.specs.Certificates.{Claim}
 use Rattle.flow_net.specs.Nets.{flag_at}
 use Rattle.solution.specs.Solutions.{flow_on, sink_at}
 use Rattle.tetra_store.specs.Links.{links_of}

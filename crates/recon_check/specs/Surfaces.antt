@@ -1,19 +1,20 @@
 -- The labels that a certificate shows best, and their surface.
 --
 --   AreShownLabels scan settings slots claim labels
---                                             a certificate shows its labels best and states their cost, and they are these by the
---                                             numbers of cells
+--       over the complex of the scan, a certificate shows that its labels are best and what they cost. `labels` has the
+--       certificate's labels, each at the number of its cell
 --   IsBestSurface scan settings claim surface
---                                             so it does, it has the scan's numbers, and this is their surface
+--       over the complex of the scan, a certificate with the scan's numbers shows that its labels are best and what
+--       they cost. The surface is that of these labels
 use Rattle.std.specs.Prelude.{◌≡◌, List, Option}
-use Rattle.cert_text.specs.Certificates.{Claim}
+use Rattle.certificate.specs.Certificates.{Claim}
 use Rattle.flow_net.specs.Nets.{flag_at}
 use Rattle.flow_net.specs.declared.Labels.{Labels}
 use Rattle.flow_net.specs.declared.votes.Settings.{Settings}
-use Rattle.mesh_ply.specs.Meshes.{Surface}
+use Rattle.mesh.specs.Meshes.{Surface}
 use Rattle.solution.specs.Scans.{scene_of_scan}
 use Rattle.solution.specs.Solutions.{HasCounts}
-use Rattle.scan.specs.Shown.{Shown}
+use Rattle.scan_rows.specs.Shown.{Shown}
 use Rattle.tetra_store.specs.declared.link.Cell.{Cell}
 use Rattle.visibility.specs.Complexes.{Complex}
 use Rattle.visibility.specs.Cuts.{cost}

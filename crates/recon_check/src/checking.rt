@@ -1,14 +1,14 @@
 //! The check of a mesh and a certificate. It depends on all other files.
 
 ghost use Rattle.std.specs.Prelude.{◌≡◌, ◌<◌, ◌^◌, ◌↔◌, ℕ, List, IfOk, IfErr, length};
-ghost use Rattle.cert_text.specs.Certificates.{claim_of, stamp_view, IsWellFormed};
-ghost use Rattle.cert_text.specs.Stamps.{StampView};
+ghost use Rattle.certificate.specs.Certificates.{claim_of, stamp_view, IsWellFormed};
+ghost use Rattle.certificate.specs.Stamps.{StampView};
 ghost use Rattle.cert_text.specs.Texts.{cert_text};
-ghost use Rattle.mesh_ply.specs.Meshes.{IsMesh};
+ghost use Rattle.mesh.specs.Meshes.{IsMesh};
 ghost use Rattle.solution.specs.Scans.{scene_of_scan};
 ghost use Rattle.solution.specs.Solutions.{surface_of, HasCounts};
-ghost use Rattle.scan.specs.Shown.{Shown};
-ghost use Rattle.scan.specs.Views.{shown_of};
+ghost use Rattle.scan_rows.specs.Shown.{Shown};
+ghost use Rattle.scan_rows.specs.Views.{shown_of};
 ghost use Rattle.solution.specs.Stored.{IsStoreOf};
 ghost use Rattle.cell_net.specs.Counts.{AreCountsOf};
 ghost use Rattle.recon_check.specs.Answers.{IsFault, IsSolvedWith, IsAccepted, IsYes, IsYesWhereSolved, IsAnswer};
@@ -24,15 +24,17 @@ use crate::stop::Stop;
 use crate::texts::first_difference;
 use crate::{Answer, NoMemory, Reason};
 use cell_net::CellNetwork;
-use cert_text::{CertRefusal, Certificate, Stamp, read_cert};
+use cert_text::{CertRefusal, read_cert};
+use certificate::{Certificate, Stamp};
 use flow_net::{Labels, Settings, value};
-use host::{Silent, Watch};
-use mesh_ply::{Mesh, push_mesh};
-use scan::Scan;
+use mesh::Mesh;
+use mesh_ply::push_mesh;
+use scan_rows::Scan;
 use solution::{Votes, counted_cells_with, seen_in};
 use std::alloc::{AllocError, Global};
 use surface::facets_by_number;
 use tetra_store::Tetra;
+use watch::{Silent, Watch};
 
 /// The numbers of a surface that the certificate shows best and whose text is the mesh.
 #[derive(Drop)]

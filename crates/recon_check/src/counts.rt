@@ -1,17 +1,17 @@
 //! The numbers that a certificate states against those of a scan. It depends on `scan` and `cert_text`.
 
 ghost use Rattle.std.specs.Prelude.{◌≡◌, ℕ, List, IfSome, IfNone, None, Some, if◌then◌else◌, ◌==◌};
-ghost use Rattle.cert_text.specs.Certificates.{claim_of};
+ghost use Rattle.certificate.specs.Certificates.{claim_of};
 ghost use Rattle.solution.specs.Scans.{points_of};
 ghost use Rattle.solution.specs.Solutions.{HasCounts};
-ghost use Rattle.scan.specs.Views.{shown_of};
+ghost use Rattle.scan_rows.specs.Views.{shown_of};
 ghost use Rattle.recon_check.specs.Answers.{IsFault};
 
 use crate::{Reason, Which};
-use cert_text::Certificate;
+use certificate::Certificate;
 use flow_net::Settings;
 use geo_sign::Point;
-use scan::Scan;
+use scan_rows::Scan;
 
 /// Compares a stated number with the scan's, and returns both if they differ.
 fn other(which: Which, stated: u32, here: u32) -> Option<Reason>

@@ -1,7 +1,7 @@
 //! The first fault of what a certificate states about linked cells. It depends on the searches by numbers and on `max_flow`.
 
 ghost use Rattle.std.specs.Prelude.{◌≡◌, IfErr, IfSome, IfNone, OnOk};
-ghost use Rattle.cert_text.specs.Certificates.{claim_of};
+ghost use Rattle.certificate.specs.Certificates.{claim_of};
 ghost use Rattle.visibility.specs.Complexes.{Complex};
 ghost use Rattle.visibility.specs.Scenes.{Scene};
 ghost use Rattle.recon_check.specs.Faults.{IsWithinFacets, IsWithinLimits, IsCertified, IsBest};
@@ -15,7 +15,7 @@ use crate::limits::{first_fixed, first_outside, first_over, first_over_sink, lim
 use crate::stated::Stated;
 use crate::stop::Stop;
 use cell_net::CellNetwork;
-use cert_text::{Certificate, FlowRow, SinkRow};
+use certificate::{Certificate, FlowRow, SinkRow};
 use flow_net::{FlowNetwork, cost, value};
 use max_flow::least_inside;
 use std::alloc::Global;

@@ -1,5 +1,7 @@
 //! Checks whether a mesh and a certificate are the best surface of a scan and its certificate of optimality.
 //!
+//! Verified: `check_all` accepts exactly the texts of a solution (`IsAccepted`), else it returns the first reason (`IsAnswer`).
+//!
 //! Neither text is trusted. The check computes the scan's cells and visibility weights again and compares the labels and the flow of the
 //! certificate with them: a valid flow whose value is the cost of admissible labels shows that no labels cost less. A reader of the answer
 //! need not trust the program that made the two texts. The check tests rows by the numbers of cells and sides in the store, and builds no

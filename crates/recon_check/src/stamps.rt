@@ -2,11 +2,11 @@
 
 ghost use Rattle.std.specs.Prelude.{◌≡◌, ◌≢◌, IfSome, IfNone};
 ghost use Rattle.std.specs.Bool.{OnTrue, OnFalse};
-ghost use Rattle.cert_text.specs.Certificates.{claim_of, stamp_view};
+ghost use Rattle.certificate.specs.Certificates.{claim_of, stamp_view};
 ghost use Rattle.recon_check.specs.Stamps.{IsStampedFor, IsOtherPart, IsOtherStamp};
 
 use crate::Reason;
-use cert_text::{Certificate, Stamp};
+use certificate::{Certificate, Stamp};
 use geo_sign::Point;
 
 /// Compares two points.

@@ -6,7 +6,7 @@
 
 ghost use Rattle.std.specs.Prelude.{◌≡◌, ◌≢◌, ◌<◌, ◌≤◌, ◌+◌, ◌*◌, ◌/◌, ◌%◌, ◌^◌, ℕ, true, false, IfOk, IfErr, IfSome, IfNone, AllPairs, OnOk, length, map, slice_index};
 ghost use Rattle.cell_net.specs.Arcs.{across, is_free};
-ghost use Rattle.cert_text.specs.Certificates.{claim_of, IsWellFormed};
+ghost use Rattle.certificate.specs.Certificates.{claim_of, IsWellFormed};
 ghost use Rattle.flow_net.specs.Firsts.{IsFirst};
 ghost use Rattle.flow_net.specs.Nets.{flag_at};
 ghost use Rattle.geo_sign.specs.Rising.{IsBefore};
@@ -23,7 +23,8 @@ use crate::lookup::{find, starts_of};
 use crate::stop::Stop;
 use crate::{NoMemory, Reason};
 use cell_net::{cell_row, facet_row, flag};
-use cert_text::{Certificate, FlowRow, Row, SinkRow};
+use cert_text::Row;
+use certificate::{Certificate, FlowRow, SinkRow};
 use flow_net::{Flow, Labels, Sequence};
 use std::alloc::Global;
 use tetra_store::Tetra;

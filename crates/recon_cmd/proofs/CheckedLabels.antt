@@ -4,8 +4,8 @@ use Rattle.std.proofs.Common.{◌≡◌, ◌<◌, ◌↔◌, ℕ, Bool, true, fa
 use Rattle.std.proofs.Common.{refl, sym, ap, subst, ◌∙◌, arith}
 use Rattle.std.specs.Option.{IsSomeAnd}
 use Rattle.std.proofs.lemmas.List.{ext_get_or}
-use Rattle.cert_text.specs.Certificates.{Claim, IsWellFormed}
-use Rattle.cert_text.specs.Stamps.{StampView}
+use Rattle.certificate.specs.Certificates.{Claim, IsWellFormed}
+use Rattle.certificate.specs.Stamps.{StampView}
 use Rattle.cert_text.specs.Texts.{cert_text}
 use Rattle.flow_net.specs.declared.votes.Settings.{Settings}
 use Rattle.geo_sign.proofs.Booleans.{same_bools}
@@ -13,7 +13,7 @@ use Rattle.geo_sign.specs.Point.{Point, origin}
 use Rattle.host.specs.State.{Told}
 use Rattle.recon_check.proofs.Uniqueness.{one_claim}
 use Rattle.recon_check.specs.Answers.{IsSolved}
-use Rattle.scan.specs.Shown.{Shown}
+use Rattle.scan_rows.specs.Shown.{Shown}
 use Rattle.solid_query.proofs.Unique.{labels_are_certified_law}
 use Rattle.solid_query.specs.Labels.{AreLabels}
 use Rattle.solid_query.specs.Laws.{HasPoint}

@@ -2,8 +2,8 @@
 use Rattle.std.proofs.Common.{◌≡◌, refl, arith, inl, inr, List, ℕ}
 use Rattle.host.specs.State.{State}
 use Rattle.mesh_form.specs.Received.{Received}
-use Rattle.mesh_ply.specs.Meshes.{Surface}
-use Rattle.scan.specs.Shown.{Shown}
+use Rattle.mesh.specs.Meshes.{Surface}
+use Rattle.scan_rows.specs.Shown.{Shown}
 use Rattle.command_run.specs.Status.{code_of}
 use Rattle.command_run.specs.declared.status.Status.{Status}
 use Rattle.command_run.specs.declared.status.Status.TheVariants.{Done, No, BadArguments, Refused, Failed, NoMemory}

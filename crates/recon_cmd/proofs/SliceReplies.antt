@@ -1,6 +1,6 @@
 -- The answer of `slice` to a mesh.
 use Rattle.std.proofs.Common.{◌≡◌, ◌⊎◌, inl, inr, ℕ, ℤ, List, ap, subst, ◌∙◌}
-use Rattle.mesh_ply.specs.Meshes.{Surface}
+use Rattle.mesh.specs.Meshes.{Surface}
 use Rattle.solid_slice.specs.Refusals.{IsRefusedSlice}
 use Rattle.solid_slice.specs.declared.refusal.SliceRefusal.{SliceRefusal}
 use Rattle.solid_slice.specs.declared.refusal.SliceRefusal.TheVariants.{Unbalanced}

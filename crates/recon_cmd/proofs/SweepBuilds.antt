@@ -8,8 +8,8 @@ use Rattle.std.proofs.lemmas.List.{same_lists}
 use Rattle.flow_net.specs.declared.votes.Settings.{Settings}
 use Rattle.host.specs.State.{Files}
 use Rattle.mesh_form.specs.Received.{Received, HasAll}
-use Rattle.mesh_ply.specs.Meshes.{Surface}
-use Rattle.scan.specs.Shown.{Shown}
+use Rattle.mesh.specs.Meshes.{Surface}
+use Rattle.scan_rows.specs.Shown.{Shown}
 use Rattle.solution.specs.Scans.{points_of}
 use Rattle.sweep.proofs.FreshBuilds.{fresh_build_law, one_cost, one_surface}
 use Rattle.sweep.specs.Entries.{AreWeights, CostsAt, CostsLeast, Given, HasEntry, HaveEntries, IsSurfaceAt, IsSurfaceOf, given_by}

@@ -13,9 +13,9 @@ use Rattle.std.specs.List.{zip}
 use Rattle.host.specs.State.{State, Told, Files}
 use Rattle.host.specs.Whole.{OnlyReads}
 use Rattle.mesh_form.specs.Received.{Received}
-use Rattle.scan.specs.Shown.{Shown}
-use Rattle.scan.specs.Views.{shown_of}
-use Rattle.scan.specs.declared.scan.Scan.{Scan}
+use Rattle.scan_rows.specs.Shown.{Shown}
+use Rattle.scan_rows.specs.Views.{shown_of}
+use Rattle.scan_rows.specs.declared.scan.Scan.{Scan}
 use Rattle.sweep.proofs.Handings.{fronts_of_entries}
 use Rattle.sweep.specs.Entries.{CostsAt, HaveEntries, given_by, smoothing_of}
 use Rattle.command_run.specs.Answers.{Answer, invalid}

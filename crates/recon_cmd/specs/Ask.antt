@@ -1,17 +1,20 @@
 -- `ask IN POINTS OUT`: classifies points as inside or outside the best surface of a scan.
 --
---   QueryNames                       the names
---   ask_names names                  those that the program holds
+--   QueryNames                       the names of `ask`: the scan, the points and the output
+--   ask_names names                  the file names that the program holds for `ask`, in the form that definitions use
 --   too_long_points_line             the line for a file of points that is too long
 --   query_refusal_line why           the line for the error of points
---   ask_line points asked inside     the line
+--   ask_line points asked inside     the line that `ask` prints when it is done
 --   label_line label                 a label, as a line
 --   labels_text labels               the text of labels
 --   points_within limit options ..   the points in the bytes of a file, or the line that rejects these bytes
 --   ask_done output points labels    the answer that writes labels
 --   WritesLabels output options ..   the labels of the points are written
---   AskAnswer limit names ..         the answer to a scan
---   ask_task names options           the command
+--   AskAnswer limit names options files scan answer
+--                                    the answer of `ask` to a scan: the file of the points is too long or no list of
+--                                    points (`points_within`, `query_refusal_line why`), or the labels of the points
+--                                    are written (`WritesLabels`)
+--   ask_task names options           the definition of `ask` with these arguments
 --   IsAskReply limit names ..        the reply may end a run of `ask`, and is one of its answers to a scan
 use Rattle.std.specs.List.{flat_map}
 use Rattle.std.specs.Prelude.{ℕ, List, codes, Option, Some, None, [], ◌∷◌, ◌++◌, Bool, if◌then◌else◌, length, decimal, ◌≡◌, ⊤}
@@ -19,7 +22,7 @@ use Rattle.std.specs.Prelude.{count_by, Result}
 use Rattle.flow_net.specs.declared.votes.Settings.{Settings}
 use Rattle.geo_sign.specs.Point.{Point}
 use Rattle.host.specs.State.{Files, State}
-use Rattle.scan.specs.Shown.{Shown}
+use Rattle.scan_rows.specs.Shown.{Shown}
 use Rattle.solid_query.specs.Labels.{AreLabels}
 use Rattle.solid_query.specs.Queries.{points_in}
 use Rattle.solid_query.specs.declared.refusal.QueryRefusal.{QueryRefusal}

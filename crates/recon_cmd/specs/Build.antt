@@ -1,17 +1,18 @@
 -- `build IN MESH CERT`: the best surface of a scan, and the certificate of its optimality.
 --
---   build_names names                the names that the program holds
---   build_line counts inside faces   the line
+--   build_names names                the file names that the program holds for `build`, in the form that definitions
+--                                    use
+--   build_line counts inside faces   the line that `build` prints when it is done
 --   Shows mesh_name cert_name ..     the answer that writes a surface and its certificate
 --   WritesSurface names options ..   the answer that writes the best surface of a scan and its certificate
---   build_task names options         the command
+--   build_task names options         the definition of `build` with these arguments
 use Rattle.std.specs.Prelude.{ℕ, List, [], ◌∷◌, ◌++◌, codes, ◌≡◌, length, Some, ⊤}
-use Rattle.cert_text.specs.Certificates.{Counts, Claim, IsWellFormed}
+use Rattle.certificate.specs.Certificates.{Counts, Claim, IsWellFormed}
 use Rattle.cert_text.specs.Texts.{cert_text}
 use Rattle.flow_net.specs.declared.votes.Settings.{Settings}
-use Rattle.mesh_ply.specs.Meshes.{Surface}
+use Rattle.mesh.specs.Meshes.{Surface}
 use Rattle.mesh_ply.specs.Texts.{mesh_text, IsPrinted}
-use Rattle.scan.specs.Shown.{Shown}
+use Rattle.scan_rows.specs.Shown.{Shown}
 use Rattle.solution.specs.Solutions.{IsSolution}
 use Rattle.surface.specs.Closed.{IsClosed}
 use Rattle.command_run.specs.Answers.{Answer, Task}

@@ -1,17 +1,18 @@
 -- `cells IN OUT`: the cells of a scan.
 --
 --   cells_keys                       the options that determine the points of a scan
---   cells_names names                the names that the program holds
---   cells_line points cells          the line
+--   cells_names names                the file names that the program holds for `cells`, in the form that definitions
+--                                    use
+--   cells_line points cells          the line that `cells` prints when it is done
 --   row_line numbers                 numbers separated by single spaces, as a line
 --   cells_text rows                  the text of cells
 --   WritesCells output scan answer   the answer that writes the cells of a scan
---   cells_task names options         the command
+--   cells_task names options         the definition of `cells` with these arguments
 use Rattle.std.specs.List.{flat_map}
 use Rattle.std.specs.Prelude.{List, [], ◌∷◌, ℕ, ◌++◌, codes, decimal, length, ◌≡◌, ⊤}
 use Rattle.geo_sign.specs.Cells.{IsCellList}
 use Rattle.geo_sign.specs.Vertices.{boxed_vertices}
-use Rattle.scan.specs.Shown.{Shown}
+use Rattle.scan_rows.specs.Shown.{Shown}
 use Rattle.solution.specs.Scans.{points_of}
 use Rattle.command_run.specs.Answers.{Answer, Task}
 use Rattle.command_run.specs.Words.{Names}

@@ -4,7 +4,9 @@
 -- The line for yes states what was found; each reason for no has a number and a name of its own, and states the position and
 -- the compared values. Rows are counted from 0 in their list.
 --
---   check_names, output_of names       the first three names that the program holds, and the output file, if there is one
+--   check_names names, output_of names
+--                                      of the names of `check` and `upgrade`: those of the scan, the mesh and the
+--                                      certificate; that of the output, if there is one
 --   too_long_cert_line                 the line for a certificate's file that is too long
 --   upgraded_line cost                 the line of `upgrade` for yes
 --   which_word which                   the name of a number that a certificate states
@@ -13,26 +15,34 @@
 --   digests_line text a b              a line of a text, and two digests, the stated one and this run's
 --   scanner_text p                     a fixed scanner, or `none`
 --   scanners_line text a b             a line of a text, and two fixed scanners, the stated one and this run's
---   reason_line reason                 the line of a reason
---   yes_line inside faces cost         the line of yes
---   verdict_line verdict               the line of a verdict
---   verdict_status verdict             its status
+--   reason_line reason                 the line of `check` and `upgrade` for no, by the reason
+--   yes_line inside faces cost         the line of `check` for yes
+--   verdict_line verdict               the line of a verdict (`yes_line` or `reason_line`)
+--   verdict_status verdict             the status of a verdict, done or no
 --   restamped stamp claim              a certificate with this fingerprint
---   upgraded_answer output stamp ..    the effect of yes, if there is an output file
---   IsConcluded output ..              the effect of a verdict: it is printed, or a certificate is written
+--   upgraded_answer output stamp claim cost
+--                                      the answer of `upgrade` after a verdict of yes: the certificate is written with
+--                                      the fingerprint of this run, and its cost is printed
+--   IsConcluded output stamp cert verdict answer
+--                                      what follows from a verdict: it is printed, or for `upgrade` the certificate is
+--                                      written
 --   HasVerdict output options ..       the verdict on a mesh and a certificate, and its effect
 --   whole_within limit line ..         all bytes of a file, or this line if they are too many
---   CertAnswer, MeshAnswer limit ..    the answer to the bytes of a certificate, and to those of a mesh
---   CheckAnswer limit names ..         the answer to a scan
---   check_task names output options    the command: `upgrade` if there is a file to write, and `check` if there is none
---   task_for asked                     the requested command
+--   CertAnswer limit ..                the answer to the bytes of a certificate
+--   MeshAnswer limit ..                the answer to the bytes of a mesh, followed by those of a certificate
+--   CheckAnswer limit names output options files bytes scan answer
+--                                      the answer of `check` or `upgrade` to a scan, which follows from the mesh, the
+--                                      certificate and the fingerprint of this run (`HasVerdict`)
+--   check_task names output options, task_for asked
+--                                      the definition of `upgrade` if there is an output, else of `check`; that
+--                                      definition for a request that the program holds
 --   HasVerdictFor asked held ..        the verdict, for a request and a scan in memory with its fingerprint
 --   CertAnswerFor, MeshAnswerFor       the answers to the bytes of a certificate, and to those of a mesh, for a request
 use Rattle.std.specs.Fmt.{signed_decimal}
 use Rattle.std.specs.Option.{option_map}
 use Rattle.std.specs.Prelude.{ℕ, List, Option, Result, Ok, codes, [], ◌∷◌, ◌++◌, Some, None, ◌≡◌, ⊤}
-use Rattle.cert_text.specs.Certificates.{Claim, stamp_view}
-use Rattle.cert_text.specs.Stamps.{StampView}
+use Rattle.certificate.specs.Certificates.{Claim, stamp_view}
+use Rattle.certificate.specs.Stamps.{StampView}
 use Rattle.cert_text.specs.Texts.{cert_text}
 use Rattle.flow_net.specs.declared.votes.Settings.{Settings}
 use Rattle.geo_sign.specs.Point.{Point}
@@ -48,8 +58,8 @@ use Rattle.recon_check.specs.declared.answer.Reason.TheVariants.{MeshDiffers}
 use Rattle.recon_check.specs.declared.answer.Which.{Which}
 use Rattle.recon_check.specs.declared.answer.Which.TheVariants.{Points, Scanners, Sights, Vote, Smooth}
 use Rattle.scan.specs.PlainForm.{spaced}
-use Rattle.scan.specs.Shown.{Shown}
-use Rattle.scan.specs.Views.{shown_of}
+use Rattle.scan_rows.specs.Shown.{Shown}
+use Rattle.scan_rows.specs.Views.{shown_of}
 use Rattle.command_run.specs.Answers.{Answer, Task}
 use Rattle.command_run.specs.Lines.{labelled, too_long_mesh_line, text_line, number_line}
 use Rattle.command_run.specs.declared.status.Status.{Status}

@@ -4,17 +4,21 @@
 --   asked_by make words                 the result of names and options, if the arguments have this shape
 --   cells_of, build_of, check_of, upgrade_of, ask_of    the command with these names and options
 --   slice_of, demo_of                   the command with other arguments
---   command_of words                    the command in the arguments, if they are valid
+--   command_of words                    the command that a list of arguments is, or none
 --   asked command                       the definition of a command of the program
---   task_of asked                       the command without its arguments
---   AnswerWithin limit asked ..         the answer of a command, or to invalid arguments, for this maximal size of an input
---                                       file
---   AnswerOf asked files answer         the same with the limit of `run`
+--   task_of asked                       a command without its arguments: whether it may answer no, whether it may
+--                                       reject its input, how many files it reads at most, and its answers for given
+--                                       files and a limit on their length
+--   AnswerWithin limit asked files answer
+--                                       what a command answers, if the files are these and a file that is read may have
+--                                       as many bytes as the limit: its status, how many files it reads, the texts that
+--                                       it writes in order, and its line
+--   AnswerOf asked files answer         the same with the limit `file_limit`
 --   most_reads asked                    the maximal number of files that a command reads
 --   StatusFits status asked             the possible statuses of a command
 --   EndsWith, Tells                     the exposed state after a run of a command
---   OutcomeWithin limit asked ..        the effect of a run of a command on its host, for this maximal size of an input file
---   Outcome asked status before after   the same with the limit of `run`
+--   OutcomeWithin limit asked status before after   the same, with the answers of a command at a limit
+--   Outcome asked status before after   the same at `file_limit`
 --   asked_command request               the requested command, if there is one
 --   asked_export request                the request of `export`, if there is one
 --   asked_sweep request                 the request of `sweep`, if there is one
@@ -25,7 +29,7 @@ use Rattle.std.specs.Prelude.{ℕ, ℤ, List, Option, [], ◌∷◌, Some, None,
 use Rattle.std.specs.Str.{bytes_eq}
 use Rattle.host.specs.State.{Files, Told, State}
 use Rattle.ply_head.specs.Optional.{◌>>=◌}
-use Rattle.scan.specs.ScanRows.{point_limit}
+use Rattle.scan_rows.specs.ScanRows.{point_limit}
 use Rattle.command_run.specs.Answers.{Answer, MayEnd, Task, bad_arguments_answer, file_limit}
 use Rattle.command_run.specs.Outcome.{EndsBy, TellsBy, Run}
 use Rattle.command_run.specs.Words.{Names, are_names}

@@ -1,15 +1,15 @@
 -- `demo N SEED`: the result of `build` for a scan that is generated from a seed.
 --
 --   seed_of text                     the number in a seed, if it is valid
---   demo_line count seed line        the line, before that of `build`
+--   demo_line count seed line        the line that `demo` prints when it is done, which ends with that of `build`
 --   generated_text count seed        the text of the generated scan
 --   Demonstrates count seed answer   the result of `build` for a generated scan
---   demo_task count seed             the command
+--   demo_task count seed             the definition of `demo` with these arguments
 use Rattle.std.specs.Prelude.{ℕ, List, Option, ◌∷◌, ◌++◌, codes, ◌≡◌, []}
 use Rattle.gen_scan.specs.Generated.{generated}
 use Rattle.ply_head.specs.Optional.{◌>>=◌}
 use Rattle.scan.specs.PlainForm.{scan_text}
-use Rattle.scan.specs.Shown.{shown_by}
+use Rattle.scan_rows.specs.Shown.{shown_by}
 use Rattle.command_run.specs.Answers.{Answer, Task, file_limit}
 use Rattle.command_run.specs.Lines.{labelled}
 use Rattle.command_run.specs.declared.status.Status.TheVariants.{Done}

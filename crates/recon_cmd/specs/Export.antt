@@ -1,18 +1,23 @@
 -- `export MESH OUT1 .. OUTn`: a mesh in the formats of the writers that were passed. Its answer depends on these writers, so it
 -- is not a command of the program alone.
 --
---   ExportNames                      the name of the mesh, and the names of the outputs
+--   ExportNames                      the names of `export`: the mesh and the outputs
 --   export_behind forms words        the request in the arguments after `export`, if they name this number of outputs
---   export_of forms words            the request in the arguments, if they are a valid `export`
---   export_names words               the names that the program holds
---   exported_line forms points faces
---                                    the line
+--   export_of forms words            the mesh and the outputs of `export`, if there are as many outputs as mesh writers
+--   export_names words               the file names that the program holds for `export`, in the form that definitions
+--                                    use
+--   exported_line forms points faces   the line that `export` prints when it is done
 --   HaveAll, HaveFronts mesh forms   each writer has received the whole mesh; a prefix of it
 --   WritesForms outputs ..           the answer that writes the writers' texts
---   ExportAnswer limit names ..      an error of the mesh, or this answer
+--   ExportAnswer limit names forms texts files answer
+--                                    the mesh is rejected; or each mesh writer has received all of it, and the writers'
+--                                    texts are written to the outputs, in order
 --   IsFileOf name mesh before        if the host exposes its files, the named one is the mesh's text
 --   AreHandedFronts name before ..   the writers are unchanged, or have received prefixes of the mesh
---   FormsAfter name status ..        what the writers have received after a run that ended with this status
+--   FormsAfter name status before old new
+--                                    after status 0 each mesh writer has received exactly the mesh of the named file.
+--                                    After 3 the writers are as they were. After 4 and 5 each has received a prefix of
+--                                    that mesh, or they are as they were
 --   FormsHandOut outputs mesh ..     the continuation after the mesh was read
 --   ExportOutcome limit names ..     the effect of a run on its host and on the writers
 use Rattle.std.specs.List.{zip}
@@ -21,7 +26,7 @@ use Rattle.std.specs.Prelude.{◌++◌, All, ◌≡◌, IfSome, ◌⊎◌}
 use Rattle.std.specs.Str.{bytes_eq}
 use Rattle.host.specs.State.{Files, State}
 use Rattle.mesh_form.specs.Received.{Received, HasAll, HasFront}
-use Rattle.mesh_ply.specs.Meshes.{Surface}
+use Rattle.mesh.specs.Meshes.{Surface}
 use Rattle.mesh_ply.specs.Texts.{mesh_text}
 use Rattle.command_run.specs.Answers.{Answer, ToMesh}
 use Rattle.command_run.specs.Lines.{labelled}

@@ -3,9 +3,14 @@
 -- `limit` is the maximal size of an input file in bytes, `received` and `text_of` give what a writer has received and its text,
 -- `code` is the exit status, `before` and `after` are the states of the host, and `old` and `new` are the writers.
 --
---   Exports limit received text_of ..    its effect if the arguments are `export` into these writers
---   Sweeps limit received text_of ..     its effect if they are `sweep` into these writers
---   RunsOtherwise limit words ..         its effect on all other arguments: that of `run`, with the writers unchanged
+--   Exports limit received text_of words code before after old new
+--                                        a postcondition of `run_forms` (with `file_limit`) and `run_forms_within`: if
+--                                        the arguments are `export` to the given mesh writers, the run exits with a
+--                                        status with which `ExportOutcome` holds
+--   Sweeps limit received text_of words code before after old new   the same for `sweep` and `SweepOutcome`
+--   RunsOtherwise limit words code before after old new
+--                                        the same for all other arguments and `OutcomeWithin`; the writers are left as
+--                                        they are
 use Rattle.std.specs.Prelude.{ℕ, List, ◌≡◌, length, map, IfSome, None}
 use Rattle.host.specs.State.{State}
 use Rattle.mesh_form.specs.Received.{Received}

@@ -2,17 +2,20 @@
 --
 --   behind_minus text                the text after a minus sign, if there is one
 --   height_of text                   the height in a text, if it is valid
---   slice_names words                the names that the program holds
+--   slice_names words                the file names that the program holds for `slice`, in the form that definitions
+--                                    use
 --   unbalanced_line from to m n      the line for an edge that occurs m times, and its reverse n times
---   slice_line loops steps           the line
+--   slice_line loops steps           the line that `slice` prints when it is done
 --   slice_done output rings          the answer that writes loops
 --   RefusesSlice, WritesSlice        the mesh has no slice, or its slice is written
---   SliceAnswer output height ..     one of the two
---   slice_task names height          the command
+--   SliceAnswer output height mesh answer
+--                                    the answer of `slice` to a mesh: an unbalanced edge is rejected (`RefusesSlice`),
+--                                    or the loops are written (`WritesSlice`)
+--   slice_task names height          the definition of `slice` with these arguments
 use Rattle.std.specs.Option.{option_map}
 use Rattle.std.specs.Prelude.{ℕ, List, [], ◌∷◌, ◌==◌, if◌then◌else◌, ℤ, Option, ◌++◌, codes, ◌≡◌, length, sum_by, ◌⊎◌}
 use Rattle.geo_sign.specs.declared.point.TheConstants.{BOX_LIMIT}
-use Rattle.mesh_ply.specs.Meshes.{Surface}
+use Rattle.mesh.specs.Meshes.{Surface}
 use Rattle.num_text.specs.WholeNumbers.{is_minus, signed}
 use Rattle.ply_head.specs.Optional.{◌>>=◌}
 use Rattle.mesh_edges.specs.Edges.{IsFirstUnbalanced, IsBalanced}

@@ -1,23 +1,31 @@
 -- `sweep IN FROM STEP N OUT1 .. OUTN`: best surfaces of a scan in the formats of the writers that were passed. Its answer
 -- depends on these writers.
 --
---   SweepAsked                       the name of the scan, the increase of the weights, the names of the outputs, and the
---                                    options
+--   SweepAsked                       what `sweep` is asked for: the names of the scan and the outputs, the step from
+--                                    each area weight to the next, and the options at the first area weight
 --   sweep_keys                       the options that `sweep` may have
 --   asked_with input from ..         the request with these options
 --   sweep_behind input from ..       the request in the arguments after the numbers
 --   sweep_words_of forms words       the request in the arguments after `sweep`, if they name this number of outputs
---   sweep_of forms words             the request in the arguments, if they are a valid `sweep`
---   sweep_asked words                the request that the program holds
+--   sweep_of forms words             the scan, the step of the area weights, the outputs and the options of `sweep`, if
+--                                    there are as many outputs as mesh writers
+--   sweep_asked words                the request of `sweep` (`SweepAsked`) that the program holds
 --   entries_behind words             the number of writers for the arguments after `sweep`
---   entries_of words                 the same for arguments whose first is `sweep`
+--   entries_of words                 how many mesh writers the arguments of `sweep` ask for: as many as the fifth says,
+--                                    or none
 --   FitsForms words forms            as many outputs as writers, and weights within their limit
---   sweep_line n first last          the line
+--   sweep_line n first last          the line that `sweep` prints when it is done
 --   WritesSweep asked ..             the answer that writes the writers' texts
---   SweepAnswer limit asked ..       an error of the scan, or this answer
+--   SweepAnswer limit asked forms texts files answer
+--                                    the scan is rejected; or each mesh writer has received all of the mesh of its own
+--                                    weight, the writers' texts are written to the outputs, in order, and the costs of
+--                                    the first and the last are printed (`WritesSweep`)
 --   IsFileOfScan name options ..     if the host exposes its files, the named one is a text of the scan
 --   AreHandedEntries asked ..        the writers are unchanged, or have received prefixes of their meshes
---   SweepFormsAfter asked status ..  what the writers have received after a run that ended with this status
+--   SweepFormsAfter asked status before old new
+--                                    after status 0 each mesh writer has received exactly the mesh of its weight. After
+--                                    3 the writers are as they were. After 4 and 5 each is fresh or has received a
+--                                    prefix of that mesh, or they are as they were
 --   HaveEntriesOf asked scan ..      each writer has received the mesh of its entry, and the costs of the first and last are
 --                                    these
 --   SweepCarries asked scan ..       the meshes have been passed to the writers, and their texts are written
@@ -31,7 +39,7 @@ use Rattle.flow_net.specs.declared.votes.TheConstants.{WEIGHT_LIMIT}
 use Rattle.host.specs.State.{Files, State}
 use Rattle.mesh_form.specs.Received.{Received}
 use Rattle.ply_head.specs.Optional.{◌>>=◌}
-use Rattle.scan.specs.Shown.{Shown}
+use Rattle.scan_rows.specs.Shown.{Shown}
 use Rattle.sweep.specs.Entries.{smoothing_of, CostsAt, HaveEntries, given_by, HaveEntryFronts}
 use Rattle.command_run.specs.Answers.{Answer}
 use Rattle.command_run.specs.Lines.{labelled}

@@ -1,22 +1,27 @@
 -- Theorems about a run of `sweep`, for readers of the contract of `run_forms`.
 --
---   SweepsOn asked bytes ..       a run of `sweep` over a host that exposes these bytes of its scan, in which no call failed
---   AcceptedIsSwept               an accepted scan: the texts are written, or memory ran out
---   RefusedIsNotSwept             a rejected scan: it is rejected, or memory ran out
---   SweepAnswerIsOne              `sweep` has one answer if the files are given, and the texts of the writers
---   entry_options asked k         the options of entry k
---   Builds asked k names ..       an answer of `build` to the same scan at the weights of entry k
---   HasBuiltMesh names built r    a writer has received the mesh that `build` writes
---   HasBuiltCost names built n    the number is the cost that the certificate of `build` states
---   AreBuilt asked forms ..       the meshes and the costs of a sweep are those of `build`
---   EntriesAreBuilt               so is each answer of `sweep` that is done
+--   SweepsOn asked bytes status before after old new texts
+--                                 a run of `sweep`, in which the file of the scan has these bytes
+--   AcceptedIsSwept               a run of `sweep` is done if its scan is accepted
+--   RefusedIsNotSwept             a run of `sweep` rejects a rejected scan
+--   SweepAnswerIsOne              for given files `sweep` has at most one answer, also with other mesh writers, if they
+--                                 are as many and their texts are the same functions of what they have received
+--   entry_options asked k         the options of a sweep with the area weight of entry k
+--   Builds asked k names files built   an answer of `build` to the same scan at the weights of entry k of a sweep
+--   HasBuiltMesh names built r    a writer has received exactly the mesh that this answer of `build` writes
+--   HasBuiltCost names built n    n is the cost that the certificate in this answer of `build` states
+--   AreBuilt asked forms files answer
+--                                 each writer of a sweep has received the mesh that `build` writes at the weights of
+--                                 its entry, and the line states the costs of the first and last of these builds
+--   EntriesAreBuilt               the meshes and the two costs in each answer of `sweep` that is done are those that
+--                                 `build` gives at the same weights (`AreBuilt`)
 use Rattle.std.specs.Prelude.{◌≡◌, ℕ, List, Some, ◌⊎◌, ◌≤◌, length, Ok, ◌<◌, Err, ◌-◌, slice_index_or}
-use Rattle.cert_text.specs.Certificates.{Claim}
+use Rattle.certificate.specs.Certificates.{Claim}
 use Rattle.host.specs.Counts.{Rose}
 use Rattle.host.specs.State.{State, Told, Files}
 use Rattle.mesh_form.specs.Received.{Received, HasAll}
-use Rattle.mesh_ply.specs.Meshes.{Surface}
-use Rattle.scan.specs.Shown.{Shown}
+use Rattle.mesh.specs.Meshes.{Surface}
+use Rattle.scan_rows.specs.Shown.{Shown}
 use Rattle.scan.specs.declared.refusal.ScanRefusal.{ScanRefusal}
 use Rattle.sweep.specs.Entries.{smoothing_of}
 use Rattle.command_run.specs.Answers.{file_limit, Answer}

@@ -24,7 +24,8 @@ use command_run::{Reply, Stop};
 use demo::{Demo, demo_command, reply_to_demo};
 pub use export::export_mesh;
 use export::{ExportWords, export_words};
-use host::{Host, Watch};
+use flow_net::FlowHints;
+use host::Host;
 use slice::{SliceWords, reply_to_slice, slice_command};
 use std::alloc::Global;
 pub use sweeping::sweep_scan;
@@ -119,7 +120,7 @@ pub fn understand(words: &[String], forms: usize) -> Option<Request<'_>>
 }
 
 /// Reads the files of a command, each no longer than the limit, and returns its answer. Nothing is written or printed.
-pub fn reply_to<'a, H: Host, W: Watch>(
+pub fn reply_to<'a, H: Host, W: FlowHints>(
     alloc: Global,
     host: &mut H,
     command: &Command<'a>,

@@ -1,6 +1,8 @@
 //! The commands of the program, from the arguments of a command line to the files that are written and the line that is
 //! printed.
 //!
+//! Verified: `run`, `run_forms` state for each status what is printed, what each file contains, and that nothing else changes.
+//!
 //! `run` is the program without the operating system: it works over any `Host`. A command is a value: the arguments that
 //! request it, the statuses with which it may end, the number of files it reads, and its answers, a relation on bytes
 //! (`command_run`). The commands are listed in `specs/Commands`, and each is defined, with its lines, in a file of its own

@@ -6,7 +6,7 @@ use Rattle.std.specs.Option.{IsSomeAnd}
 use Rattle.host.specs.State.{State, Told, Files}
 use Rattle.mesh_form.specs.Received.{Received}
 use Rattle.mesh_form.specs.Texts.{off_text, obj_text}
-use Rattle.mesh_ply.specs.Meshes.{Surface}
+use Rattle.mesh.specs.Meshes.{Surface}
 use Rattle.mesh_ply.specs.Texts.{mesh_text}
 use Rattle.command_run.specs.Answers.{Answer, file_limit}
 use Rattle.command_run.specs.Outcome.{EndsBy, IsUntouched, Run, StopsBy, TellsBy}

@@ -8,9 +8,9 @@ use Rattle.std.proofs.lemmas.Simd.{map-map}
 use Rattle.host.specs.State.{State, Files}
 use Rattle.geo_sign.specs.Point.{Point}
 use Rattle.mesh_form.specs.Received.{Received, IsFresh, fresh}
-use Rattle.mesh_ply.specs.Meshes.{Surface}
+use Rattle.mesh.specs.Meshes.{Surface}
 use Rattle.mesh_ply.specs.Texts.{mesh_text}
-use Rattle.scan.specs.Shown.{Shown}
+use Rattle.scan_rows.specs.Shown.{Shown}
 use Rattle.sweep.specs.Entries.{HasEntry, IsSurfaceAt, given_by, smoothing_of}
 use Rattle.command_run.specs.Answers.{Answer, file_limit}
 use Rattle.command_run.specs.Status.{ExitsWith, code_of}

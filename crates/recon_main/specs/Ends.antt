@@ -1,25 +1,35 @@
 -- How the program ends, given the arguments from the system.
 --
---   WritesFormats outputs ..            the answer that writes a mesh as PLY, OFF and OBJ
---   FormatsAnswer names ..              an error of the mesh, or this answer
---   WritesMeshes asked scan ..          the answer that writes the best surface at each weight as PLY
---   MeshesAnswer asked ..               an error of the scan, or this answer
---   sweep_in words                      the request of `sweep` with as many outputs as its fifth argument states
---   RunsFor export sweep words ..       the effect of a run on these arguments on its host
+--   WritesFormats outputs mesh answer   the answer that writes a mesh to three outputs: as PLY, as OFF and as OBJ
+--   FormatsAnswer names files answer    what `export` with three outputs answers: the mesh is rejected, or its mesh
+--                                       text, OFF and OBJ are written
+--   WritesMeshes asked scan answer      the answer that writes the best surface of the scan at each area weight of a
+--                                       sweep as PLY, and prints the costs of the first and the last
+--   MeshesAnswer asked files answer     what it answers: the scan is rejected, or the mesh texts of its best surfaces
+--                                       are written
+--   sweep_in words                      what `sweep` asks for, with as many outputs as its fifth argument says
+--   RunsFor export sweep words status before after
+--                                       what a run on these arguments does to its host: that of `export` to three
+--                                       outputs, of `sweep`, or else of another command (`Outcome`)
 --   RunsOn words status before after    a run on these arguments ended with this status
---   DoesNothing status before after     memory ran out for the arguments or for the writers
---   RunsOrIdles words status ..         one of the two
---   EndsOn args status before after     the program ended with this status on the arguments from the system
---   EndsAfterARun status                the program ended with this status on some arguments, over that host
+--   DoesNothing status before after     the status is 5 and the host is as it was
+--   RunsOrIdles words code before after
+--                                       a run on these arguments ended with this status (`RunsOn`), or memory ran out
+--                                       before it and nothing was done (`DoesNothing`)
+--   EndsOn args status before after     the postcondition of `ends`: a run on the arguments after the name, or nothing
+--                                       done if memory runs out. If the system gives an error for the arguments, it is
+--                                       a run on none, or nothing done if the error is out of memory
+--   EndsAfterARun status                `ends_over` on some arguments, over a host that was not used. That says little
+--                                       more about a status than that it is one of the six
 use Rattle.std.specs.Prelude.{◌≡◌, ◌≢◌, ◌⊎◌, ℕ, ◌-◌, ◌<◌, List, [], ◌∷◌, length, map, slice_index_or, Result, Ok, Err, Option, Some}
 use Rattle.std.specs.Prelude.{None, unwrap_or}
 use Rattle.std.specs.IoError.{error_kind}
 use Rattle.std.specs.List.{zip}
 use Rattle.host.specs.State.{State, Files}
 use Rattle.mesh_form.specs.Texts.{off_text, obj_text}
-use Rattle.mesh_ply.specs.Meshes.{Surface}
+use Rattle.mesh.specs.Meshes.{Surface}
 use Rattle.mesh_ply.specs.Texts.{mesh_text}
-use Rattle.scan.specs.Shown.{Shown}
+use Rattle.scan_rows.specs.Shown.{Shown}
 use Rattle.sweep.specs.Entries.{CostsAt, IsSurfaceAt, given_by, smoothing_of}
 use Rattle.real_host.specs.Start.{arguments_of, fresh_state}
 use Rattle.command_run.specs.Answers.{Answer, MeshFileAnswer, file_limit}

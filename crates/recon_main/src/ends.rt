@@ -7,7 +7,8 @@ ghost use Rattle.real_host.specs.Real.{real_state};
 ghost use Rattle.real_host.specs.Start.{fresh_state};
 
 use crate::advice::Hints;
-use host::{Host, Watch};
+use flow_net::FlowHints;
+use host::Host;
 use mesh_form::{Form, ObjForm, OffForm, PlyForm};
 use real_host::{RealHost, Unnamed, arguments_after_name};
 use recon_cmd::{FILE_LIMIT, Request, Status, run, run_forms_within};
@@ -24,7 +25,7 @@ use std::{env, io};
 /// [`ends_over`], whose host is dropped here. The program's name is left out of the arguments. Reports the stages of the work
 /// to a progress callback.
 /// `is_seen`: standard error is a terminal, so `build` prints hints on the surface there.
-pub fn ends_on<R: Env + Files + Print + Eprint + AllocGlobal + Drop, W: Watch>(
+pub fn ends_on<R: Env + Files + Print + Eprint + AllocGlobal + Drop, W: FlowHints>(
     rt: R,
     watch: &mut W,
     is_seen: bool,
@@ -40,7 +41,7 @@ pub fn ends_on<R: Env + Files + Print + Eprint + AllocGlobal + Drop, W: Watch>(
 /// program, and the host after the run.
 ///
 /// The arguments from the system itself decide only which lines of usage are printed as a hint.
-pub fn ends_over<R: Env + Files + Print + Eprint + AllocGlobal + Drop, W: Watch>(
+pub fn ends_over<R: Env + Files + Print + Eprint + AllocGlobal + Drop, W: FlowHints>(
     rt: R,
     args: io::Result<Args>,
     watch: &mut W,
@@ -59,7 +60,7 @@ pub fn ends_over<R: Env + Files + Print + Eprint + AllocGlobal + Drop, W: Watch>
 ///
 /// If some argument is not text, the arguments are invalid, as if there were none. If there is no memory for the arguments or
 /// for the writers of `export` and `sweep`, the status is 5 and nothing is done.
-pub fn ends<H: Host, W: Watch>(
+pub fn ends<H: Host, W: FlowHints>(
     alloc: Global,
     args: io::Result<Args>,
     host: &mut H,
@@ -81,7 +82,7 @@ pub fn ends<H: Host, W: Watch>(
 
 /// Returns the status of a run on these arguments; `export` writes PLY, OFF and OBJ, and `sweep` writes PLY. If there is no
 /// memory for the writers, nothing is done.
-fn run_on<H: Host, W: Watch>(alloc: Global, words: &[String], host: &mut H, watch: &mut W) -> u8
+fn run_on<H: Host, W: FlowHints>(alloc: Global, words: &[String], host: &mut H, watch: &mut W) -> u8
     requires { (H.state host.old).writing ≡ false }
     ensures { RunsOrIdles (map string_bytes words.now) result (H.state host.old) (H.state host.new) }
 {
@@ -92,7 +93,7 @@ fn run_on<H: Host, W: Watch>(alloc: Global, words: &[String], host: &mut H, watc
 }
 
 /// Returns the same, and no status if there is no memory for the writers.
-fn run_in_forms<H: Host, W: Watch>(
+fn run_in_forms<H: Host, W: FlowHints>(
     alloc: Global,
     words: &[String],
     host: &mut H,
@@ -109,7 +110,7 @@ fn run_in_forms<H: Host, W: Watch>(
 }
 
 /// Returns the same for arguments of `sweep`, with each of this number of surfaces written as PLY.
-fn run_in_meshes<H: Host, W: Watch>(
+fn run_in_meshes<H: Host, W: FlowHints>(
     alloc: Global,
     words: &[String],
     host: &mut H,
@@ -130,7 +131,7 @@ fn run_in_meshes<H: Host, W: Watch>(
 }
 
 /// Returns the same for other arguments, with `export` writing a mesh as PLY, OFF and OBJ.
-fn run_in_formats<H: Host, W: Watch>(
+fn run_in_formats<H: Host, W: FlowHints>(
     alloc: Global,
     words: &[String],
     host: &mut H,

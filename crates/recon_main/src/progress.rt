@@ -4,11 +4,11 @@
 //! No contract depends on the line: if a write of it fails, or the clock fails, the work goes on. The start of each stage is
 //! written, at most six in a run, and counts at most four times a second: so no more than eleven lines are written in a second.
 
-use host::{Stage, Watch};
 use std::fmt;
 use std::fmt::{Display, Formatter};
 use std::rt::{Clock, Env};
 use std::time::Instant;
+use watch::{Stage, Watch};
 
 /// The minimal time between two written counts, in milliseconds.
 const PAUSE: u64 = 250;

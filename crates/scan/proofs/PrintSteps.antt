@@ -14,9 +14,9 @@ use Rattle.std.proofs.lemmas.Bool.{cases_lt, eq-eqb, ne_eqb}
 use Rattle.std.proofs.lemmas.List.{flat_map_more, take_more, take-append-drop, length-take-le}
 use Rattle.std.proofs.lemmas.List.Folds.{list_all-append}
 use Rattle.geo_sign.specs.Point.{Point}
-use Rattle.scan.specs.declared.scan.Seen.{Seen}
-use Rattle.scan.specs.ScanRows.{VertexRow}
-use Rattle.scan.specs.Shown.{Shown, IsNoEarlier}
+use Rattle.scan_rows.specs.declared.scan.Seen.{Seen}
+use Rattle.scan_rows.specs.ScanRows.{VertexRow}
+use Rattle.scan_rows.specs.Shown.{Shown, IsNoEarlier}
 use Rattle.scan.specs.PlainForm.{header, vertex_line, scanner_line, is_once, is_wide, of_row, row_showing, vertices_from}
 use Rattle.scan.specs.PlainForm.{scan_text}
 

@@ -34,7 +34,7 @@ use Rattle.scan.specs.declared.refusal.ScanRefusal.{ScanRefusal}
 use Rattle.scan.specs.declared.refusal.ScanRefusal.TheVariants.{NoSuchScanner, BadWeight, TooManySights}
 use Rattle.num_text.specs.Separators.{space}
 use Rattle.scan.specs.PlainForm.{coordinates, line, numbers_behind_point, vertex_line, scanner_line}
-use Rattle.scan.specs.ScanRows.{VertexRow, ScanRows, sights_in, scanner_limit, sight_limit, weight_limit}
+use Rattle.scan_rows.specs.ScanRows.{VertexRow, ScanRows, sights_in, scanner_limit, sight_limit, weight_limit}
 use Rattle.scan.specs.Found.{Body, Row, row_in, told, coordinate_of, number_in, point_in_columns, weighed, weight_said, few_sights, one_of, each_of}
 use Rattle.scan.specs.Found.{scanner_named, scanners_said, vertex_said, scanner_said, row_said, no_rows, one_vertex}
 use Rattle.scan.specs.Found.{one_scanner, found_in}

@@ -13,11 +13,11 @@ use Rattle.std.proofs.lemmas.List.Elements.{All-nil, All-cons, All-head, All-tai
 use Rattle.std.proofs.lemmas.List.Kept.{AllPairs-filter}
 use Rattle.geo_sign.specs.Point.{Point, IsWithin}
 use Rattle.geo_sign.specs.declared.point.TheConstants.{DATA_LIMIT}
-use Rattle.scan.specs.declared.scan.Seen.{Seen}
-use Rattle.scan.specs.ScanRows.{VertexRow, IsVertexRow, IsScan, weight_limit}
-use Rattle.scan.specs.Shown.{Shown, sights_in_row, row_seen, seen_from, shown_by, IsSeen, IsNoEarlier, WeighsAlike, IsShown}
+use Rattle.scan_rows.specs.declared.scan.Seen.{Seen}
+use Rattle.scan_rows.specs.ScanRows.{VertexRow, IsVertexRow, IsScan, weight_limit}
+use Rattle.scan_rows.specs.Shown.{Shown, sights_in_row, row_seen, seen_from, shown_by, IsSeen, IsNoEarlier, WeighsAlike, IsShown}
 use Rattle.scan.specs.PlainForm.{of_row, weight_of, row_showing, vertices_from, rows_showing}
-use Rattle.scan.proofs.ShownLemmas.{shown, length-seen_from}
+use Rattle.scan_rows.proofs.ShownLemmas.{shown, length-seen_from}
 
 -- ---- the first row's sights, and the others
 

@@ -14,9 +14,9 @@ use Rattle.ply_rows.specs.Readers.{IsFieldOf}
 use Rattle.ply_rows.proofs.ItemLemmas.{items_count}
 use Rattle.scan.specs.declared.refusal.ScanRefusal.{ScanRefusal}
 use Rattle.scan.specs.declared.refusal.ScanRefusal.TheVariants as refusals
-use Rattle.scan.specs.declared.scan.Seen.{Seen}
+use Rattle.scan_rows.specs.declared.scan.Seen.{Seen}
 use Rattle.scan.specs.ScanRefusals.{Fails}
-use Rattle.scan.specs.Shown.{sights_in_row}
+use Rattle.scan_rows.specs.Shown.{sights_in_row}
 use Rattle.scan.specs.Found.{Body, values_in, each_of}
 
 abbrev Named : Type 0

@@ -1,11 +1,17 @@
 -- Where a sight enters a cell and where it leaves it.
 --
---   IsEntered v p s t k                       the sight entered t through side k, or k is 4, and t is the cell at p towards s
---   IsExit v p s t k                          it leaves t through side k
---   left_behind first second third            which vertex of facet k three tests leave behind, 0 to 2
---   left_by first second third                the same, if the tests are whether three numbers are above zero
---   past v p s d x                            the side of the facet of p, x and d on which s is
---   left_among v p s d numbers                which of three vertices is left behind, by the sides of their facets with p and d
+--   IsEntered v p s t k                       the sight entered t through side k, since it crosses the facet of that
+--                                             side; or k is 4, and t is the cell at p towards s
+--   IsExit v p s t k                          the sight leaves t through side k, on the way to s: it crosses the facet
+--                                             of that side in the other direction
+--   left_behind first second third            the index of the vertex that stays behind, by three tests: 0 if the first
+--                                             and third hold or the first and second fail, 1 if the first holds and the
+--                                             third fails, 2 if the first fails and the second holds
+--   left_by first second third                `left_behind` of the tests whether three numbers are positive
+--   past v p s d x                            a number with the sign of the side of the facet p, x, d on which s is:
+--                                             positive on the inner side, 0 in the plane
+--   left_among v p s d numbers                of the three vertices of a front, the index of the one that stays behind:
+--                                             `left_by` of their numbers `past`, d being the fourth vertex
 use Rattle.std.specs.Prelude.{ℕ, ◌<◌, ◌≡◌, ◌⊎◌, Bool, true, false, ℤ, List, slice_index}
 use Rattle.std.specs.Int.{is_positive}
 use Rattle.geo_sign.specs.Rational.{RationalPoint, side}

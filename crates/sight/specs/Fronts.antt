@@ -1,13 +1,18 @@
 -- The facet through which a sight entered a cell, kept from cell to cell.
 --
---   IsVertexImage s r n i     i is the image of vertex n
---   AreSeen s r f             the images of a front are those of its vertices
---   KeepsFront s r c          the front is the facet of the entry side, if there is one
---   IsNextFront c j i         the opposite facet of side j is the front with the vertex that it does not have in place of its
---                             vertex i; or there is no entry side
+--   IsVertexImage s r n i     vertex n exists in the store, its point is in the box, and i is the image of this point
+--                             on the screen of the ray r
+--   AreSeen s r f             each of the three images of the front f is that of the vertex at the same index
+--   KeepsFront s r c          the front has three vertices, with their images. If there is an entry side, the front is
+--                             the facet of that side, from any of its vertices on
+--   IsNextFront c j i         the facet through which the walk leaves at side j, as the next cell has it, is the front
+--                             with its vertex i replaced by the fourth vertex. If there is no entry side, i is 3
+--                             instead
 --   GoesOut s r c j           the sight leaves the current cell through side j
---   HasArrived s r c          the scanner is in the current cell
---   IsWayOut s r c way        how the sight leaves the current cell
+--   HasArrived s r c          the perturbed scanner lies in the current cell
+--   IsWayOut s r c way        `way` states through which side the sight leaves the current cell, which vertex of the
+--                             front stays behind (`IsNextFront`), and the image of the fourth vertex if there is an
+--                             entry side
 use Rattle.std.specs.Prelude.{ℕ, ◌≡◌, ◌<◌, ◌⊎◌, true, length, set, slice_index, slice_index_or, get_or}
 use Rattle.geo_sign.specs.declared.point.TheConstants.{BOX_LIMIT}
 use Rattle.geo_sign.specs.Point.{origin, IsWithin}

@@ -1,12 +1,14 @@
 -- How points look along a line of sight.
 --
---   along d            a vector's coordinates
---   scaled u c         a vector times a number
---   IsScreen w u       the two vectors of a screen are perpendicular to u: their vector product is u times a number that is not
---                      negative
---   IsLookedAlong s r  a ray has the point of its vertex, and a screen perpendicular to the line from there to its scanner
---   IsImage w p x i    i is the image of the point x on the screen of a sight from p
---   no_image           the value in place of an image that does not exist
+--   along d            the vector that a `Direction` of the code is
+--   scaled u c         the vector u times the integer c
+--   IsScreen w u       the two vectors of w are a screen for the direction u: their cross product is u times an integer
+--                      that is not negative, and their coordinates are at most 2^24
+--   IsLookedAlong s r  the ray r has the point of its vertex, and a screen for the direction from this point to its
+--                      scanner (`IsScreen`)
+--   IsImage w p x i    i is the image of the point x on the screen w, seen from p, and neither of its two coordinates
+--                      is over 3 * 2^48
+--   no_image           the value that is read in place of an image that does not exist: both coordinates are 0
 use Rattle.std.specs.Prelude.{ℤ, pos, ◌≡◌, ◌<◌, ◌≤◌, ◌≤ℤ◌, ◌*◌, ◌^◌, ◌*ℤ◌, unsigned_abs, length, get_or}
 use Rattle.geo_sign.specs.declared.point.TheConstants.{BOX_LIMIT}
 use Rattle.geo_sign.specs.Point.{Point, origin, point, IsWithin, step, cross, dot}

@@ -1,20 +1,32 @@
 -- The view of a walk along a sight in contracts.
 --
---   Walk                        the sight, the current cell and its entry side, the facets to come
---   first_of a b c d            which of four tests is the first that holds
---   leaves v p s t k            the sight leaves t through facet k
---   exit_of v p s t             the side through which it leaves
---   is_some_of n x              the adjacent cell is the cell x
---   number_first a b c          which of three tests is the first that holds
---   side_naming links y x       the side of y whose adjacent cell is x
---   next_side s p o x           the next facet from the cell x, as a side of the cell that is entered
---   sides_from s p o x          all facets from there on
---   IsSight w                   they are exactly the facets that the sight crosses, each once, each nearer than every later one
---   IsGoneOn w v                v is w one facet on: the first of those to come in w, and v has the others
---   IsTaken w v c               and the crossing c is that facet
---   IsEndCell s o e             the cell e is the scanner's
---   walk_of s r c               a walk, by its ray and the cell that it has reached
---   IsWalking s r c             the invariant of each walk, except its screen and front
+--   Walk                        a walk as contracts see it: the store, the vertex, the scanner, the cell reached, the
+--                               side through which it was entered, and the facets still to come. Each of these is a
+--                               side of the cell that is entered through it
+--   first_of a b c d            the index, 0 to 3, of the first of four tests that holds, or none
+--   leaves v p s t k            whether the sight leaves t through side k, on the way to s
+--   exit_of v p s t             the first side through which the sight leaves t, or none
+--   is_some_of n x              whether the neighbor n exists and is the cell x
+--   number_first a b c          the index, 0 to 2, of the first of three tests that holds, or 3 if none does
+--   side_naming links y x       the side of the cell y at which the cell x is its neighbor (the first of 0 to 2, or
+--                               else 3)
+--   next_side s p o x           the next facet that the sight crosses from the cell x on, as a side of the cell that it
+--                               enters; none in the scanner's cell
+--   sides_from s p o x          the facets through which the sight leaves cells, from the cell x on. The list to come
+--                               of a walk is computed by this; `IsSight` says what it is
+--   IsSight w                   the walk is at its start: in the cell towards the scanner, with no side entered. The
+--                               list to come has exactly the facets that the sight crosses, each once, and each nearer
+--                               to the vertex than every later one. Each leads from the cell before to the next, the
+--                               last to the scanner's cell. There is one such list (`PathLaw`)
+--   IsGoneOn w v                the walk v is the walk w after one facet. The first side to come in w is the one
+--                               through which v entered its cell, and the others are still to come in v. The cell that
+--                               w had reached is adjacent there
+--   IsTaken w v c               `IsGoneOn`, and the crossing c is that facet, written as in the cell that v has reached
+--                               (on the scanner's side). The cell on the point's side is the one that w had reached
+--   IsEndCell s o e             the live cell e contains the scanner at o; there is one (`ScannerLaw`)
+--   walk_of s r c               the walk (`Walk`) of a ray that has reached this cell, through this entry side
+--   IsWalking s r c             the invariant of a walk, except its screen and front: the cells are Delaunay, the
+--                               current cell is live, and the sight entered it through its entry side
 --
 -- The list to come is a function of the store, the sight and the current cell, so it is no field of a walk: `sides_from` is
 -- that list. A reader has to trust `IsSight` alone, which determines the list: the crossed facets, each once, in their order.
@@ -26,7 +38,8 @@ use Rattle.geo_sign.specs.Sights.{is_crossed, is_towards, is_cell_of}
 use Rattle.geo_sign.specs.Tetrahedron.{Tetrahedron, facet_at, facet_of, turned}
 use Rattle.geo_sign.specs.Vertices.{Vertices, Has}
 use Rattle.cell_laws.specs.Links.{Side}
-use Rattle.cell_laws.specs.Lists.{IsIn, count, one_if}
+use Rattle.cell_laws.specs.Lists.{IsIn, count}
+use Rattle.geo_sign.specs.Edges.{one_if}
 use Rattle.cell_laws.specs.Paths.{is_that, entered_facet, IsSightPath, AreNearing}
 use Rattle.tetra_store.specs.Links.{Links, links_of, tetrahedron_from, IsLive}
 use Rattle.tetra_store.specs.Store.{Store, vertices_of}
@@ -80,12 +93,12 @@ abbrev pub side_naming : Links → (y x : ℕ) → ℕ
 side_naming links y x =
     number_first (is_some_of (links.next y 0) x) (is_some_of (links.next y 1) x) (is_some_of (links.next y 2) x)
 
--- the side of the adjacent cell, if there is one, whose adjacent cell is x
+-- the side of the neighbor n, if there is one, at which the cell x is its neighbor
 abbrev pub side_into : Links → ℕ → Option ℕ → Option Side
 side_into links x None = None
 side_into links x (Some y) = Some (record { at = y; side = side_naming links y x })
 
--- that of the adjacent cell through side k
+-- `side_into` of the neighbor of the cell x at side k, if a side is given
 abbrev pub side_through : Links → ℕ → Option ℕ → Option Side
 side_through links x None = None
 side_through links x (Some k) = side_into links x (links.next x k)
@@ -94,12 +107,12 @@ side_through links x (Some k) = side_into links x (links.next x k)
 abbrev pub next_side : Store → (p : ℕ) → Point → ℕ → Option Side
 next_side s p o x = side_through (links_of s.slots) x (exit_of (vertices_of s) p (displaced o) ((links_of s.slots).at x))
 
--- a side, if there is one, and the rest from its cell on
+-- if a side is given, the list of this side and then of what a function gives for its cell; else the empty list
 abbrev pub with_rest : Option Side → (ℕ → List Side) → List Side
 with_rest None rest = []
 with_rest (Some c) rest = c ∷ rest c.at
 
--- at most n of them
+-- the facets that the sight crosses from the cell x on (`next_side`), at most n of them
 abbrev pub sides_within : Store → (p : ℕ) → Point → ℕ → ℕ → List Side
 sides_within s p o zero x = []
 sides_within s p o (suc n) x = with_rest (next_side s p o x) (sides_within s p o n)

@@ -1,8 +1,12 @@
 -- Labels of points.
 --
---   IsLabelOf v cells inside q label     the label of the one of these cells that contains the perturbed point
---   AreLabels scan settings points ..    the labels of points in the best surface of a scan
---   IsLabelAt s ids inside q label       the label of the one of these linked cells that contains the perturbed point
+--   IsLabelOf v cells inside q label     the label of that one of these cells in which the perturbed point strictly
+--                                        lies
+--   AreLabels scan settings points labels
+--                                        a label for each of these points, among all Delaunay cells of the scan's
+--                                        points, in the minimum cut with the smallest inside
+--   IsLabelAt s ids inside q label       the label of that one of these linked cells in which the perturbed point
+--                                        strictly lies
 use Rattle.std.specs.Prelude.{ℕ, ◌≡◌, ◌<◌, Bool, true, List, length, slice_index, slice_index_or, Contains}
 use Rattle.flow_net.specs.Nets.{flag_at}
 use Rattle.flow_net.specs.declared.votes.Settings.{Settings}
@@ -12,7 +16,7 @@ use Rattle.geo_sign.specs.Rational.{displaced}
 use Rattle.geo_sign.specs.Sights.{is_cell_of}
 use Rattle.geo_sign.specs.Vertices.{boxed_vertices}
 use Rattle.geo_sign.specs.Vertices.{Vertices}
-use Rattle.scan.specs.Shown.{Shown}
+use Rattle.scan_rows.specs.Shown.{Shown}
 use Rattle.solution.specs.Scans.{points_of, scene_of_scan}
 pub use Rattle.surface.specs.Labelled.{AreAllLive}
 use Rattle.tetra_store.specs.Links.{links_of}

@@ -6,7 +6,7 @@
 --   LabelsAreCertified  a point is inside exactly if an inside cell of the scan's certificate has it
 use Rattle.std.specs.Prelude.{ℕ, ◌≡◌, ◌<◌, ◌↔◌, Bool, true, List, length, slice_index_or}
 use Rattle.std.specs.List.{Any}
-use Rattle.cert_text.specs.Certificates.{Claim}
+use Rattle.certificate.specs.Certificates.{Claim}
 use Rattle.flow_net.specs.Nets.{flag_at}
 use Rattle.flow_net.specs.declared.votes.Settings.{Settings}
 use Rattle.geo_sign.specs.Boxes.{IsBoxed}
@@ -16,8 +16,8 @@ use Rattle.geo_sign.specs.Rational.{displaced}
 use Rattle.geo_sign.specs.Sights.{is_cell_of}
 use Rattle.geo_sign.specs.Vertices.{Vertices, boxed_vertices}
 use Rattle.geo_sign.specs.declared.point.TheConstants.{DATA_LIMIT}
-use Rattle.mesh_ply.specs.Meshes.{Surface}
-use Rattle.scan.specs.Shown.{Shown}
+use Rattle.mesh.specs.Meshes.{Surface}
+use Rattle.scan_rows.specs.Shown.{Shown}
 use Rattle.solution.specs.Scans.{points_of}
 use Rattle.solution.specs.Solutions.{IsSolution}
 use Rattle.solid_query.specs.Labels.{IsLabelOf, AreLabels}

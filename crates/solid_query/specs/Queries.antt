@@ -2,11 +2,12 @@
 --
 --   tokens_of bytes          the runs of bytes other than white space
 --   units_or_refusal n number   the number of units in token n, or its error
---   token_coordinate unit n token  the same, of the token
---   point_or_refusal x y z   the point of three coordinates, or the first error among them
+--   token_coordinate unit n token   the scaled number that token n is, or why it is none
+--   point_or_refusal x y z   the point of three such numbers, or the first error among them
 --   points_from unit n ..    the points of these tokens, counted from n, or the first error among them
---   points_in bytes unit     the points in a text, or its error
---   Gives                    the result of a call is that of a definition, unless memory ran out
+--   points_in bytes unit     the points that a text is, or why it is none: too many tokens, a number of tokens that is
+--                            no multiple of three, or the first token that is no number
+--   Gives view answer read   a call returned what reading gives, unless memory ran out
 use Rattle.std.specs.Prelude.{ℕ, ℤ, ◌≡◌, ◌+◌, ◌%◌, ◌==◌, nat_lt, not, List, [], ◌∷◌, length, filter, Result, Ok, Err}
 use Rattle.std.specs.Prelude.{if◌then◌else◌}
 use Rattle.std.specs.List.{slice_split}
@@ -64,7 +65,7 @@ points_among unit tokens =
 unfoldable pub points_in : List ℕ → (unit : ℕ) → Result (List Point) QueryRefusal
 points_in bytes unit = points_among unit (tokens_of bytes)
 
--- the error is that of the definition, unless memory ran out
+-- the same of the error alone
 abbrev pub Fails : {Y : Type 0} → QueryRefusal → Result Y QueryRefusal → Type 0
 Fails NoMemory read = Unit {0}
 Fails why read = read ≡ Err why

@@ -1,8 +1,9 @@
 -- The linked cells of a scan, with labels by their numbers.
 --
---   IsSolid scan settings s flags     the linked cells, and which are inside
---   IsFlaggedAs s flags q flag        the cell that contains the perturbed point has this flag
---   AreFlagged s flags points found   the same for points, one each
+--   IsSolid scan settings s flags     the linked cells of a scan, with a flag at each number: whether the cell is
+--                                     inside
+--   IsFlaggedAs s flags q flag        the flag of the live cell in which the perturbed point strictly lies
+--   AreFlagged s flags points found   such flags for points, one each
 use Rattle.std.specs.Prelude.{ℕ, ◌≡◌, ◌<◌, ◌++◌, Bool, true, List, length, slice_index_or}
 use Rattle.flow_net.specs.Nets.{flag_at}
 use Rattle.flow_net.specs.declared.votes.Settings.{Settings}
@@ -10,7 +11,7 @@ use Rattle.geo_sign.specs.Point.{Point, origin}
 use Rattle.geo_sign.specs.Rational.{displaced}
 use Rattle.geo_sign.specs.Sights.{is_cell_of}
 use Rattle.geo_sign.specs.Vertices.{corners}
-use Rattle.scan.specs.Shown.{Shown}
+use Rattle.scan_rows.specs.Shown.{Shown}
 use Rattle.solution.specs.Scans.{points_of, scene_of_scan}
 use Rattle.tetra_store.specs.Delaunay.{IsDelaunay}
 use Rattle.tetra_store.specs.Links.{links_of, IsLive}

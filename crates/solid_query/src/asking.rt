@@ -3,7 +3,7 @@
 ghost use Rattle.std.specs.Prelude.{◌<◌, ◌^◌, ℕ, IfOk, All, length};
 ghost use Rattle.geo_sign.specs.declared.point.TheConstants.{DATA_LIMIT};
 ghost use Rattle.geo_sign.specs.Point.{IsWithin};
-ghost use Rattle.scan.specs.Views.{shown_of};
+ghost use Rattle.scan_rows.specs.Views.{shown_of};
 ghost use Rattle.tetra_store.specs.Delaunay.{IsDelaunay};
 ghost use Rattle.tetra_store.specs.Links.{links_of, IsLive};
 ghost use Rattle.tetra_store.specs.Store.{vertices_of};
@@ -13,13 +13,13 @@ ghost use Rattle.solid_query.specs.Solids.{AreFlagged};
 use crate::NoMemory;
 use crate::solid::solid_of;
 use curve_order::order;
-use flow_net::Settings;
+use flow_net::{FlowHints, Settings};
 use geo_sign::Point;
-use host::{Silent, Stage, Watch, tell};
-use scan::Scan;
+use scan_rows::Scan;
 use std::alloc::Global;
 use tetra_store::Tetra;
 use tetra_walk::locate_displaced;
+use watch::{Silent, Stage, Watch, tell};
 
 /// Returns the flags of the cells that contain the perturbed points. `flags` has one for each cell by its number in the store.
 /// Each walk begins in the cell that the previous one found. Reports the number of points to a progress callback.
@@ -88,8 +88,8 @@ pub fn ask(
     ask_watched(alloc, scan, settings, queries, &mut Silent)
 }
 
-/// Returns the same, and reports the stages of the work, and the number of located points, to a progress callback.
-pub fn ask_watched<W: Watch>(
+/// Returns the same with the hints of a progress callback, to which it reports the stages of the work and the number of located points.
+pub fn ask_watched<W: FlowHints>(
     alloc: Global,
     scan: &Scan,
     settings: Settings,

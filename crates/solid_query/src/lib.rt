@@ -1,5 +1,7 @@
 //! Classifies points as inside or outside the best surface of a scan.
 //!
+//! Verified: `ask` returns exactly whether each point is inside the best surface; the answer is unique (`labels_are_unique`).
+//!
 //! A point is perturbed by less than 2^-63 units, as a scanner is, so that it lies strictly inside exactly one Delaunay cell,
 //! even if it is a vertex or lies on a facet. It is inside if that cell is in the minimum cut with the smallest inside.
 //!

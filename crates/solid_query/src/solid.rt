@@ -1,13 +1,12 @@
 //! The linked cells of a scan, and which of them are inside by the minimum cut with the smallest inside.
 
 ghost use Rattle.std.specs.Prelude.{IfOk};
-ghost use Rattle.scan.specs.Views.{shown_of};
+ghost use Rattle.scan_rows.specs.Views.{shown_of};
 ghost use Rattle.solid_query.specs.Solids.{IsSolid};
 
 use crate::NoMemory;
-use flow_net::{Labels, Settings};
-use host::Watch;
-use scan::Scan;
+use flow_net::{FlowHints, Labels, Settings};
+use scan_rows::Scan;
 use solution::{counted_cells, minimum_cut_of};
 use std::alloc::Global;
 use tetra_store::Tetra;
@@ -22,8 +21,8 @@ pub(crate) struct Solid {
 }
 
 /// Returns the linked cells of a scan, and which of them are inside by the minimum cut with the smallest inside at these
-/// settings. Reports the stages to a progress callback.
-pub(crate) fn solid_of<W: Watch>(
+/// settings. Takes hints from a progress callback, and reports the stages to it.
+pub(crate) fn solid_of<W: FlowHints>(
     alloc: Global,
     scan: &Scan,
     settings: Settings,

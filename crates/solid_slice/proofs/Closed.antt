@@ -9,8 +9,8 @@ use Rattle.std.proofs.lemmas.Bool.Decides.{nat_tests}
 use Rattle.std.proofs.lemmas.List.Elements.{All-head, All-tail}
 use Rattle.std.proofs.lemmas.List.Sums.{sum_by-cons}
 use Rattle.geo_sign.specs.Tetrahedron.{facet_at}
-use Rattle.cell_laws.specs.ClosedLaws.{edges_of, edge_count}
-use Rattle.mesh_ply.specs.Meshes.{IsFace}
+use Rattle.geo_sign.specs.Edges.{edges_of, edge_count}
+use Rattle.mesh.specs.Meshes.{IsFace}
 use Rattle.mesh_edges.specs.Edges.{has_edge, faces_with_edge}
 use Rattle.solid_slice.specs.Laws.{ClosedIsSliced}
 use Rattle.mesh_edges.proofs.Counts.{one_if}

@@ -12,8 +12,8 @@ use Rattle.std.proofs.lemmas.Bool.{false≢true, eqb-true, cases_lt, and_parts, 
 use Rattle.std.proofs.lemmas.List.{map-append, append-nil, get_or_past, get_or_default}
 use Rattle.std.proofs.lemmas.List.Elements.{filter-append}
 use Rattle.geo_sign.specs.Point.{Point}
-use Rattle.mesh_ply.specs.Meshes.{IsFace, below}
-use Rattle.mesh_ply.proofs.Vertices.{filter_below_more}
+use Rattle.mesh.specs.Meshes.{IsFace, below}
+use Rattle.mesh.proofs.Vertices.{filter_below_more}
 use Rattle.mesh_edges.specs.Edges.{has_edge, face_at}
 use Rattle.solid_slice.specs.Cuts.{is_above, is_cut_face, is_cut_at, IsUpEdge, IsDownEdge}
 use Rattle.mesh_edges.specs.Pairs.{key_of, key_of_pair}

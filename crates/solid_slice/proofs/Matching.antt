@@ -13,8 +13,8 @@ use Rattle.std.proofs.lemmas.Bool.{false≢true, cases_lt, cases_eq, eq-eqb}
 use Rattle.std.proofs.lemmas.List.{length-map, get_or-map, take-map, get_or_past, take_all, get_or-set_same, get_or-set_other}
 use Rattle.std.proofs.lemmas.List.Sums.{length-filter}
 use Rattle.geo_sign.specs.Point.{Point}
-use Rattle.mesh_ply.specs.Meshes.{IsFace, below}
-use Rattle.mesh_ply.proofs.Vertices.{length_below, get_or-below}
+use Rattle.mesh.specs.Meshes.{IsFace, below}
+use Rattle.mesh.proofs.Vertices.{length_below, get_or-below}
 use Rattle.mesh_edges.specs.Edges.{has_edge, faces_with_edge, IsBalanced, face_at}
 use Rattle.solid_slice.specs.Cuts.{is_above, is_cut_at}
 use Rattle.solid_slice.specs.Loops.{IsNext}

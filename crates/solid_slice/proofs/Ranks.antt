@@ -6,7 +6,7 @@ use Rattle.std.proofs.lemmas.Bool.{cases_lt}
 use Rattle.std.proofs.lemmas.List.{get_or_append_left, get_or-append_right}
 use Rattle.std.proofs.lemmas.List.Elements.{filter-append}
 use Rattle.std.proofs.lemmas.List.Sums.{sum_by-cons, sum_by_push, sum_by_more, length-filter}
-use Rattle.mesh_ply.specs.Meshes.{below}
+use Rattle.mesh.specs.Meshes.{below}
 use Rattle.mesh_edges.specs.Edges.{face_at}
 use Rattle.mesh_edges.proofs.Counts.{one_if}
 

@@ -7,7 +7,7 @@ use Rattle.std.proofs.lemmas.List.{get_or_default}
 use mir.Syntax.{w32, w64}
 use Rattle.geo_sign.specs.Point.{Point, IsWithin, origin}
 use Rattle.geo_sign.proofs.Bounds.{Held, kept, held, held_kept, held_sub, held_add, held_mul}
-use Rattle.mesh_ply.specs.Meshes.{point_at}
+use Rattle.mesh.specs.Meshes.{point_at}
 use Rattle.solid_slice.specs.Cuts.{is_above}
 
 -- a coordinate, read as 32 bits and stored as 64

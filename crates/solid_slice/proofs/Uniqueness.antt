@@ -13,7 +13,7 @@ use Rattle.std.proofs.lemmas.List.{ext_get_or}
 use Rattle.std.proofs.lemmas.List.Elements.{All-append, All-head, All-tail}
 use Rattle.std.proofs.lemmas.List.Sums.{sum_by-append, get_or-le-sum_by}
 use Rattle.geo_sign.specs.Point.{Point}
-use Rattle.mesh_ply.specs.Meshes.{point_at}
+use Rattle.mesh.specs.Meshes.{point_at}
 use Rattle.solid_slice.specs.Cuts.{is_above, is_cut_at, IsUpEdge, at_height, rise, IsStep}
 use Rattle.mesh_edges.specs.Edges.{face_at, ComesFirst, IsBalanced, IsFirstUnbalanced}
 use Rattle.solid_slice.specs.Laws.{SliceIsOne, RefusalIsOne, BalancedIsSliced}

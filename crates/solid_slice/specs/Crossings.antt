@@ -1,14 +1,14 @@
 -- The faces that cross the height, by the edges that cross it.
 --
 --   goes_up points h u v         whether u is below the height and v above
---   key_of_crossing c            the number of a crossing's edge
---   the_crossed c                its face
+--   key_of_crossing c            the number of the edge of a crossing, by which pairs of vertices are in order
+--   the_crossed c                the face of a crossing
 --   crossings_at edge f          the crossing of face f on this edge, if there is one
 --   faces_of_pair k crossings    the faces of the crossings whose edge has this number
 --   AreCrossings points faces h n ups downs   the crossings of the first n faces, upwards and downwards
 use Rattle.std.specs.Prelude.{ℕ, ◌≡◌, ◌<◌, ◌^◌, ◌==◌, ◌&&◌, not, Bool, Option, None, Some, List, [], ◌∷◌, map, filter, ℤ}
 use Rattle.geo_sign.specs.Point.{Point}
-use Rattle.mesh_ply.specs.Meshes.{below}
+use Rattle.mesh.specs.Meshes.{below}
 use Rattle.mesh_edges.specs.Edges.{has_edge, face_at}
 use Rattle.solid_slice.specs.Cuts.{is_above}
 use Rattle.mesh_edges.specs.Pairs.{key_of, key_of_pair}

@@ -1,18 +1,20 @@
 -- Faces that the height h + 1/2 cuts. No vertex has this height.
 --
---   is_above points h v           whether vertex v is above the height
+--   is_above points h v           vertex v is above the plane of the slice. The plane is at the height h + 1/2, so no
+--                                 vertex is on it
 --   is_cut_face points h face     whether the face has vertices above and below
 --   is_cut_at points faces h f    whether face number f is cut
 --   IsUpEdge points h face u v    the edge from u to v is one of the face's, and crosses the height upwards
---   IsDownEdge points h face u v  it is one of the face's, and crosses the height downwards
---   rise u v, climb h u           twice the heights from u to v, and from u to h + 1/2
---   at_height h u v from to       the coordinate where the edge from u to v crosses the height, times its rise
---   IsStep points faces h s       the step's point is that of its face: the one on the face's up edge
+--   IsDownEdge points h face u v  the edge from u to v is one of the face's, and crosses the height downwards
+--   rise u v                      twice the height of an edge
+--   climb h u                     twice the height from its first vertex to the plane
+--   at_height h u v from to       a coordinate of the edge's point in the plane, times the rise
+--   IsStep points faces h s       the point of the step is where the up edge of its face meets the plane
 use Rattle.std.specs.Prelude.{ℕ, ◌≡◌, ◌&&◌, not, Bool, true, false, List, ℤ, pos, ◌+ℤ◌, ◌-ℤ◌, ◌*ℤ◌}
 use Rattle.std.specs.Int.Signed.{lt_z}
 use Rattle.std.specs.List.{list_any}
 use Rattle.geo_sign.specs.Point.{Point}
-use Rattle.mesh_ply.specs.Meshes.{point_at}
+use Rattle.mesh.specs.Meshes.{point_at}
 use Rattle.mesh_edges.specs.Edges.{has_edge, face_at}
 use Rattle.solid_slice.specs.declared.step.Step.{Step}
 

@@ -1,15 +1,17 @@
 -- Properties of all slices.
 --
---   SliceIsOne              a mesh has one slice at a height
---   RefusalIsOne            a mesh has one error, except out of memory
+--   SliceIsOne              a mesh has at most one slice at a height
+--   RefusalIsOne            as a slice a mesh has at most one error, besides out of memory
 --   LacksMemoryAlone faces  only out of memory rejects these faces
---   BalancedIsSliced        this holds if each directed edge occurs as often as its reverse
---   ClosedIsSliced          only out of memory rejects a closed mesh
+--   BalancedIsSliced        if each directed edge of some faces occurs as often as its reverse (`IsBalanced`), the only
+--                           error of a slice is out of memory (`LacksMemoryAlone`)
+--   ClosedIsSliced          if each directed edge of a valid mesh occurs as often as its reverse, counted by
+--                           `edge_count`, the only error of a slice is out of memory
 use Rattle.std.specs.Prelude.{ℕ, ℤ, ◌≡◌, ◌≢◌, List, map}
 use Rattle.geo_sign.specs.Point.{Point}
 use Rattle.geo_sign.specs.Tetrahedron.{facet_at}
-use Rattle.cell_laws.specs.ClosedLaws.{edge_count}
-use Rattle.mesh_ply.specs.Meshes.{IsMesh}
+use Rattle.geo_sign.specs.Edges.{edge_count}
+use Rattle.mesh.specs.Meshes.{IsMesh}
 use Rattle.mesh_edges.specs.Edges.{IsBalanced}
 use Rattle.solid_slice.specs.Refusals.{IsRefusedSlice}
 use Rattle.solid_slice.specs.Slices.{IsSlice}

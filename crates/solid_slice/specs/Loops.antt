@@ -1,8 +1,11 @@
 -- The loops of cut faces.
 --
---   IsNext points faces h f g     g is the next face of f
+--   IsNext points faces h f g     face g follows f: the up edge of g is the reverse of the down edge of f. If several
+--                                 faces have that edge, the i-th face with the down edge is followed by the i-th with
+--                                 the up edge, in the order of faces
 --   IsLoop points faces h ring    the ring's faces, each the next of the one before, round the ring, the smallest first
---   the_face s, ring_faces r      the faces of a ring's steps
+--   the_face s                    the face of a step
+--   ring_faces r                  the faces of a ring
 --   AreLoops points faces h rings
 --                                 each cut face in exactly one ring, once, and the rings sorted by their first faces
 use Rattle.std.specs.Prelude.{ℕ, ◌≡◌, ◌+◌, ◌-◌, ◌<◌, ◌≤◌, ◌==◌, List, [], length, take, slice_index, slice_index_or, map, All}

@@ -4,7 +4,7 @@ use Rattle.mesh_edges.specs.Edges.{IsFirstUnbalanced}
 use Rattle.solid_slice.specs.declared.refusal.SliceRefusal.{SliceRefusal}
 use Rattle.solid_slice.specs.declared.refusal.SliceRefusal.TheVariants.{Unbalanced, NoMemory}
 
--- the error states a property of the faces, and out of memory says nothing about them
+-- the error names the smallest unbalanced pair; out of memory states nothing
 abbrev pub IsRefusedSlice : List (List ℕ) → SliceRefusal → Type 0
 IsRefusedSlice faces (Unbalanced from to there back) = IsFirstUnbalanced faces from to there back
 IsRefusedSlice faces NoMemory = Unit {0}

@@ -1,7 +1,7 @@
 -- The slice of a mesh.
 --
---   steps_of ring                 a ring's steps
---   IsSlice points faces h rings  the loops of all cut faces, each face with its point
+--   steps_of ring                 the steps of a ring
+--   IsSlice points faces h rings  the rings are the loops of all cut faces, and each step has the point of its face
 use Rattle.std.specs.Prelude.{ℕ, List, map, All, ℤ}
 use Rattle.geo_sign.specs.Point.{Point}
 use Rattle.solid_slice.specs.Cuts.{IsStep}

@@ -1,7 +1,7 @@
 -- Following next faces.
 --
 --   IsSuccession points faces h next    the list gives each cut face its next face
---   is_visited visited f, visits        whether face f was visited, or is none, and this as 0 or 1
+--   is_visited visited f, visits        whether face f was visited, or f is no face; the same as a number, 0 or 1
 --   IsBetweenLoops points faces h next visited   whole loops were visited, and the faces that are not cut
 use Rattle.std.specs.Prelude.{ℕ, ◌≡◌, Bool, true, false, List, length, slice_index, slice_index_or, if◌then◌else◌, ℤ}
 use Rattle.geo_sign.specs.Point.{Point}

@@ -2,7 +2,7 @@
 
 ghost use Rattle.std.specs.Prelude.{◌≡◌, ◌++◌, ℕ, OnOk, IfOk, length, map};
 ghost use Rattle.std.specs.List.Sorted.{IsNonDecreasingBy};
-ghost use Rattle.mesh_ply.specs.Meshes.{IsMesh};
+ghost use Rattle.mesh.specs.Meshes.{IsMesh};
 ghost use Rattle.mesh_edges.specs.Edges.{IsBalanced};
 ghost use Rattle.solid_slice.specs.Crossings.{crossings_at, key_of_crossing, faces_of_pair, AreCrossings};
 

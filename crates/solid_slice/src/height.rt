@@ -1,7 +1,7 @@
 //! Which vertices are above the height, and the edges of a face that cross it.
 
 ghost use Rattle.std.specs.Prelude.{◌≡◌, ◌+◌, ◌<◌, ◌≤◌, ◌^◌, IfSome, IfNone, true, false, length, unsigned_abs, ◌+ℤ◌, ◌-ℤ◌, ◌*ℤ◌};
-ghost use Rattle.mesh_ply.specs.Meshes.{IsFace, IsMesh, point_at};
+ghost use Rattle.mesh.specs.Meshes.{IsFace, IsMesh, point_at};
 ghost use Rattle.solid_slice.specs.Cuts.{is_above, is_cut_face, is_cut_at, IsUpEdge, IsDownEdge, IsStep, at_height, rise};
 
 use crate::Mesh;

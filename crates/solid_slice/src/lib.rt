@@ -1,5 +1,7 @@
 //! Slices a mesh: computes the closed loops in which a horizontal plane cuts its faces.
 //!
+//! Verified: `slice` returns the exact closed loops of a closed mesh in a horizontal plane (`closed_meshes_are_sliced`).
+//!
 //! The plane is at the height `h + 1/2`, so no vertex lies in it. A face with vertices above and below has one directed edge
 //! that crosses the plane upwards, which gives its point, and one that crosses it downwards. If each directed edge of the mesh
 //! occurs as often as its reverse, the faces with a down edge and those with its reverse as up edge are matched in face order,
@@ -24,7 +26,7 @@ mod successors;
 mod text;
 
 pub use laws::{closed_meshes_are_sliced, slices_are_unique};
-pub use mesh_ply::{Mesh, NoMemory};
+pub use mesh::{Mesh, NoMemory};
 pub use refusal::SliceRefusal;
 pub use slicing::slice;
 pub use step::{Ring, Step};

@@ -1,7 +1,7 @@
 //! Computes loops by following next faces.
 
 ghost use Rattle.std.specs.Prelude.{◌≡◌, ◌+◌, ◌<◌, ◌==◌, ℕ, true, false, not, IfOk, All, map, count_by, slice_index};
-ghost use Rattle.mesh_ply.specs.Meshes.{IsMesh};
+ghost use Rattle.mesh.specs.Meshes.{IsMesh};
 ghost use Rattle.solid_slice.specs.Cuts.{is_cut_face, IsStep};
 ghost use Rattle.solid_slice.specs.Loops.{the_face, ring_faces, IsLoop, AreLoops};
 ghost use Rattle.solid_slice.specs.Walks.{IsSuccession, is_visited, visits, IsBetweenLoops};

@@ -1,7 +1,7 @@
 //! Slices of meshes.
 
 ghost use Rattle.std.specs.Prelude.{◌≤◌, IfOk, IfErr, length, map, sum_by};
-ghost use Rattle.mesh_ply.specs.Meshes.{IsMesh};
+ghost use Rattle.mesh.specs.Meshes.{IsMesh};
 ghost use Rattle.mesh_edges.specs.Edges.{IsBalanced};
 ghost use Rattle.solid_slice.specs.Slices.{steps_of, IsSlice};
 ghost use Rattle.solid_slice.specs.Refusals.{IsRefusedSlice};

@@ -3,7 +3,7 @@
 ghost use Rattle.std.specs.Prelude.{◌≡◌, IfOk, length, map};
 ghost use Rattle.solid_slice.specs.Crossings.{key_of_crossing, AreCrossings};
 ghost use Rattle.solid_slice.specs.Walks.{IsSuccession};
-ghost use Rattle.mesh_ply.specs.Meshes.{IsMesh};
+ghost use Rattle.mesh.specs.Meshes.{IsMesh};
 
 use crate::crossings::Crossings;
 use crate::{Mesh, NoMemory};

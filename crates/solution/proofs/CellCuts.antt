@@ -10,7 +10,7 @@ use Rattle.flow_net.specs.NumberedFlows.{IsValidFlow, IsLeastInside, cost_of, va
 use Rattle.flow_net.specs.declared.Flow.{Flow}
 use Rattle.flow_net.specs.declared.Labels.{Labels}
 use Rattle.flow_net.specs.declared.votes.Settings.{Settings}
-use Rattle.scan.specs.Shown.{Shown, IsShown}
+use Rattle.scan_rows.specs.Shown.{Shown, IsShown}
 use Rattle.solution.specs.Scans.{scene_of_scan}
 use Rattle.solution.proofs.LeastCosts.{least_cost_law}
 use Rattle.tetra_store.specs.declared.link.Cell.{Cell}

@@ -1,9 +1,9 @@
 -- The certificate of labels and a flow over cells and facets.
 use Rattle.std.proofs.Common.{ℕ, ◌≡◌, refl, ap, sym, ◌∙◌, Bool, List, [], get_or, map, filter, AllPairs, Contains}
 use Rattle.std.proofs.lemmas.List.{get_or-map}
-use Rattle.cert_text.specs.Certificates.{Claim}
-use Rattle.cert_text.specs.declared.certificate.FlowRow.{FlowRow}
-use Rattle.cert_text.specs.declared.certificate.SinkRow.{SinkRow}
+use Rattle.certificate.specs.Certificates.{Claim}
+use Rattle.certificate.specs.declared.certificate.FlowRow.{FlowRow}
+use Rattle.certificate.specs.declared.certificate.SinkRow.{SinkRow}
 use Rattle.flow_net.proofs.Correspondences as judged
 use Rattle.flow_net.proofs.Correspondences.{itself}
 use Rattle.geo_sign.specs.Rising.{IsBefore}

@@ -12,13 +12,13 @@ use Rattle.geo_sign.specs.Sights.{is_behind}
 use Rattle.geo_sign.specs.Vertices.{boxed_vertices}
 use Rattle.merge.specs.Merging.{index_among}
 use Rattle.merge.proofs.Distinct.{distinct}
-use Rattle.scan.specs.Shown.{Shown, IsSeen, IsShown}
-use Rattle.scan.specs.declared.scan.Seen.{Seen}
+use Rattle.scan_rows.specs.Shown.{Shown, IsSeen, IsShown}
+use Rattle.scan_rows.specs.declared.scan.Seen.{Seen}
 use Rattle.visibility.specs.Laws.{HasOneBehind}
 use Rattle.visibility.specs.Scenes.{scanner_point}
 use Rattle.visibility.proofs.SightCosts.{least_cost_is_small}
 use Rattle.solution.specs.Laws.{LeastCostLaw}
-use Rattle.mesh_ply.specs.Meshes.{point_at}
+use Rattle.mesh.specs.Meshes.{point_at}
 use Rattle.solution.specs.Scans.{points_of, sight_of, scene_of_scan}
 use Rattle.solution.proofs.ScanScenes.{points_within}
 use Rattle.solution.proofs.SightLists.{no_sight, seen_at, index_below, sight_count, sight_list}

@@ -1,8 +1,8 @@
 -- A mesh by its parts.
 use Rattle.std.proofs.Common.{ℕ, ◌≡◌, ◌∙◌, ap, List}
 use Rattle.geo_sign.specs.Point.{Point}
-use Rattle.mesh_ply.specs.Meshes.{mesh_of}
-use Rattle.mesh_ply.specs.declared.mesh.Mesh.{Mesh}
+use Rattle.mesh.specs.Meshes.{mesh_of}
+use Rattle.mesh.specs.declared.mesh.Mesh.{Mesh}
 use Rattle.solution.specs.Solutions.{surface_of}
 
 -- the mesh of these points and facets, by its parts

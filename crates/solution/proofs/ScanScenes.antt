@@ -6,7 +6,7 @@ use Rattle.geo_sign.specs.Point.{IsWithin, origin}
 use Rattle.geo_sign.specs.declared.point.TheConstants.{DATA_LIMIT}
 use Rattle.geo_sign.proofs.Corners.{apart}
 use Rattle.merge.proofs.Distinct.{distinct, keep}
-use Rattle.scan.specs.Shown.{Shown, IsShown}
+use Rattle.scan_rows.specs.Shown.{Shown, IsShown}
 use Rattle.visibility.specs.SceneViews.{IsSightOf}
 use Rattle.solution.specs.Scans.{points_of, sight_of, sights_of}
 use Rattle.solution.proofs.SightLists.{no_sight, seen_at, index_below, sight_count}

@@ -8,13 +8,13 @@ use Rattle.geo_sign.specs.Point.{origin}
 use Rattle.merge.specs.Merging.{index_among}
 use Rattle.merge.proofs.Distinct.{few}
 use Rattle.merge.proofs.Indices.{each_stands}
-use Rattle.scan.proofs.ShownLemmas.{scan_is_shown}
-use Rattle.scan.specs.ScanRows.{point_limit}
-use Rattle.scan.specs.Shown.{Shown, IsSeen, IsShown}
-use Rattle.scan.specs.Views.{shown_of}
-use Rattle.scan.specs.declared.scan.Scan.{Scan}
-use Rattle.scan.specs.declared.scan.Seen.{Seen}
-use Rattle.mesh_ply.specs.Meshes.{point_at}
+use Rattle.scan_rows.proofs.ShownLemmas.{scan_is_shown}
+use Rattle.scan_rows.specs.ScanRows.{point_limit}
+use Rattle.scan_rows.specs.Shown.{Shown, IsSeen, IsShown}
+use Rattle.scan_rows.specs.Views.{shown_of}
+use Rattle.scan_rows.specs.declared.scan.Scan.{Scan}
+use Rattle.scan_rows.specs.declared.scan.Seen.{Seen}
+use Rattle.mesh.specs.Meshes.{point_at}
 use Rattle.solution.specs.Scans.{points_of, sight_of, sights_of, scene_of_scan}
 
 abbrev pub no_sight : Seen

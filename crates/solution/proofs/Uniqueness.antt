@@ -2,10 +2,10 @@
 use Rattle.std.proofs.Common.{ℕ, suc, ◌≡◌, ◌&&◌, ◌++◌, not, refl, ap, ap₂, sym, subst, ◌∙◌, arith, Bool, cond, List, []}
 use Rattle.std.proofs.Common.{◌∷◌, filter, Contains}
 use Rattle.geo_sign.proofs.Booleans.{same_bools}
-use Rattle.cert_text.specs.Certificates.{Counts}
+use Rattle.certificate.specs.Certificates.{Counts}
 use Rattle.flow_net.proofs.Correspondences.{itself, ends_say}
 use Rattle.geo_sign.specs.Vertices.{corners}
-use Rattle.mesh_ply.specs.Meshes.{mesh_of}
+use Rattle.mesh.specs.Meshes.{mesh_of}
 use Rattle.visibility.specs.Scenes.{Scene}
 use Rattle.visibility.specs.Complexes.{Complex}
 use Rattle.visibility.specs.Votes.{IsComplexOf}

@@ -11,7 +11,8 @@ use Rattle.geo_sign.specs.Rational.{displaced}
 use Rattle.geo_sign.specs.Sights.{is_crossed}
 use Rattle.geo_sign.specs.Tetrahedron.{facet_of}
 use Rattle.cell_laws.specs.Links.{Side}
-use Rattle.cell_laws.specs.Lists.{count, one_if}
+use Rattle.cell_laws.specs.Lists.{count}
+use Rattle.geo_sign.specs.Edges.{one_if}
 use Rattle.cell_laws.specs.Paths.{is_that}
 use Rattle.cell_laws.proofs.OneFacet.{same_side}
 use Rattle.cell_laws.proofs.SightPaths.{that_is, that_itself, count_none}

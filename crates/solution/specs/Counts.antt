@@ -1,15 +1,17 @@
 -- Counts by the numbers of cells in the store.
 --
---   IsInRange v scanners sight                    it is from an inserted data point to one of the scanners
---   HasCellsOf s given                            the store has the Delaunay cells of the scene's points
---   added_by sight                                the weight that a sight adds to each count
---   sum_where test sights                         the total weight of the sights that pass a test
+--   IsInRange v scanners sight                    the sight is of a data point that is in, from one of the scanners
+--   HasCellsOf s given                            the store has the Delaunay cells of the box's corners and the points
+--                                                 that are given, all inserted
+--   added_by sight                                what a sight adds to a count: its weight
+--   sum_where test sights                         what the sights that pass a test add together
 --   is_crossed_at s p q id k                      the number has a cell, and the sight crosses its facet k
 --   is_behind_at s p q id                         the number has a cell, and it is behind the sight
 --   IsScannerCell s q id                          the cell is that of the scanner at q, and the only one
 --   AreScannerCells s scanners cells              the cells are those of the scanners, in their order
---   AreCounted s scanners sights crossed behind   the counters are the total weights of the sights that cross each facet, and
---                                                 of those that each cell is behind
+--   AreCounted s scanners sights crossed behind   the counter at 4 * id + k is what the sights that cross facet k of
+--                                                 the cell id add. The counter at id is what the sights that the cell
+--                                                 is behind add
 use Rattle.std.specs.Prelude.{ℕ, ◌≡◌, ◌<◌, ◌≤◌, ◌+◌, ◌*◌, ◌++◌, ◌&&◌, Bool, true, false, List, length, slice_index}
 use Rattle.std.specs.Prelude.{slice_index_or, if◌then◌else◌}
 use Rattle.std.specs.List.{sum_by}

@@ -4,10 +4,10 @@
 --   LeastCostLaw    the least cost of a scan's surface is below 2^47, however many points it has
 --   SolutionLaw     two solutions of one scan at the same settings are the same except for the flow
 use Rattle.std.specs.Prelude.{ℕ, ◌≡◌, ◌<◌, ◌^◌, Bool, List}
-use Rattle.cert_text.specs.Certificates.{Claim}
+use Rattle.certificate.specs.Certificates.{Claim}
 use Rattle.flow_net.specs.declared.votes.Settings.{Settings}
-use Rattle.mesh_ply.specs.Meshes.{Surface}
-use Rattle.scan.specs.Shown.{Shown, IsShown}
+use Rattle.mesh.specs.Meshes.{Surface}
+use Rattle.scan_rows.specs.Shown.{Shown, IsShown}
 use Rattle.solution.specs.Scans.{scene_of_scan}
 use Rattle.solution.specs.Solutions.{IsSolution}
 use Rattle.visibility.specs.Complexes.{Complex}

@@ -1,23 +1,30 @@
 -- The best surface of a scan, and the certificate of its optimality.
 --
 --   stated about amount rows key    the amount of the row with this key, or 0
---   flow_on claim, sink_at claim    the flow that a certificate's own rows state
+--   flow_on claim, sink_at claim    the amounts that a certificate's own rows state for a facet and for a sink, 0 if
+--                                   there is no row
 --   listed make keys amounts        a row for each key whose amount is not 0
 --   flow_rows, sink_rows            these rows for facets and for cells
---   HasCounts                       a certificate has the scan's counts and weights
+--   HasCounts                       a certificate has the scan's numbers of points, scanners and sights, and the
+--                                   visibility weight and the area weight
 --   IsCertificate                   a certificate states these labels and a flow whose value is their cost
---   IsSolution                      the surface and the certificate of the minimum cut with the smallest inside
+--   IsSolution scan settings mesh claim
+--                                   the main definition, over all cells and all facets with a capacity. The mesh has
+--                                   the facets of outside cells with an inside adjacent cell, in the minimum cut with
+--                                   the smallest inside. The certificate has the numbers of points, scanners and
+--                                   sights, the two weights, the cost of these labels, exactly the inside cells, and a
+--                                   valid flow whose value is the cost
 --   surface_of mesh                 a mesh's points and faces
 use Rattle.std.specs.Prelude.{ℕ, ◌≡◌, ◌==◌, ◌++◌, not, Bool, List, [], ◌∷◌, length, map, filter, if◌then◌else◌}
 use Rattle.std.specs.Str.{bytes_eq}
-use Rattle.cert_text.specs.Certificates.{Claim}
-use Rattle.cert_text.specs.declared.certificate.FlowRow.{FlowRow}
-use Rattle.cert_text.specs.declared.certificate.SinkRow.{SinkRow}
+use Rattle.certificate.specs.Certificates.{Claim}
+use Rattle.certificate.specs.declared.certificate.FlowRow.{FlowRow}
+use Rattle.certificate.specs.declared.certificate.SinkRow.{SinkRow}
 use Rattle.flow_net.specs.declared.votes.Settings.{Settings}
 use Rattle.geo_sign.specs.Vertices.{corners, boxed_vertices}
-use Rattle.mesh_ply.specs.Meshes.{Surface, mesh_of}
-use Rattle.mesh_ply.specs.declared.mesh.Mesh.{Mesh}
-use Rattle.scan.specs.Shown.{Shown}
+use Rattle.mesh.specs.Meshes.{Surface, mesh_of}
+use Rattle.mesh.specs.declared.mesh.Mesh.{Mesh}
+use Rattle.scan_rows.specs.Shown.{Shown}
 use Rattle.visibility.specs.Scenes.{Scene}
 use Rattle.visibility.specs.Complexes.{Complex}
 use Rattle.visibility.specs.Votes.{IsComplexOf}

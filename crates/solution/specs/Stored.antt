@@ -1,13 +1,16 @@
 -- The linked cells of a scan.
 --
 --   AreRowsOf slots cells          the list has the sorted vertex tuple of each live cell, and nothing else
---   IsStoreOf scan settings s      the Delaunay cells of the scan's points, all inserted, as in a solution
+--   IsStoreOf scan settings s      a store of the corners and a scan's distinct points, all inserted. Its linked cells
+--                                  are exactly their Delaunay cells (`IsDelaunay`), a partition of the box
+--                                  (`IsPartition`). The cells of each complex of the scan are the sorted vertex tuples
+--                                  of these
 use Rattle.std.specs.Prelude.{ℕ, ◌≡◌, ◌<◌, ◌++◌, true, false, List, Option, length, slice_index_or, Contains}
 use Rattle.delaunay.specs.Partition.{IsPartition}
 use Rattle.flow_net.specs.declared.votes.Settings.{Settings}
 use Rattle.geo_sign.specs.RowLaws.{IsRowOf}
 use Rattle.geo_sign.specs.Vertices.{corners, boxed_vertices}
-use Rattle.scan.specs.Shown.{Shown}
+use Rattle.scan_rows.specs.Shown.{Shown}
 use Rattle.solution.specs.Scans.{points_of, scene_of_scan}
 use Rattle.tetra_store.specs.Delaunay.{IsDelaunay}
 use Rattle.tetra_store.specs.Links.{links_of, IsLive}

@@ -15,9 +15,9 @@ use crate::tally::{count_behind, line_of};
 use beam::{Beams, Ray};
 use flow_net::Sight;
 use geo_sign::Point;
-use host::Watch;
 use std::alloc::Global;
 use tetra_store::{CellId, Tetra};
+use watch::Watch;
 
 /// The most sights that are followed at once: so that they stay in a cache.
 const MOST_AT_ONCE: usize = 16_384;

@@ -2,7 +2,7 @@
 //! cells.
 
 ghost use Rattle.std.specs.Prelude.{◌≡◌, ◌<◌, ◌^◌, IfOk, length};
-ghost use Rattle.scan.specs.Views.{shown_of};
+ghost use Rattle.scan_rows.specs.Views.{shown_of};
 ghost use Rattle.solution.specs.Scans.{points_of, scene_of_scan, sights_of};
 ghost use Rattle.tetra_store.specs.Delaunay.{IsDelaunay};
 ghost use Rattle.tetra_store.specs.Links.{links_of};
@@ -15,10 +15,10 @@ use crate::counting::{Votes, counted};
 use crate::sights::{SeenPoints, seen_in};
 use delaunay::build_watched;
 use flow_net::Settings;
-use host::Watch;
-use scan::Scan;
+use scan_rows::Scan;
 use std::alloc::Global;
 use tetra_store::Tetra;
+use watch::Watch;
 
 /// Returns the linked Delaunay cells of a scan's points, and the accumulated visibility weights of its sights. Reports both
 /// stages to a progress callback. The only error is out of memory, also for 2^32 numbers of cells and more.

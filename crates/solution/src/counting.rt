@@ -20,10 +20,10 @@ use crate::tally::{Counts, count_sights};
 use cell_net::StoreCounts;
 use flow_net::Sight;
 use geo_sign::Point;
-use host::{Stage, Watch};
 use std::alloc::{AllocError, Global};
 use tetra_store::{CellId, Tetra};
 use visibility::Scene;
+use watch::{Stage, Watch};
 
 /// Accumulated visibility weights of a scene's sights, by the numbers of cells in the store. A number without a cell has
 /// meaningless entries.

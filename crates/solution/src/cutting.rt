@@ -1,7 +1,7 @@
 //! The minimum cut over linked cells and counts. Depends on these as a network, and on `max_flow`.
 
 ghost use Rattle.std.specs.Prelude.{◌<◌, ◌^◌, IfOk, length};
-ghost use Rattle.scan.specs.Views.{shown_of};
+ghost use Rattle.scan_rows.specs.Views.{shown_of};
 ghost use Rattle.solution.specs.Scans.{scene_of_scan};
 ghost use Rattle.cell_net.specs.Counts.{AreCountsOf};
 ghost use Rattle.solution.specs.MinimumCuts.{IsCutOf};
@@ -9,10 +9,9 @@ ghost use Rattle.solution.specs.MinimumCuts.{IsCutOf};
 use crate::NoMemory;
 use crate::counting::Votes;
 use cell_net::CellNetwork;
-use flow_net::{Flow, Labels, Settings, cost};
-use host::Watch;
+use flow_net::{Flow, FlowHints, Labels, Settings, cost};
 use max_flow::minimum_cut;
-use scan::Scan;
+use scan_rows::Scan;
 use std::alloc::Global;
 use tetra_store::Tetra;
 
@@ -28,12 +27,12 @@ pub struct MinimumCut {
     pub cost: u64,
 }
 
-/// Returns the minimum cut of a scan's cells. Their counts are freed before it returns. Reports the stage to a progress
-/// callback. The only error is out of memory.
+/// Returns the minimum cut of a scan's cells. Their counts are freed before it returns. Takes hints from a progress callback, and
+/// reports the stage to it. The only error is out of memory.
 ///
 /// The cost fits, since it is no more than that of labelling all cells outside, which is below 2^47: each sight has one cell
 /// behind it.
-pub fn minimum_cut_of<W: Watch>(
+pub fn minimum_cut_of<W: FlowHints>(
     alloc: Global,
     scan: &Scan,
     settings: Settings,

@@ -1,5 +1,11 @@
 //! Defines the best surface of a scan and the certificate of its optimality, and finds the minimum cut that it is.
 //!
+//! Verified: `counted` returns all weights exactly, `minimum_cut_of` the minimum cut; `IsSolution` defines the best surface.
+//! `counted` returns, for each directed facet and each cell, the total weight that all lines of sight give it.
+//! `counted_cells` returns the cells of a scan with these weights, and `minimum_cut_of` their minimum cut with the
+//! smallest inside. Two solutions of a scan differ only in the flows of their certificates
+//! (`solutions_differ_in_their_flows_alone`).
+//!
 //! The cells of a Delaunay tetrahedralization are labelled inside or outside by a minimum cut, in which each line of sight
 //! penalises the facets that it crosses and favours the cell behind its point as inside (Labatut, Pons and Keriven 2007 and
 //! 2009, in integers). `specs/Solutions` defines a solution, over cells and directed facets alone, and `specs/Scans` the scene

@@ -2,7 +2,7 @@
 
 ghost use Rattle.std.specs.Prelude.{◌≡◌, IfOk, map};
 ghost use Rattle.merge.specs.Merging.{index_among};
-ghost use Rattle.scan.specs.Views.{shown_of};
+ghost use Rattle.scan_rows.specs.Views.{shown_of};
 ghost use Rattle.visibility.specs.SceneViews.{view_of, IsSound};
 ghost use Rattle.solution.specs.Scans.{points_of, scene_of_scan, sights_of as sights_in};
 
@@ -10,7 +10,7 @@ use crate::NoMemory;
 use flow_net::{Settings, Sight};
 use geo_sign::{CORNERS, Point};
 use merge::merge;
-use scan::Scan;
+use scan_rows::Scan;
 use std::alloc::Global;
 use visibility::Scene;
 

@@ -15,11 +15,11 @@ ghost use Rattle.solution.specs.Lines.{IsLineOf, IsLineIn, added_on, added_behin
 use crate::NoMemory;
 use flow_net::Sight;
 use geo_sign::Point;
-use host::{Watch, tell};
 use sight::{SightWalk, walk_into};
 use std::alloc::{AllocError, Global};
 use tetra_store::{CellId, MOST_CELLS, Tetra};
 use tetra_walk::behind;
+use watch::{Watch, tell};
 
 /// Accumulated visibility weights: `crossed[4 * id + side]` per directed facet, and `behind[id]` for the cell behind each
 /// sight's point.

@@ -14,12 +14,13 @@ use Rattle.geo_sign.specs.Tetrahedron.{Tetrahedron, DirectedFacet, facet_of, fac
 use Rattle.geo_sign.specs.Point.{Point}
 use Rattle.geo_sign.specs.Vertices.{Vertices}
 use Rattle.geo_sign.proofs.Members.{here, there}
-use Rattle.cell_laws.specs.ClosedLaws.{edges_of, edge_count, facets_at, IsCutList}
+use Rattle.geo_sign.specs.Edges.{edges_of, edge_count}
+use Rattle.cell_laws.specs.ClosedLaws.{facets_at, IsCutList}
 use Rattle.cell_laws.specs.Links as laws
 use Rattle.cell_laws.specs.Lists.{IsIn}
 use Rattle.cell_laws.proofs.Closedness.{AreMatched, closed_sides as sides_are_closed}
 use Rattle.cell_laws.proofs.RisingRows as rows
-use Rattle.mesh_ply.specs.Meshes.{IsFace, IsFaceList, mesh_of, new_number}
+use Rattle.mesh.specs.Meshes.{IsFace, IsFaceList, mesh_of, new_number}
 use Rattle.visibility.specs.Votes.{has_corner}
 use Rattle.tetra_store.specs.declared.link.Cell.{Cell}
 use Rattle.tetra_store.specs.Links.{links_of, IsLinked, IsLive}

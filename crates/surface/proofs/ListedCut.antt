@@ -7,7 +7,7 @@ use Rattle.std.proofs.lemmas.List.Sums.{passes_at_first}
 use Rattle.flow_net.specs.Nets.{flag_at}
 use Rattle.geo_sign.specs.Point.{Point}
 use Rattle.geo_sign.specs.Vertices.{Vertices}
-use Rattle.mesh_ply.specs.declared.mesh.Mesh.{Mesh}
+use Rattle.mesh.specs.declared.mesh.Mesh.{Mesh}
 use Rattle.visibility.specs.Scenes.{Scene}
 use Rattle.visibility.specs.Complexes.{Complex}
 use Rattle.visibility.proofs.Indices.{first_within}

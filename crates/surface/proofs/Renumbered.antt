@@ -7,11 +7,12 @@ use Rattle.std.specs.List.{sum_by}
 use Rattle.std.proofs.lemmas.Bool.{cases_eq, eqb-true, eq-eqb, false_from_ne_true}
 use Rattle.std.proofs.lemmas.List.Sums.{sum_by-cons}
 use Rattle.geo_sign.specs.Tetrahedron.{DirectedFacet, facet}
-use Rattle.cell_laws.specs.ClosedLaws.{one_edge, edges_of, edge_count}
-use Rattle.cell_laws.specs.Lists.{IsIn, one_if}
+use Rattle.geo_sign.specs.Edges.{one_edge, edges_of, edge_count}
+use Rattle.cell_laws.specs.Lists.{IsIn}
+use Rattle.geo_sign.specs.Edges.{one_if}
 use Rattle.cell_laws.proofs.Sums.{total, pick, sum_same, sum_plus, sum_sum}
 use Rattle.cell_laws.proofs.CutSides.{flip}
-use Rattle.mesh_ply.specs.Meshes.{below}
+use Rattle.mesh.specs.Meshes.{below}
 
 -- ---- sums
 pub total_is : {X : Type 0} (f : X → ℕ) (xs : List X) → sum_by f xs ≡ total f xs

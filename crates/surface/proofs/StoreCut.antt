@@ -13,7 +13,7 @@ use Rattle.geo_sign.specs.Vertices.{Vertices}
 use Rattle.geo_sign.proofs.CellRows.{AreDistinct, distinct}
 use Rattle.geo_sign.proofs.Rotations.{rotated_after, rotated_back}
 use Rattle.cell_laws.proofs.OneFacet.{one_side}
-use Rattle.mesh_ply.specs.Meshes.{IsFace, IsFaceList}
+use Rattle.mesh.specs.Meshes.{IsFace, IsFaceList}
 use Rattle.tetra_store.specs.declared.link.Cell.{Cell}
 use Rattle.tetra_store.specs.Links.{links_of, IsLinked, IsLive}
 use Rattle.cell_net.specs.declared.sides.Side.{Side}

@@ -1,9 +1,9 @@
 -- Closed faces.
 --
---   IsClosed faces     each directed edge occurs as often as its reverse
+--   IsClosed faces     each directed edge occurs as often as its reverse, counted by `edges_of` of `cell_laws`
 use Rattle.std.specs.Prelude.{ℕ, ◌≡◌, List, map}
 use Rattle.geo_sign.specs.Tetrahedron.{facet_at}
-use Rattle.cell_laws.specs.ClosedLaws.{edge_count}
+use Rattle.geo_sign.specs.Edges.{edge_count}
 
 -- faces by their three numbers
 abbrev pub IsClosed : List (List ℕ) → Type 0

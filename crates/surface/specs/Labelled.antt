@@ -4,24 +4,26 @@
 --   AreAllLive slots ids                      all live cells, each once
 --   listed_label ids labels id                the label of a cell, if the labels are in the order of a list of cells
 --   NoneHasCorner slots inside                no cell inside has a corner of the box
---   IsCutFacet slots inside facet             a facet of an outside cell whose adjacent cell is inside
---   AreCutFacets slots inside facets          all of these, ascending
+--   IsCutFacet slots inside facet             the facet of a live outside cell whose adjacent cell is inside, the least
+--                                             vertex first
+--   AreCutFacets slots inside facets          exactly these facets, ascending
 --   IsCutMesh points slots inside mesh        the mesh of these facets
---   AreLabelsOver scene rising slots ..       the cells are those of the scene, labelled as by a test, and no cell that is
---                                             fixed outside is inside
---   OverScenes slots inside claim             the claim holds for each scene, ascending complex and test that the labels are
---                                             over
---   mesh_over points scene rising test        the mesh of the scene's facets that the test cuts, among these points
---   IsSortedCut slots outside facets          the facets, sorted, of the sides of cells with a flag whose adjacent cell has
---                                             none
+--   AreLabelsOver s rising slots inside test  the live cells are all cells of the scene; the labels by their numbers
+--                                             are those of a test of cells; no inside cell is fixed outside
+--   OverScenes slots inside claim             the claim holds for each scene, its ascending complex and each test of
+--                                             cells, if the labels `inside` are those of the test (`AreLabelsOver`)
+--   mesh_over points scene rising test        the mesh of the facets of the scene between outside and inside cells by
+--                                             the test, with those of the points that these facets use
+--   IsSortedCut slots outside facets          the sorted list of the facets between a cell with a flag (outside) and an
+--                                             adjacent cell without one
 use Rattle.std.specs.Prelude.{ℕ, ◌≡◌, ◌<◌, ◌==◌, Bool, true, false, List, Option, Some, map, length, slice_index, AllPairs, Contains}
 use Rattle.std.specs.List.{position_or_len}
 use Rattle.std.specs.List.Sorted.{IsNonDecreasingBy}
 use Rattle.flow_net.specs.Nets.{flag_at}
 use Rattle.geo_sign.specs.Point.{Point}
 use Rattle.geo_sign.specs.Rising.{IsBefore}
-use Rattle.mesh_ply.specs.Meshes.{Surface, mesh_of}
-use Rattle.mesh_ply.specs.declared.mesh.Mesh.{Mesh}
+use Rattle.mesh.specs.Meshes.{Surface, mesh_of}
+use Rattle.mesh.specs.declared.mesh.Mesh.{Mesh}
 use Rattle.visibility.specs.Scenes.{Scene}
 use Rattle.visibility.specs.Complexes.{Complex}
 use Rattle.visibility.specs.Cuts.{IsAdmissible, cut_facets}

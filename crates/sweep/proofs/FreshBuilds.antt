@@ -5,7 +5,7 @@
 use Rattle.std.proofs.Common.{ℕ, ◌≡◌, ◌++◌, ap, sym, subst, ◌∙◌, arith, List, Bool}
 use Rattle.geo_sign.specs.Point.{Point}
 use Rattle.geo_sign.specs.Vertices.{corners}
-use Rattle.mesh_ply.specs.Meshes.{Surface, mesh_of}
+use Rattle.mesh.specs.Meshes.{Surface, mesh_of}
 use Rattle.solution.specs.Scans.{points_of, scene_of_scan}
 use Rattle.solution.proofs.Uniqueness.{agree, cut_same}
 use Rattle.visibility.specs.Complexes.{Complex}

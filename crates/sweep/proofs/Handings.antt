@@ -8,9 +8,9 @@ use Rattle.std.proofs.lemmas.List.{get_or-set_same, get_or-set_other, get_or-map
 use Rattle.std.proofs.lemmas.Bool.{cases_eq, cases_lt}
 use Rattle.flow_net.specs.declared.votes.Settings.{Settings}
 use Rattle.mesh_form.specs.Received.{Received, IsFresh, HasAll, HasPrefix}
-use Rattle.mesh_ply.specs.Meshes.{Surface}
-use Rattle.mesh_ply.specs.declared.mesh.Mesh.{Mesh}
-use Rattle.scan.specs.Shown.{Shown}
+use Rattle.mesh.specs.Meshes.{Surface}
+use Rattle.mesh.specs.declared.mesh.Mesh.{Mesh}
+use Rattle.scan_rows.specs.Shown.{Shown}
 use Rattle.solution.specs.Solutions.{surface_of}
 use Rattle.sweep.specs.Entries.{CostsAt, CostsLeast, Given, HasEntry, HasEntryFront, HaveEntries, HaveEntryFronts}
 use Rattle.sweep.specs.Entries.{IsSurfaceAt, IsSurfaceOf, given_by, smoothing_of}

@@ -14,7 +14,7 @@ use Rattle.flow_net.specs.declared.votes.Settings.{Settings}
 use Rattle.flow_net.specs.declared.votes.Sight.{Sight}
 use Rattle.geo_sign.specs.Point.{Point}
 use Rattle.geo_sign.specs.Vertices.{corners}
-use Rattle.scan.specs.Shown.{Shown, IsShown}
+use Rattle.scan_rows.specs.Shown.{Shown, IsShown}
 use Rattle.solution.specs.Scans.{points_of, scene_of_scan, sights_of}
 use Rattle.tetra_store.specs.Links.{links_of}
 use Rattle.tetra_store.specs.Store.{Store}

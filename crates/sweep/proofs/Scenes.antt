@@ -3,7 +3,7 @@ use Rattle.std.proofs.Common.{ℕ, ◌≡◌, ap, sym, ◌∙◌, Bool, List, Op
 use Rattle.flow_net.specs.declared.votes.Settings.{Settings}
 use Rattle.flow_net.specs.declared.votes.Sight.{Sight}
 use Rattle.geo_sign.specs.Point.{Point}
-use Rattle.scan.specs.Shown.{Shown}
+use Rattle.scan_rows.specs.Shown.{Shown}
 use Rattle.solution.specs.Scans.{points_of, scene_of_scan, sights_of}
 use Rattle.tetra_store.specs.declared.link.Cell.{Cell}
 use Rattle.visibility.specs.Scenes.{scene_of}

@@ -9,8 +9,8 @@ use Rattle.flow_net.specs.declared.votes.Settings.{Settings}
 use Rattle.flow_net.specs.declared.votes.Sight.{Sight}
 use Rattle.geo_sign.specs.Point.{Point}
 use Rattle.geo_sign.specs.Vertices.{corners}
-use Rattle.mesh_ply.specs.Meshes.{mesh_of}
-use Rattle.mesh_ply.specs.declared.mesh.Mesh.{Mesh}
+use Rattle.mesh.specs.Meshes.{mesh_of}
+use Rattle.mesh.specs.declared.mesh.Mesh.{Mesh}
 use Rattle.solution.specs.MinimumCuts.{IsCutOf}
 use Rattle.solution.specs.declared.cutting.MinimumCut.{MinimumCut}
 use Rattle.solution.proofs.CellCuts.{cut_is, cost_fits as cut_fits}

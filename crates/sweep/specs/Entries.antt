@@ -1,24 +1,25 @@
 -- The best surface of a scene and its cost, and what writers receive of the surfaces of a sweep.
 --
---   AreBestLabels s complex inside   the minimum cut with the smallest inside, over all cells of the scene
---   CostsLeast s n                the number is the cost of these labels
---   IsSurfaceOf s points mesh     the mesh is that of the facets of outside cells whose adjacent cell is inside
+--   AreBestLabels s complex inside   the complex of the scene, and its minimum cut with the smallest inside
+--   CostsLeast s n                n is the cost of these labels
+--   IsSurfaceOf s points mesh     the mesh is that of the facets that these labels cut
 --   Given                         points, scanners and sights
---   given_by scan                 those of a scan
---   given_scene g settings        their scene at these weights
+--   given_by scan, given_scene g settings   the points, scanners and sights of a scan; their scene at weights
 --   AreWeights settings v l       the settings with a visibility weight and an area weight
---   IsSurfaceAt, CostsAt          the mesh and the cost of the best surface at a visibility weight and an area weight
---   smoothing_of from step k      the area weight of entry k of a sweep
+--   IsSurfaceAt g vote smooth mesh, CostsAt g vote smooth n
+--                                 `IsSurfaceOf` and `CostsLeast` at a visibility weight and an area weight
+--   smoothing_of from step k      the area weight of entry k of a sweep, counted from 0
 --   HasEntry, HasEntryFront       what a writer has received of the mesh of an entry
---   HaveEntries, HaveEntryFronts  what each writer has received of the mesh of its own entry
+--   HaveEntries                   each mesh writer has received exactly the mesh of its entry
+--   HaveEntryFronts               each mesh writer is fresh, or has received a prefix of the mesh of its entry
 use Rattle.std.specs.Prelude.{ℕ, ◌≡◌, ◌⊎◌, ◌<◌, ◌+◌, ◌*◌, ◌++◌, Bool, List, length, slice_index_or}
 use Rattle.flow_net.specs.declared.votes.Settings.{Settings}
 use Rattle.flow_net.specs.declared.votes.Sight.{Sight}
 use Rattle.geo_sign.specs.Point.{Point}
 use Rattle.geo_sign.specs.Vertices.{corners}
 use Rattle.mesh_form.specs.Received.{Received, IsFresh, HasAll, HasFront}
-use Rattle.mesh_ply.specs.Meshes.{Surface, mesh_of}
-use Rattle.scan.specs.Shown.{Shown}
+use Rattle.mesh.specs.Meshes.{Surface, mesh_of}
+use Rattle.scan_rows.specs.Shown.{Shown}
 use Rattle.solution.specs.Scans.{points_of, sights_of}
 use Rattle.visibility.specs.Complexes.{Complex}
 use Rattle.visibility.specs.Cuts.{cost, cut_facets, IsLeastInside}

@@ -1,13 +1,14 @@
 -- A fresh build compared with a sweep.
 --
 --   IsAsBuilt s points mesh cost     every surface of the scene is this mesh, and every least cost this number
---   FreshBuildLaw                    this holds for the result of a fresh build
+--   FreshBuildLaw                    each solution of a scan at some weights has the mesh that `IsSurfaceAt` states and
+--                                    the cost that `CostsAt` states at these weights
 use Rattle.std.specs.Prelude.{ℕ, ◌≡◌, List}
-use Rattle.cert_text.specs.Certificates.{Claim}
+use Rattle.certificate.specs.Certificates.{Claim}
 use Rattle.flow_net.specs.declared.votes.Settings.{Settings}
 use Rattle.geo_sign.specs.Point.{Point}
-use Rattle.mesh_ply.specs.Meshes.{Surface}
-use Rattle.scan.specs.Shown.{Shown}
+use Rattle.mesh.specs.Meshes.{Surface}
+use Rattle.scan_rows.specs.Shown.{Shown}
 use Rattle.solution.specs.Scans.{points_of, scene_of_scan}
 use Rattle.solution.specs.Solutions.{IsSolution}
 use Rattle.visibility.specs.Scenes.{Scene}

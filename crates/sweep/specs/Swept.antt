@@ -1,12 +1,13 @@
 -- The content of a sweep.
 --
---   Swept                        the points, the sights, the scanners, the weights, the cells, and a flow through them
---   given_in w                   the points, the scanners and the sights
---   scene_in w                   the scene of these at its weights
---   sink_amount w id             the flow into the sink of the cell with this number
---   IsOf w scan                  it is of this scan
+--   Swept                        what a sweep holds: points, scanners, sights, weights, the cells by their numbers in
+--                                the store, and a flow by the numbers of cells and sides
+--   given_in w, scene_in w       the points, scanners and sights of a sweep; their scene at its weights
+--   sink_amount w id             what leaves at the sink of the cell with this number
+--   IsOf w scan                  the points, scanners and sights are those of the scan
 --   HasLargest w                 the flow is a maximum flow of the scene's network, and its value is the least cost
---   IsRaised old new smooth      the area weight has increased, everything else is unchanged, and no less flows into any sink
+--   IsRaised old new smooth      the new area weight is `smooth`. The cells and all else of the scan are as before, and
+--                                no less leaves at the sink of any cell
 --   IsKept                       the invariant of the fields of a sweep
 use Rattle.std.specs.Prelude.{ℕ, ◌≡◌, ◌<◌, ◌≤◌, ◌++◌, ◌^◌, Bool, List, Option, length, slice_index}
 use Rattle.cell_net.specs.Arcs.{IsShape}
@@ -18,7 +19,7 @@ use Rattle.flow_net.specs.declared.votes.Settings.{Settings}
 use Rattle.flow_net.specs.declared.votes.Sight.{Sight}
 use Rattle.geo_sign.specs.Point.{Point}
 use Rattle.geo_sign.specs.Vertices.{corners}
-use Rattle.scan.specs.Shown.{Shown, IsShown}
+use Rattle.scan_rows.specs.Shown.{Shown, IsShown}
 use Rattle.solution.specs.Scans.{points_of, sights_of}
 use Rattle.tetra_store.specs.Store.{Store}
 use Rattle.tetra_store.specs.declared.link.Cell.{Cell}

@@ -3,17 +3,17 @@
 ghost use Rattle.std.specs.Prelude.{◌≡◌, ◌≤◌, ◌+◌, ◌*◌, ◌-◌, IfOk, OnOk, OnErr, All, length, map};
 ghost use Rattle.flow_net.specs.declared.votes.TheConstants.{WEIGHT_LIMIT};
 ghost use Rattle.mesh_form.specs.Received.{IsFresh};
-ghost use Rattle.scan.specs.Views.{shown_of};
+ghost use Rattle.scan_rows.specs.Views.{shown_of};
 ghost use Rattle.sweep.specs.Entries.{CostsAt, HasEntry, HasEntryFront, HaveEntries, HaveEntryFronts, given_by, smoothing_of};
 ghost use Rattle.sweep.specs.Swept.{given_in};
 
 use crate::NoMemory;
 use crate::sweeping::Sweep;
-use flow_net::Settings;
-use host::{Silent, Stage, Watch};
+use flow_net::{FlowHints, Settings};
 use mesh_form::{Form, drive};
-use scan::Scan;
+use scan_rows::Scan;
 use std::alloc::Global;
+use watch::{Silent, Stage};
 
 /// The costs of the first and the last surface of a sweep.
 #[derive(Clone, Copy, Debug, PartialEq, Eq)]
@@ -37,7 +37,12 @@ fn hand_surface(sweep: &Sweep, form: &mut Box<dyn Form>) -> Result<(), NoMemory>
 }
 
 /// Raises the area weight of a sweep to this one, unless it is there already.
-fn raise_to(sweep: &mut Sweep, smooth: u32) -> Result<(), NoMemory>
+fn raise_to<W: FlowHints>(
+    sweep: &mut Sweep,
+    smooth: u32,
+    kept: &mut Option<W::Kept>,
+    watch: &mut W,
+) -> Result<(), NoMemory>
     requires above { sweep.old.settings.smooth ≤ smooth }
     requires within { smooth ≤ WEIGHT_LIMIT }
     ensures given { OnOk result (given_in sweep.new ≡ given_in sweep.old) }
@@ -45,17 +50,18 @@ fn raise_to(sweep: &mut Sweep, smooth: u32) -> Result<(), NoMemory>
     ensures smooth { OnOk result (sweep.new.settings.smooth ≡ smooth) }
 {
     if sweep.smooth() < smooth {
-        sweep.raise(smooth)?;
+        sweep.raise_hinted(smooth, kept, watch)?;
     }
     Ok(())
 }
 
 /// Passes the surface of a sweep to the first of these fresh writers, and to each further one the surface at an area weight
-/// larger by a step. Reports the stage and the number of surfaces to a progress callback.
-fn hand_rising<W: Watch>(
+/// larger by a step. Takes hints from a progress callback, and reports the stage and the number of surfaces to it.
+fn hand_rising<W: FlowHints>(
     sweep: &mut Sweep,
     step: u32,
     forms: &mut [Box<dyn Form>],
+    kept: &mut Option<W::Kept>,
     watch: &mut W,
 ) -> Result<(), NoMemory>
     requires fresh { All IsFresh (map (λ form. received form) forms.old) }
@@ -72,7 +78,7 @@ fn hand_rising<W: Watch>(
     let from = sweep.smooth();
     for k in 0..forms.len() {
         watch.done(k as u64);
-        raise_to(sweep, from + k as u32 * step)?;
+        raise_to(sweep, from + k as u32 * step, kept, watch)?;
         hand_surface(sweep, &mut forms[k])?;
     }
     Ok(())
@@ -101,8 +107,8 @@ pub fn hand_surfaces(
     hand_surfaces_watched(alloc, scan, settings, step, forms, &mut Silent)
 }
 
-/// Returns the same, and reports the stages of the work to a progress callback.
-pub fn hand_surfaces_watched<W: Watch>(
+/// Returns the same with the hints of a progress callback, to which it reports the stages of the work.
+pub fn hand_surfaces_watched<W: FlowHints>(
     alloc: Global,
     scan: &Scan,
     settings: Settings,
@@ -119,9 +125,10 @@ pub fn hand_surfaces_watched<W: Watch>(
     ensures fronts { OnErr result (HaveEntryFronts (given_by (shown_of scan.now)) settings.vote settings.smooth step (map (λ form. received form) forms.new)) }
     ensures kinds { map (λ form. form.vtable) forms.new ≡ map (λ form. form.vtable) forms.old }
 {
-    let mut sweep = Sweep::start_watched(alloc, scan, settings, watch)?;
+    let mut kept = None;
+    let mut sweep = Sweep::start_hinted(alloc, scan, settings, &mut kept, watch)?;
     let first = sweep.cost();
-    hand_rising(&mut sweep, step, forms, watch)?;
+    hand_rising(&mut sweep, step, forms, &mut kept, watch)?;
     Ok(Costs {
         first,
         last: sweep.cost(),

@@ -1,5 +1,7 @@
 //! Computes the best surfaces of a scan at increasing area weights, and reuses the flow.
 //!
+//! Verified: after each `raise` of the area weight, `mesh` and `cost` are those of a fresh build (`a_sweep_is_as_a_fresh_build`).
+//!
 //! Cells and visibility weights do not depend on the area weight, so they are computed once. A larger area weight adds the same
 //! to each capacity, and a maximum flow stays valid: it is kept from weight to weight, and only augmented. If all sinks are
 //! full, nothing is done.

@@ -3,8 +3,8 @@
 
 ghost use Rattle.std.specs.Prelude.{◌≡◌, ◌<◌, ◌≤◌, IfOk, OnOk, OnErr};
 ghost use Rattle.flow_net.specs.declared.votes.TheConstants.{WEIGHT_LIMIT};
-ghost use Rattle.mesh_ply.specs.Meshes.{IsMesh};
-ghost use Rattle.scan.specs.Views.{shown_of};
+ghost use Rattle.mesh.specs.Meshes.{IsMesh};
+ghost use Rattle.scan_rows.specs.Views.{shown_of};
 ghost use Rattle.solution.specs.Solutions.{surface_of};
 ghost use Rattle.surface.specs.Closed.{IsClosed};
 ghost use Rattle.sweep.specs.Entries.{CostsLeast, IsSurfaceOf};
@@ -12,24 +12,23 @@ ghost use Rattle.sweep.specs.Swept.{IsOf, HasLargest, IsRaised, scene_in};
 
 use crate::NoMemory;
 use cell_net::CellNetwork;
-use flow_net::{Flow, Labels, Settings, cost};
+use flow_net::{Flow, FlowHints, Labels, Settings, cost};
 use geo_sign::Point;
-use host::{Silent, Watch};
-use max_flow::{KeptPreflow, minimum_cut_above, minimum_cut_and_preflow};
-use mesh_ply::Mesh;
-use scan::Scan;
+use max_flow::{minimum_cut_above, minimum_cut_and_preflow};
+use mesh::Mesh;
+use scan_rows::Scan;
 use solution::{SeenPoints, Votes, counted_cells_with, seen_in};
 use std::alloc::Global;
 use std::marker::Model;
 use surface::facets_by_number;
 use tetra_store::Tetra;
+use watch::Silent;
 
 /// The best surface of a scan at one area weight, with a maximum flow, which is kept when the weight is raised.
 ///
 /// Contracts see its points, scanners and sights, the weights, the cells by their numbers in the store, and the flow.
 ///
-/// For the next raise it holds 4 bytes a side of a cell, or 8 if capacities are large, and 24 a cell. During a raise it takes
-/// the same again, and a second flow.
+/// During a raise it takes a second flow.
 #[derive(Drop)]
 pub struct Sweep {
     /// The allocator with which it was made.
@@ -48,8 +47,6 @@ pub struct Sweep {
     flow: Flow,
     /// The minimum cut with the smallest inside, by the numbers of cells.
     labels: Labels,
-    /// The preflow from which the next raise resumes, if there is one: it affects only the time.
-    kept: Option<KeptPreflow>,
 }
 
 impl Model for Sweep {
@@ -72,8 +69,8 @@ impl Sweep {
         Sweep::start_watched(alloc, scan, settings, &mut Silent)
     }
 
-    /// Returns the same, and reports the stages of the work to a progress callback.
-    pub fn start_watched<W: Watch>(
+    /// Returns the same with the hints of a progress callback, to which it reports the stages of the work.
+    pub fn start_watched<W: FlowHints>(
         alloc: Global,
         scan: &Scan,
         settings: Settings,
@@ -83,10 +80,26 @@ impl Sweep {
         ensures settings { IfOk result (λ sweep. sweep.settings ≡ settings) }
         ensures largest { IfOk result (λ sweep. HasLargest sweep) }
     {
+        Sweep::start_hinted(alloc, scan, settings, &mut None, watch)
+    }
+
+    /// Returns the same, and keeps what the hint leaves for the next raise.
+    pub(crate) fn start_hinted<W: FlowHints>(
+        alloc: Global,
+        scan: &Scan,
+        settings: Settings,
+        kept: &mut Option<W::Kept>,
+        watch: &mut W,
+    ) -> Result<Sweep, NoMemory>
+        ensures scan { IfOk result (λ sweep. IsOf sweep (shown_of scan.now)) }
+        ensures settings { IfOk result (λ sweep. sweep.settings ≡ settings) }
+        ensures largest { IfOk result (λ sweep. HasLargest sweep) }
+    {
         let seen = seen_in(alloc, scan)?;
         let (tetra, votes) = counted_cells_with(alloc, scan, &seen, settings, watch)?;
         let net = CellNetwork::new(&tetra, votes.store_counts(), settings);
-        let (flow, labels, kept) = minimum_cut_and_preflow(alloc, &net, watch)?;
+        let (flow, labels, left) = minimum_cut_and_preflow(alloc, &net, watch)?;
+        *kept = left;
         let scanners = Vec::from_slice(alloc, &scan.scanners)?;
         Ok(Sweep {
             alloc,
@@ -97,14 +110,31 @@ impl Sweep {
             votes,
             flow,
             labels,
-            kept,
         })
     }
 
     /// Raises the area weight. The flow resumes from its previous state, so that no less flows into the sink of any cell.
     ///
-    /// After `NoMemory` everything that contracts see is unchanged, and the next raise may take longer.
+    /// It takes no hints. After `NoMemory` everything is unchanged.
     pub fn raise(&mut self, smooth: u32) -> Result<(), NoMemory>
+        requires above { self.old.settings.smooth < smooth }
+        requires within { smooth ≤ WEIGHT_LIMIT }
+        ensures raised { OnOk result (IsRaised self.old self.new smooth) }
+        ensures kept { OnErr result (self.new ≡ self.old) }
+        ensures largest { HasLargest self.new }
+    {
+        self.raise_hinted(smooth, &mut None, &mut Silent)
+    }
+
+    /// Raises the area weight with the hints of a progress callback, which resume from what an earlier hint left, if anything is kept.
+    ///
+    /// After `NoMemory` everything that contracts see is unchanged, and the next raise may take longer.
+    pub(crate) fn raise_hinted<W: FlowHints>(
+        &mut self,
+        smooth: u32,
+        kept: &mut Option<W::Kept>,
+        watch: &mut W,
+    ) -> Result<(), NoMemory>
         requires above { self.old.settings.smooth < smooth }
         requires within { smooth ≤ WEIGHT_LIMIT }
         ensures raised { OnOk result (IsRaised self.old self.new smooth) }
@@ -116,7 +146,7 @@ impl Sweep {
             smooth,
         };
         let net = CellNetwork::new(&self.tetra, self.votes.store_counts(), settings);
-        let (flow, labels) = minimum_cut_above(self.alloc, &net, &self.flow, &mut self.kept)?;
+        let (flow, labels) = minimum_cut_above(self.alloc, &net, &self.flow, kept, watch)?;
         self.flow = flow;
         self.labels = labels;
         self.settings = settings;

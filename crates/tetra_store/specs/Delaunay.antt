@@ -14,7 +14,8 @@ pub record HasCell (links : Links) (a b c d : ℕ) : Type 0 where
   pub has_c : IsVertexOf (links.at cell) c
   pub has_d : IsVertexOf (links.at cell) d
 
--- the live cells are exactly the Delaunay cells of the vertices that are in
+-- the live cells are exactly the cells of the inserted vertices: each live one is a cell as it is written, and the four
+-- vertices of each cell are those of a live one
 pub record IsDelaunay (v : Vertices) (links : Links) : Type 0 where
   pub cells : (id : ℕ) → IsLive links id → IsCell v (links.at id).a (links.at id).b (links.at id).c (links.at id).d
   pub all : (a b c d : ℕ) → IsCell v a b c d → HasCell links a b c d

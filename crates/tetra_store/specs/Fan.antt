@@ -1,13 +1,20 @@
 -- Taking cells out, and putting in cells over the boundary of the conflict region (the cells taken out).
 --
 --   fan_facet fan i, fan_outer fan i    facet number i of a boundary, and the adjacent cell outside
---   IsFan links old fan                 `fan` is the boundary of the cells old
+--   IsFan links old fan                 the boundary of the cells `old`: exactly the directed facets whose neighbor is
+--                                       not among these cells, each once, and each with that neighbor
 --   HasPairedEdges fan                  each directed edge of the boundary is there once, and so is its reverse
 --   IsInFan fan u                       u is a vertex of a boundary facet
 --   IsHeld links old u                  u is a vertex of a live cell that is not in old
---   CanReplace s old fan p              what `replace` asks
---   IsOver links fan p id               a live cell over a boundary facet, with p
---   IsReplaced s t old fan p            what `replace` does
+--   CanReplace s old fan p              the precondition of `replace`: `old` are distinct live cells and `fan` is their
+--                                       boundary; p is not inserted, and on the positive side of each boundary facet;
+--                                       each inserted vertex is on the boundary or in another cell; `spare` is enough
+--                                       for the new cells
+--   IsOver links fan p id               the cell of this number is over a boundary facet: the facet with the apex p
+--   IsReplaced s t old fan p            what `replace` does, from s to t. The live cells of t are those of s that are
+--                                       not among `old`, with their vertices, and one over each boundary facet. Points
+--                                       stay, only the flag of p is set, and `spare` falls by at most the number of
+--                                       boundary facets
 use Rattle.std.specs.Prelude.{ℕ, ◌≡◌, ◌<◌, ◌≤◌, ◌+◌, ◌⊎◌, ◌<ℤ◌, pos, true, false, List, [], Option, Some, None, length}
 use Rattle.std.specs.Prelude.{slice_index, slice_index_or, slice_set, Contains}
 use Rattle.geo_sign.specs.Tetrahedron as geo
@@ -29,12 +36,12 @@ fan_facet fan i = facet_at (slice_index_or fan i no_facet).v
 abbrev pub fan_outer : List Facet → ℕ → Option ℕ
 fan_outer fan i = (slice_index_or fan i no_facet).outer
 
--- no cell, or one that is not in the list
+-- there is no cell, or it is not among `old`
 abbrev pub IsOutside : List ℕ → Option ℕ → Type 0
 IsOutside old None = Unit {0}
 IsOutside old (Some id) = ¬ Contains old id
 
--- a facet of a cell of old, and its neighbor there, which is not in old
+-- f is a facet of a cell of `old`, with the neighbor `outer`, which is outside
 pub record IsRim (links : Links) (old : List ℕ) (f : geo.DirectedFacet) (outer : Option ℕ) : Type 0 where
   pub cell : ℕ
   pub side : ℕ

@@ -2,13 +2,16 @@
 --
 --   Links                     which numbers have a cell, its vertices, and its neighbor at each side
 --   slot_at slots id          the cell with a number
---   tetrahedron_from v        the tetrahedron of four numbers
+--   tetrahedron_from v        the tetrahedron of a list of four numbers
 --   links_of slots            the links of a list of slots
 --   IsLive links id           the number has a cell
 --   IsBack links id k z       the live cell z names the cell id back, at the opposite facet of side k of id
---   IsOnlyAcross links id k z
---                             no other live cell has that opposite facet
---   IsLinked vertices links   what is kept of them
+--   IsOnlyAcross links id k other
+--                             `other` is the only live cell that has the facet of side k of the cell in the other
+--                             direction, and it names the cell as its neighbor there
+--   IsLinked v links          each cell is positively oriented over distinct inserted vertices; neighbors name each
+--                             other at one facet in its two directions; exactly the sides on a wall have no neighbor;
+--                             no directed facet is in two cells
 use Rattle.std.specs.Prelude.{ℕ, ◌≡◌, ◌<◌, ◌<ℤ◌, pos, Bool, true, List, Option, Some, None, is_some, slice_index}
 use Rattle.std.specs.Prelude.{slice_index_or}
 use Rattle.geo_sign.specs.Tetrahedron.{Tetrahedron, tetrahedron, vertex_of, facet_of, IsRotated, IsTurned}

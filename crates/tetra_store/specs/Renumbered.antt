@@ -1,14 +1,18 @@
 -- The same cells under other numbers.
 --
---   IsPlaced places x n            the list leads from the number x to the number n
---   HasPlace places x              it leads from there to some number
+--   IsPlaced places x n            the list `places` gives the cell with the number x the new number n
+--   HasPlace places x              the list `places` gives the cell with the number x some new number
 --   AreWithin links n              all neighbors of cells are below n
---   AreAssigned links places from  each number that has a place has a cell, and the numbers in their places are listed
+--   AreAssigned links places from  each number that has a new number has a cell. At each new number the list `from` has
+--                                  the old number
 --   across_by places o             the place of the neighbor o, if there is one
 --   moved places c                 the cell c with the places of its neighbors
 --   AreMoved old slots places from n
---                                  the first n listed cells are in, moved, and no others
---   IsRenumbered a b               the links b are the links a, each cell under a number of its own
+--                                  the new store has the first n cells of the list `from`, each at its new number with
+--                                  the new numbers of its neighbors (`moved`), and no other cells
+--   IsRenumbered a b               the links b are the links a under other numbers: each cell of a occurs once in b,
+--                                  with the same vertices in their order and the same neighbors under their new
+--                                  numbers. No number below that of a cell is free
 --   AreKeptMoved places old new n  the first n incident cells, each at its place
 use Rattle.std.specs.Prelude.{ℕ, ◌≡◌, ◌<◌, ◌≤◌, ◌^◌, List, [], ◌∷◌, Option, Some, None, length, slice_index, slice_index_or}
 use Rattle.tetra_store.specs.declared.link.Cell.{Cell}

@@ -1,17 +1,30 @@
 -- The steps of `replace`.
 --
---   IsSideWritten a b id k other       one side of one cell names another cell, and nothing else has changed
---   new_cell fan p i                   the cell over boundary facet i, which names only the adjacent cell outside
---   ArePut old new cell ids            the cells cell 0, cell 1 .. are in, at ids
---   AreNamed a b fan ids               the outer cells adjacent to the boundary name those over it
---   AreFanEdges fan ids edges          the edges are those of the boundary
---   AreJoined a b edges                the cells over the boundary name each other
---   CanGrow a fan                      what is asked where all of these are done
---   IsGrown a b fan p ids              all of these
---   AreKeptNew old new fan ids p n     the incident cells of the boundary's vertices and of p are those over the boundary
---   IsKeeperHeld links old kept id k   vertex k of the cell id, if that is its incident cell, has another that is not in old
---   AreMended links old kept kept' n   the incident cells that were among old are others
---   AreOut old slots slots' n          the cells old are out
+--   IsSideWritten a b id k other       the cell `other` became the neighbor of the cell id at side k, and nothing else
+--                                      has changed
+--   new_cell fan p i                   new cell i: the vertices of boundary facet i, and p. Its only neighbor is the
+--                                      outer cell at that facet, if there is one
+--   ArePut old new cell ids            the cells that the function `cell` gives were put at the numbers `ids`, which
+--                                      were free and distinct. All other numbers are as before
+--   AreNamed a b fan ids n             at the first n boundary facets, each outer cell has the new cell over the facet
+--                                      as its neighbor. All other sides are as before
+--   AreFanEdges fan ids edges n        the list has the three edges of each of the first n boundary facets (`edge_of`),
+--                                      facet after facet
+--   AreJoined a b edges n              the new cells are linked at the first n edges of the list (`IsJoinedAt`). Sides
+--                                      without an edge in the list are as before
+--   CanGrow a fan                      the precondition for new cells over a boundary: facets are distinct and have
+--                                      three distinct vertices each, edges are paired, and outer cells are live and
+--                                      have their facets
+--   IsGrown a b fan p ids              a new cell was put over each boundary facet, and linked with the outer cell and
+--                                      with the other new cells. All earlier cells keep their vertices
+--   AreKeptNew old new fan ids p n     the vertices of the first n new cells have new cells as incident cells. Any
+--                                      other incident cell is as before, or a new cell with the vertex
+--   IsKeeperHeld links old kept id k   if the cell id is the incident cell of its vertex k, this vertex is also in a
+--                                      live cell that is not among `old`
+--   AreMended links old kept new n     none of the first n cells of `old` is the incident cell of one of its vertices.
+--                                      Each changed incident cell is live, not among `old`, and has the vertex
+--   AreOut old slots new n             the first n cells of the list `old` were taken out, and all other cells are as
+--                                      before
 use Rattle.std.specs.Prelude.{ℕ, ◌≡◌, ◌≢◌, ◌<◌, ◌≤◌, ◌+◌, ◌*◌, ◌^◌, ◌⊎◌, List, [], ◌∷◌, Option, Some, None, length, slice_index}
 use Rattle.std.specs.Prelude.{slice_index_or, Contains}
 use Rattle.geo_sign.specs.Tetrahedron as geo
@@ -47,20 +60,21 @@ pub record ArePut (old new : List (Option Cell)) (cell : ℕ → Cell) (ids : Li
   pub distinct : (i j : ℕ) → i < length ids → j < length ids → slice_index ids i ≡ slice_index ids j → i ≡ j
   pub kept : (x : ℕ) → (slot_at new x ≡ slot_at old x) ⊎ Contains ids x
 
--- each outer cell adjacent to the boundary has a number that fits
+-- the number of each outer cell is below 2^32 - 1
 abbrev pub AreSmall : List Facet → Type 0
 AreSmall fan = (i y : ℕ) → i < length fan → fan_outer fan i ≡ Some y → y + 1 < 2 ^ 32
 
 -- ---- outer cells adjacent to the boundary
 
--- the side of an outer cell that now names the cell over boundary facet i
+-- the outer cell y has boundary facet i in the other direction, and new cell i is its neighbor at that side
 pub record IsNamed (a b : Links) (fan : List Facet) (ids : List ℕ) (i y : ℕ) : Type 0 where
   pub side : ℕ
   pub side_in : side < 4
   pub turned : IsTurned (fan_facet fan i) (facet_of (a.at y) side)
   pub named : b.next y side ≡ Some (slice_index ids i)
 
--- a side that names the cell over a boundary facet
+-- side k of the outer cell x is a boundary facet in the other direction, and the new cell over that facet is the
+-- neighbor there
 pub record IsRenamed (a b : Links) (fan : List Facet) (ids : List ℕ) (x k : ℕ) : Type 0 where
   pub facet : ℕ
   pub facet_in : facet < length fan
@@ -74,27 +88,28 @@ pub record AreNamed (a b : Links) (fan : List Facet) (ids : List ℕ) (n : ℕ) 
   pub named : (i y : ℕ) → i < n → fan_outer fan i ≡ Some y → IsNamed a b fan ids i y
   pub kept : (x k : ℕ) → (b.next x k ≡ a.next x k) ⊎ IsRenamed a b fan ids x k
 
--- the cell has the facet in the other direction
+-- the tetrahedron t has the facet f in the other direction
 pub record IsFacing (t : geo.Tetrahedron) (f : geo.DirectedFacet) : Type 0 where
   pub side : ℕ
   pub side_in : side < 4
   pub turned : IsTurned f (facet_of t side)
 
--- the side of y that has the facet in the other direction names a cell
+-- the cell y has the facet f in the other direction. The cell id became the neighbor of y at that side, and nothing
+-- else has changed
 pub record IsNaming (a b : Links) (f : geo.DirectedFacet) (y id : ℕ) : Type 0 where
   pub side : ℕ
   pub side_in : side < 4
   pub turned : IsTurned f (facet_of (a.at y) side)
   pub written : IsSideWritten a b y side id
 
--- each outer cell adjacent to the boundary is live and has its facet
+-- each outer cell is live and has its boundary facet in the other direction
 pub record AreFacing (a : Links) (fan : List Facet) : Type 0 where
   pub live : (i y : ℕ) → i < length fan → fan_outer fan i ≡ Some y → IsLive a y
   pub facing : (i y : ℕ) → i < length fan → fan_outer fan i ≡ Some y → IsFacing (a.at y) (fan_facet fan i)
 
 -- ---- edges
 
--- an edge of the cell over a boundary facet: the side of the new cell, opposite to vertex 0, 1 or 2, that another one will share
+-- x is one of the three edges of some boundary facet, with the new cell over that facet and its side (`edge_of`)
 pub record IsFanEdge (fan : List Facet) (ids : List ℕ) (x : Edge) : Type 0 where
   pub facet : ℕ
   pub opposite : ℕ
@@ -105,7 +120,7 @@ pub record IsFanEdge (fan : List Facet) (ids : List ℕ) (x : Edge) : Type 0 whe
   pub cell_is : x.cell ≡ slice_index ids facet
   pub side_is : x.side ≡ opposite
 
--- the edge of boundary facet i that is opposite to its vertex e, with the side of the new cell over it
+-- the edge of boundary facet i opposite to its vertex e, with the side e of new cell i, which has that edge
 abbrev pub edge_of : List Facet → List ℕ → (i e : ℕ) → Edge
 edge_of fan ids i e =
     record { start = edge_start (fan_facet fan i) e; end = edge_end (fan_facet fan i) e; cell = slice_index ids i; side = e }
@@ -115,14 +130,15 @@ pub record AreFanEdges (fan : List Facet) (ids : List ℕ) (edges : List Edge) (
   pub count : length edges ≡ 3 * n
   pub at : (i e : ℕ) → i < n → e < 3 → edge_at edges (3 * i + e) ≡ edge_of fan ids i e
 
--- the edge's reverse is there
+-- the list of edges has the reverse of the edge x
 pub record HasReverse (edges : List Edge) (x : Edge) : Type 0 where
   pub reverse : Edge
   pub listed : Contains edges reverse
   pub start_is : reverse.start ≡ x.end
   pub end_is : reverse.end ≡ x.start
 
--- and its cell is named across x
+-- the list has the reverse of the edge x, and the new cell of the reverse is the neighbor of the new cell of x at the
+-- side of x
 pub record IsJoinedAt (b : Links) (edges : List Edge) (x : Edge) : Type 0 where
   pub reverse : HasReverse edges x
   pub named : b.next x.cell x.side ≡ Some reverse.reverse.cell
@@ -133,7 +149,8 @@ pub record AreJoined (a b : Links) (edges : List Edge) (n : ℕ) : Type 0 where
   pub joined : (m : ℕ) (x : Edge) → m < n → slice_index_or edges m x ≡ x → m < length edges → IsJoinedAt b edges x
   pub others : (y k : ℕ) → ((x : Edge) → Contains edges x → x.cell ≡ y → x.side ≡ k → ⊥) → b.next y k ≡ a.next y k
 
--- what is asked of edges that are to be joined
+-- a precondition for links between new cells: each edge has one reverse in the list (`ArePairs`), no side has two
+-- edges, and the new cells are live
 pub record CanJoinEdges (a : Links) (edges : List Edge) : Type 0 where
   pub pairs : ArePairs edges
   pub once : (x y : Edge) → Contains edges x → Contains edges y → x.cell ≡ y.cell → x.side ≡ y.side
@@ -155,7 +172,8 @@ pub record CanGrow (a : Links) (fan : List Facet) : Type 0 where
       → e ≡ d
   pub ends : (i e : ℕ) → i < length fan → edge_start (fan_facet fan i) e ≢ edge_end (fan_facet fan i) e
 
--- side e of the new cell over boundary facet i names the new cell over the facet that has the edge in the other direction
+-- at side e, the neighbor of new cell i is the new cell over the boundary facet that has the same edge in the other
+-- direction
 pub record IsMated (b : Links) (fan : List Facet) (ids : List ℕ) (i e : ℕ) : Type 0 where
   pub mate : ℕ
   pub side : ℕ
@@ -179,13 +197,14 @@ pub record IsGrown (a b : Links) (fan : List Facet) (p : ℕ) (ids : List ℕ) :
 
 -- ---- incident cells
 
--- the incident cells of a cell's vertices are that cell, and of the others what they were: the first n vertices are done
+-- the cell id became the incident cell of the first n vertices of t. Other vertices of t have this or their earlier
+-- incident cell, all others their earlier one
 pub record IsKeptAt (old new : List ℕ) (t : geo.Tetrahedron) (id n : ℕ) : Type 0 where
   pub count : length new ≡ length old
   pub each : (u : ℕ) → (slice_index new u ≡ slice_index old u) ⊎ ((slice_index new u ≡ id) × IsVertexOf t u)
   pub done : (k : ℕ) → k < n → k < 4 → slice_index new (vertex_of t k) ≡ id
 
--- a cell over the boundary, which has u
+-- the incident cell of the vertex u is a new cell that has u
 pub record IsKeptNew (kept : List ℕ) (fan : List Facet) (ids : List ℕ) (p u : ℕ) : Type 0 where
   pub facet : ℕ
   pub facet_in : facet < length fan
@@ -202,13 +221,14 @@ abbrev pub IsKeeperHeld : (links : Links) (old kept : List ℕ) (id k : ℕ) →
 IsKeeperHeld links old kept id k =
     slice_index kept (vertex_of (links.at id) k) ≡ id → IsHeld links old (vertex_of (links.at id) k)
 
--- the cell is live and not among old, and has u
+-- the cell id is live, not among `old`, and has the vertex u
 pub record IsOutsideWith (links : Links) (old : List ℕ) (u id : ℕ) : Type 0 where
   pub live : IsLive links id
   pub outside : ¬ Contains old id
   pub has : IsVertexOf (links.at id) u
 
--- the first n vertices of the cell id have another incident cell
+-- the cell id is no longer the incident cell of its first n vertices. Each changed incident cell is live, not among
+-- `old`, and has the vertex
 pub record IsMendedAt (links : Links) (old kept new : List ℕ) (id n : ℕ) : Type 0 where
   pub count : length new ≡ length kept
   pub each : (u : ℕ) → (slice_index new u ≡ slice_index kept u) ⊎ IsOutsideWith links old u (slice_index new u)

@@ -1,14 +1,22 @@
 -- What a store is seen as, and what it keeps.
 --
---   Store                            points, which are inserted, slots of the cells, incident cells, room, capacity
+--   Store                            the view of a store: the points of the vertices, which of them are inserted, the
+--                                    cell at each number, the incident cell of each vertex; `spare`, for how many more
+--                                    cells it has memory, and `capacity`, for how many in all
 --   data_points_of s                 the points of all vertices but the corners
 --   vertices_at points inserted      vertices by number, with the heights of the symbolic perturbation
---   vertices_of s                    those of a store
+--   vertices_of s                    the vertices of a store, at the heights of the symbolic perturbation; `points` has
+--                                    the corners too
 --   AreVertices points inserted      they are the corners and data points
 --   AreKept s                        each inserted vertex's incident cell is live and has it
---   IsStore s                        what is true of each store
+--   IsStore s                        the invariant of a store. The vertices are the corners, which are inserted, and at
+--                                    most `VERTEX_LIMIT` distinct data points (2^20, a constant of the code). Each
+--                                    vertex has a flag and an incident cell. The cells are linked. The incident cell of
+--                                    each inserted vertex is live and has it
 --   spare_room capacity count ..     how many cells fit
---   store_from points ..             what a store is seen as, from its parts
+--   store_from points ..             the view of a store, from its parts. `spare` is the least of three: cells that can
+--                                    still have numbers of 32 bits, and the free capacities of the two lists that
+--                                    `replace` fills
 use Rattle.std.specs.Prelude.{ℕ, ◌≡◌, ◌≤◌, ◌+◌, ◌-◌, ◌/◌, Bool, false, List, Option, length, drop, get_or, slice_index}
 use Rattle.std.specs.Prelude.{slice_index_or, min, if◌then◌else◌, nat_lt}
 use Rattle.geo_sign.specs.declared.point.TheConstants.{CORNERS}

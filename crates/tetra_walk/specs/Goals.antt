@@ -1,7 +1,8 @@
 -- The goals of walks.
 --
---   place_of goal       the position
---   IsGoal goal         it is made of data points
+--   place_of goal       the place to which a walk with this goal goes. (A *goal* is a point, or a point and the scanner
+--                       that sees it.)
+--   IsGoal goal         the points of a goal are data points
 use Rattle.geo_sign.specs.declared.point.TheConstants.{DATA_LIMIT}
 use Rattle.geo_sign.specs.Point.{IsWithin}
 use Rattle.geo_sign.specs.Rational.{RationalPoint, rational, displaced}

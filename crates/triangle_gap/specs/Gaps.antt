@@ -1,10 +1,12 @@
 -- Faces that are apart but for common corners.
 --
---   IsCommon f g u v w     corners of f that g has not have the weight 0
---   AreFacesApart points f g    each point that both faces contain is one of their common corners, or on the edge between them
+--   IsCommon f g u v w          a corner of f that g does not have has the weight 0
+--   AreFacesApart points f g    each point that both faces contain is one of their common corners, or on the edge
+--                               between two of these. Points of a face are stated as weighted means of its corners, for
+--                               all integer weights
 use Rattle.std.specs.Prelude.{ℕ, ◌≡◌, ◌+◌, ◌⊎◌, false, List, [], ◌∷◌}
 use Rattle.geo_sign.specs.Point.{Point}
-use Rattle.mesh_ply.specs.Meshes.{is_vertex_of, point_at}
+use Rattle.mesh.specs.Meshes.{is_vertex_of, point_at}
 use Rattle.triangle_gap.specs.Shared.{weighted}
 
 -- corners of the first that the second has not have the weight 0

@@ -2,12 +2,13 @@
 --
 --   AreCovered excluded common       each corner that is not common is excluded
 --   AreCommon m u v w             corners that are not marked have the weight 0
---   AreSettled s t common         at each point that both contain, the one or the other's weights are those of common corners alone
+--   AreSettled s t common         at each point that both triangles contain, the weights of one of the two are 0 except
+--                                 at common corners
 --   AreMarks f g m                the marks say which corners of f are corners of g
 --   IsTriangleOf points f t       t has the points of f
 use Rattle.std.specs.Prelude.{ℕ, ◌≡◌, ◌⊎◌, true, false, List, [], ◌∷◌}
 use Rattle.geo_sign.specs.Point.{Point}
-use Rattle.mesh_ply.specs.Meshes.{is_vertex_of, point_at}
+use Rattle.mesh.specs.Meshes.{is_vertex_of, point_at}
 use Rattle.triangle_gap.specs.Shared.{Weights, IsShared}
 use Rattle.triangle_gap.specs.declared.corners.Triangle.{Triangle}
 use Rattle.triangle_gap.specs.declared.corners.Excluded.{Excluded}

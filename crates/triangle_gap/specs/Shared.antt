@@ -1,11 +1,13 @@
 -- Points that two triangles contain, by weights of their corners.
 --
---   weighted a b c u v w   the sum of three points, each as often as its weight says
+--   weighted a b c u v w   the weighted sum of three points
 --   Weights                six whole numbers, three for the corners of each triangle
 --   IsShared s t n         the weights give one point of both
 --   IsExcluded f n            the weights of excluded corners are 0
---   AreExcluded s t f         they are at each point that both triangles contain
---   AreExcludedOff s t m      those of the second triangle's marked corners are
+--   AreExcluded s t f      at each point that both triangles contain, the weights of excluded corners are 0
+--                          (`IsExcluded`)
+--   AreExcludedOff s t m   at each point that both triangles contain, the weights of the second triangle's marked
+--                          corners are 0
 --
 -- A point of a triangle with whole corners is a weighted mean of them. The points that two such triangles share are a point, a
 -- segment or a polygon with rational corners, so where there is one but for common corners there is one with whole weights.

@@ -3,7 +3,7 @@
 ghost use Rattle.std.specs.Prelude.{◌≡◌, ◌<◌, ◌^◌, ◌⊎◌, All, length};
 ghost use Rattle.std.specs.Bool.{OnTrue};
 ghost use Rattle.geo_sign.specs.Point.{IsWithin};
-ghost use Rattle.mesh_ply.specs.Meshes.{is_vertex_of};
+ghost use Rattle.mesh.specs.Meshes.{is_vertex_of};
 ghost use Rattle.triangle_gap.specs.Shared.{AreExcluded};
 ghost use Rattle.triangle_gap.specs.Settled.{AreCovered, AreSettled, AreMarks, IsTriangleOf};
 ghost use Rattle.triangle_gap.specs.Gaps.{AreFacesApart};

@@ -11,24 +11,23 @@ use Rattle.geo_sign.specs.Tetrahedron.{DirectedFacet, is_among}
 use Rattle.geo_sign.specs.Vertices.{Vertices}
 use Rattle.geo_sign.specs.Cells.{written}
 
--- a list of cells, each by its four ascending numbers, and a list of directed facets, each by its three numbers with the
--- smallest first
+-- Two lists: cells, each as four ascending numbers, and directed facets, each as three numbers with the smallest first.
 pub record Complex : Type 0 where
   pub cells : List (List ℕ)
   pub facets : List (List ℕ)
 
--- the cell has the directed facet
+-- Tests whether f is a directed facet of the cell.
 abbrev pub has_facet : Vertices → List ℕ → DirectedFacet → Bool
 has_facet v row f = is_among (written v row) f
 
--- some cell has the directed facet
+-- Some listed cell has the directed facet f.
 abbrev pub HasFacet : Vertices → List (List ℕ) → DirectedFacet → Type 0
 HasFacet v cells f = Any (λ row. has_facet v row f ≡ true) cells
 
--- the index of the first cell that has the directed facet, and past the end where none has
+-- The index of the first listed cell that has the directed facet f, or the length of the list if there is none.
 abbrev pub cell_index : Vertices → List (List ℕ) → DirectedFacet → ℕ
 cell_index v cells f = position_or_len (λ row. has_facet v row f) cells
 
--- the first cell that has the directed facet; the adjacent cell at the facet is that of the opposite facet
+-- The cell that has the directed facet f: the cell on its positive side, or the empty list if there is none.
 abbrev pub cell_of : Vertices → List (List ℕ) → DirectedFacet → List ℕ
 cell_of v cells f = slice_index_or cells (cell_index v cells f) []

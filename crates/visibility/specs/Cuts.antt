@@ -1,13 +1,15 @@
 -- The network of cells and directed facets, labels of cells as inside or outside, and what they cost, all as of any network
 -- (Networks of flow_net). Labels are a test of cells.
 --
---   network_over s complex             cells are its nodes, and directed facets that have a capacity its arcs
+--   network_over s complex             the network of cells and facets: its nodes are the listed cells, its arcs the
+--                                      listed facets, each from its own cell to the adjacent one
 --   is_cut s complex inside f          the facet leads from an outside cell to an inside one
---   cut_facets s complex inside        these facets
---   cost s complex inside              the cost of labels
---   IsAdmissible s complex inside      no cell fixed outside is inside
---   IsLeastCost s complex inside       admissible, and no admissible labels cost less
---   IsLeastInside s complex inside     of the least cost, and inside of all others of that cost
+--   cut_facets v complex inside        the facets of outside cells with an inside adjacent cell, in ascending order
+--   cost s complex inside              of labels (a test of cells) in this network: the capacities of facets from
+--                                      outside cells to inside ones, plus the sinks of outside cells
+--   IsAdmissible s complex inside      no cell that is fixed outside is inside
+--   IsLeastCost s complex inside       no admissible labels cost less
+--   IsLeastInside s complex inside     the inside is contained in that of all labels of that cost
 use Rattle.std.specs.Prelude.{ℕ, ◌&&◌, not, Bool, List, filter, Contains}
 use Rattle.std.specs.List.{sum_by}
 use Rattle.std.specs.Str.{bytes_eq}
@@ -19,7 +21,9 @@ use Rattle.geo_sign.specs.Tetrahedron.{facet_at, turned}
 use Rattle.visibility.specs.Complexes.{Complex, cell_of}
 use Rattle.visibility.specs.Votes.{is_fixed, capacity, sink}
 
--- the listed cells and facets; a facet leads from its own cell to the adjacent cell
+-- The graph of a scene. Its nodes are the cells; cells fixed outside are fixed nodes. Its arcs are the listed directed
+-- facets: each leads from the facet's own cell to the adjacent cell. Its capacities and sinks are `capacity` and
+-- `sink`.
 abbrev pub network_over : Scene → Complex → Network (List ℕ) (List ℕ)
 network_over s complex =
     record {
@@ -35,11 +39,11 @@ network_over s complex =
       sink = sink s;
     }
 
--- the facet's own cell is outside and the adjacent cell is inside
+-- Tests whether the facet is on the surface: the cell on its positive side is outside, and the adjacent cell is inside.
 abbrev pub is_cut : Vertices → List (List ℕ) → (List ℕ → Bool) → List ℕ → Bool
 is_cut v cells inside f = not (inside (cell_of v cells (facet_at f))) && inside (cell_of v cells (turned (facet_at f)))
 
--- the facets between outside and inside, as outside cells have them, in ascending order
+-- The facets of the surface, counterclockwise as seen from outside, sorted by their vertex numbers.
 abbrev pub cut_facets : Vertices → Complex → (List ℕ → Bool) → List (List ℕ)
 cut_facets v complex inside = filter (is_cut v complex.cells inside) complex.facets
 
@@ -55,6 +59,6 @@ IsAdmissible s complex = networks.IsAdmissible (network_over s complex)
 abbrev pub IsLeastCost : Scene → Complex → (List ℕ → Bool) → Type 0
 IsLeastCost s complex = networks.IsLeastCost (network_over s complex)
 
--- labels of the least cost whose inside is contained in that of all labels of that cost
+-- The labelling of the scene's cells is the minimum cut with the smallest inside.
 abbrev pub IsLeastInside : Scene → Complex → (List ℕ → Bool) → Type 0
 IsLeastInside s complex = networks.IsLeastInside (network_over s complex)

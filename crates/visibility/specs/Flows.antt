@@ -1,8 +1,11 @@
 -- Flows through facets into cells, as of any network (Networks of flow_net). A flow is an amount on each facet that has a
 -- capacity, and one at each cell.
 --
---   value s complex on_cell                      the value of a flow
---   IsValidFlow s complex on_facet on_cell       a flow keeps within capacities and sinks, and is balanced at free cells
+--   value s complex on_cell                      the amounts at free cells' sinks, plus the whole sinks of the other
+--                                                cells
+--   IsValidFlow s complex on_facet on_cell       of amounts on directed facets and cells, in this network: within
+--                                                capacities and sinks, 0 at the sinks of cells fixed outside, balanced
+--                                                at free cells
 use Rattle.std.specs.Prelude.{ℕ, List}
 use Rattle.flow_net.specs.Networks as networks
 use Rattle.visibility.specs.Complexes.{Complex}

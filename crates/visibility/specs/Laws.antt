@@ -1,9 +1,9 @@
 -- What holds of a scene's amounts and lists, and labels by number as a test of cells.
 --
 --   row_index rows row     the index of a row in a list
---   test_of cells flags    the flag at a cell's index
+--   test_of cells flags    labels by number as a test of cells
 --   CapacitiesFit, SinksFit   no capacity and no sink is large
---   HasOneBehind s cells   each sight has at most one of these cells behind it
+--   HasOneBehind s cells   of some cells each sight has at most one behind it. Then the least cost is below 2^47
 --   LeastCostIsSmall       then no least cost is large, however many vertices there are
 --   IsOrdered n f          three distinct numbers below n, the smallest first
 --   FacetsAreOrdered       each facet that has a capacity is written so

@@ -1,8 +1,11 @@
 -- Cells and facets listed in any order.
 --
---   AreOnce rows               no two are equal
---   IsListingOf s listing      the cells of the scene and the facets that have a capacity, each once, in whatever order
---   AgreeInAnyOrder s c d      over the cells and facets of both, labels and flows are judged alike
+--   AreOnce rows               no two elements are equal
+--   IsListingOf s listing      the cells of the scene and the facets that have a capacity, each once, in any order. The
+--                              first cell of each facet is the same as in the ascending lists
+--   AgreeInAnyOrder s c d      in the networks over the lists c and d of cells and facets, the same labels have the
+--                              same cost and the smallest inside, and the same flows are valid and have the same value
+--                              (`AgreeAsNetworks`)
 use Rattle.std.specs.Prelude.{ℕ, ◌≡◌, ◌≢◌, List, AllPairs}
 use Rattle.std.specs.List.Sorted.{IsPermutation}
 use Rattle.flow_net.specs.Networks.{AgreeAsNetworks}

@@ -1,8 +1,10 @@
 -- What a scan shows, as calls take it.
 --
---   view_of given                     the scene of what is given
---   IsSightOf points scanners sight   a sight of one of the points, from one of the scanners
---   IsSound given                     all sights are such, of weights that they may have, and scanners are data points
+--   view_of given                     the scene of the points, scanners, sights and settings that a call is given
+--                                     (`Scene` in code)
+--   IsSightOf points scanners sight   the sight is of one of the points, from one of the scanners
+--   IsSound given                     all given sights are of given points and scanners, with valid weights, and not
+--                                     too many; the coordinates of the scanners are within `DATA_LIMIT`
 use Rattle.std.specs.Prelude.{◌+◌, ◌<◌, ◌≤◌, List, All, length}
 use Rattle.flow_net.specs.declared.votes.Sight.{Sight}
 use Rattle.flow_net.specs.Weights.{IsSightList}

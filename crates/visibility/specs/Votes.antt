@@ -1,14 +1,18 @@
 -- The visibility weights that sights add (Labatut, Pons and Keriven 2007, with whole numbers): a sight penalises each facet
 -- that it crosses on its way from the scanner to the vertex, and favours the cell behind the vertex as inside.
 --
---   is_fixed_in v scanners t    the cell has a corner or a scanner, and stays outside
---   is_fixed v scanners row     so it is of a cell by its row
+--   is_fixed_in v scanners t, is_fixed v scanners row
+--                               the cell stays outside: it has a corner of the box, or a scanner lies in it (also a
+--                               scanner without sights). All other cells are free
 --   crossings s f               what the sights that cross the directed facet weigh together
---   capacity s f                the facet's capacity
+--   capacity s f                the visibility weight times the sum of the weights of the sights that cross f, plus the
+--                               area weight
 --   sights_before s row         what the sights that the cell is behind weigh together
---   sink s row                  the cell's sink
+--   sink s row                  the visibility weight times the sum of the weights of the sights that the cell is
+--                               behind
 --   HasCapacity s cells f       a directed facet of a cell with a free adjacent cell
---   IsFacetList s cells facets  all of these, ascending
+--   IsFacetList s cells facets  the list has exactly the facets of these cells that have a capacity (`HasCapacity`),
+--                               each once, in ascending order
 --   IsComplexOf s complex       all cells of the scene, and all facets that have a capacity
 use Rattle.std.specs.Prelude.{ℕ, ◌≡◌, ◌+◌, ◌*◌, ◌||◌, nat_lt, Bool, false, List, AllPairs, Contains}
 use Rattle.std.specs.List.{list_any}
@@ -24,54 +28,57 @@ use Rattle.geo_sign.specs.Sights.{is_crossed, is_behind, is_cell_of}
 use Rattle.visibility.specs.Scenes.{Scene, scanner_point}
 use Rattle.visibility.specs.Complexes.{Complex, HasFacet, cell_of}
 
--- one of the four vertices is a corner of the box
+-- Tests whether the cell has a corner of the box.
 abbrev pub has_corner : Tetrahedron → Bool
 has_corner t = nat_lt t.a CORNERS || nat_lt t.b CORNERS || nat_lt t.c CORNERS || nat_lt t.d CORNERS
 
--- a scanner lies in the cell, whether it sees a vertex or none
+-- Tests whether some perturbed scanner is inside the cell. A scanner that sees no point counts too.
 abbrev pub has_scanner : Vertices → List Point → Tetrahedron → Bool
 has_scanner v scanners t = list_any (λ q. is_cell_of v (displaced q) t) scanners
 
--- the cell is fixed outside. Other cells are free.
+-- Tests whether the cell is fixed outside (a hard constraint): it has a corner of the box, or a scanner is in it. All
+-- other cells are free.
 abbrev pub is_fixed_in : Vertices → List Point → Tetrahedron → Bool
 is_fixed_in v scanners t = has_corner t || has_scanner v scanners t
 
--- the cell with this row is
+-- Tests whether a cell, given by its sorted vertex tuple, is fixed outside (`is_fixed_in`).
 unfoldable pub is_fixed : Vertices → List Point → List ℕ → Bool
 is_fixed v scanners row = is_fixed_in v scanners (written v row)
 
--- what the sights that cross the directed facet weigh together
+-- The total weight of the lines of sight that cross the directed facet f.
 unfoldable pub crossings : Scene → DirectedFacet → ℕ
 crossings s f = weight_where (λ sight. is_crossed s.vertices sight.vertex (scanner_point s.scanners sight.scanner) f) s.sights
 
--- the capacity of a directed facet: the visibility weight times these, and the area weight
+-- What the directed facet f costs if the surface passes there: `vote` times the weight of the lines of sight that cross
+-- it, plus `smooth`.
 abbrev pub capacity : Scene → DirectedFacet → ℕ
 capacity s f = s.settings.vote * crossings s f + s.settings.smooth
 
--- what the sights that the cell is behind weigh together
+-- The total weight of the lines of sight that end just before the cell. So the cell is the first one after their point.
 unfoldable pub sights_before : Scene → List ℕ → ℕ
 sights_before s row =
     weight_where
     (λ sight. is_behind s.vertices sight.vertex (scanner_point s.scanners sight.scanner) (written s.vertices row)) s.sights
 
--- the sink of a cell: the visibility weight times these
+-- What the cell costs if it is outside: `vote` times the weight of the lines of sight that end just before it.
 unfoldable pub sink : Scene → List ℕ → ℕ
 sink s row = s.settings.vote * sights_before s row
 
--- a directed facet of a cell, where the adjacent cell is free
+-- The directed facet f has a cell on each side, and the adjacent cell (on its negative side) is not fixed outside. Only
+-- these facets can lead from an outside to an inside cell, so only these have a cost.
 pub record HasCapacity (s : Scene) (cells : List (List ℕ)) (f : List ℕ) : Type 0 where
   pub three : f ≡ numbers_of (facet_at f)
   pub own : HasFacet s.vertices cells (facet_at f)
   pub across : HasFacet s.vertices cells (turned (facet_at f))
   pub free : is_fixed s.vertices s.scanners (cell_of s.vertices cells (turned (facet_at f))) ≡ false
 
--- the list of all facets that have a capacity: each once, in ascending order
+-- The list contains exactly the directed facets that have a capacity, each once, sorted.
 pub record IsFacetList (s : Scene) (cells facets : List (List ℕ)) : Type 0 where
   pub rising : AllPairs IsBefore facets
   pub only : (f : List ℕ) → Contains facets f → HasCapacity s cells f
   pub all : (f : List ℕ) → HasCapacity s cells f → Contains facets f
 
--- all cells of the scene, and all facets that have a capacity
+-- The complex has all Delaunay cells of the scene, and all directed facets that have a capacity.
 pub record IsComplexOf (s : Scene) (complex : Complex) : Type 0 where
   pub cells_are : IsCellList s.vertices complex.cells
   pub facets_are : IsFacetList s complex.cells complex.facets

@@ -16,11 +16,11 @@ use crate::NoMemory;
 use crate::network::{Counted, assemble};
 use flow_net::{Settings, Sight};
 use geo_sign::Point;
-use host::Silent;
 use solution::counted;
 use std::alloc::Global;
 use tetra_store::Tetra;
 use visibility::Scene;
+use watch::Silent;
 
 /// Builds the network of the cells of a store's data points, by a walk along each sight.
 ///

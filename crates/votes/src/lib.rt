@@ -1,6 +1,8 @@
 //! The network of linked Delaunay cells as lists, from the sights of a scan: a node for each cell, an arc for each directed facet
 //! with a free adjacent cell, both in ascending order.
 //!
+//! Verified: `count_votes` returns the network of a scan as lists of nodes and arcs. The programs do not use it.
+//!
 //! It is for users of the crates and for tests. The program works on cells and counts (`cell_net`, `solution`), and no crate on
 //! its path depends on this one.
 //!

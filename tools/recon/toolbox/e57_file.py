@@ -9,6 +9,10 @@ import struct
 from xml.etree import ElementTree
 from typing import Any, Iterator, Sequence
 
+import numpy as np
+
+from recon.toolbox.blocks import Block, Numbers, constant
+from recon.toolbox.e57_columns import framed, station_blocks
 from recon.toolbox.ply_text import ROW_LIMIT, SCANNER_LIMIT, Element, Property, Refusal
 from recon.toolbox.point_files import FileReader
 from recon.toolbox.vectors import turn_of
@@ -21,6 +25,7 @@ XML_LIMIT = 1 << 26
 MOST_BITS = 64
 ROWS_AT_ONCE = 4096
 LEAST_PACKET = 4
+SPAN = 1 << 20
 
 
 class NotRead(Refusal):
@@ -109,12 +114,20 @@ class Station:
         found = node.find(f'pose/{what}/{axis}')
         return float(otherwise) if found is None else float((found.text or '').strip() or 0)
 
+    def moved_all(self, p: Sequence[np.ndarray]) -> list[np.ndarray]:
+        """The same of columns of coordinates, to the last bit."""
+        with np.errstate(all='ignore'):
+            return [row[0] * p[0] + row[1] * p[1] + row[2] * p[2] + start for row, start in zip(self.turn, self.place)]
+
     def moved(self, p: list[float]) -> list[float]:
-        return [sum(row[k] * p[k] for k in range(3)) + start for row, start in zip(self.turn, self.place)]
+        return [row[0] * p[0] + row[1] * p[1] + row[2] * p[2] + start for row, start in zip(self.turn, self.place)]
 
 
 class E57Reader(FileReader):
     """An E57 file."""
+
+    # what was read last, from this place on, without the checksums
+    held_from, held = 0, b''
 
     def begin(self) -> None:
         head = self.file.read(48)
@@ -131,6 +144,7 @@ class E57Reader(FileReader):
             raise Refusal(f'the XML section of the E57 is invalid: {error}') from None
         if len(self.stations) > SCANNER_LIMIT:
             raise Refusal(f'more than {SCANNER_LIMIT} stations')
+        self.refuse_shared()
         more = [name for name in MORE if self.stations and all(name in station.names for station in self.stations)]
         properties = [Property(axis, 'double') for axis in 'xyz'] + [Property(*MORE[name]) for name in more]
         self.more, count = more, sum(station.count for station in self.stations)
@@ -144,6 +158,20 @@ class E57Reader(FileReader):
             node.tag = node.tag.rpartition('}')[2]
         return [Station(node) for node in root.findall('data3D/vectorChild')]
 
+    def refuse_shared(self) -> None:
+        """Refuses stations whose points are the same bytes, which would let a small file have any number of points."""
+        spans = sorted(self.span(station) for station in self.stations if station.count)
+        if any(start < end for (_, end), (start, _) in zip(spans, spans[1:])):
+            raise Refusal('two stations of the E57 name the same bytes')
+
+    def span(self, station: Station) -> tuple[int, int]:
+        """Returns where the packets of a station begin and end, without the checksums of pages."""
+        at = self.logical(station.offset)
+        kind, length, data = struct.unpack('<B7xQQ', self.read(at, 24))
+        if kind != 1:
+            raise Refusal('the header of the points of a station of the E57 is invalid')
+        return self.logical(data), at + length
+
     def position(self) -> list[str]:
         """Returns where the first station stood."""
         return list(map(repr, self.stations[0].place))
@@ -154,11 +182,14 @@ class E57Reader(FileReader):
 
     def read(self, start: int, count: int) -> bytes:
         """Bytes from a place on, without the checksums."""
-        whole = self.page - 4
-        first = start // whole
-        self.file.seek(first * self.page)
-        data = self.file.read((start + count + whole - 1) // whole * self.page - first * self.page)
-        plain = b''.join(data[at:at + whole] for at in range(0, len(data), self.page))[start - first * whole:][:count]
+        at = start - self.held_from
+        if at < 0 or at + count > len(self.held):
+            whole = self.page - 4
+            first, wanted = start // whole, max(count, SPAN)
+            self.file.seek(first * self.page)
+            data = self.file.read((start + wanted + whole - 1) // whole * self.page - first * self.page)
+            self.held_from, self.held, at = first * whole, framed(data, self.page), start - first * whole
+        plain = self.held[at:at + count]
         if len(plain) < count:
             raise Refusal('truncated: the file ends within the data of an E57')
         return plain
@@ -190,13 +221,23 @@ class E57Reader(FileReader):
         if done < station.count:
             raise Refusal(f'truncated: station {number} has {done} points of {station.count}')
 
+    def columns(self, element: Element) -> Iterator[Block]:
+        """Yields the points in blocks, as `rows` yields them. Raises `NotPlain` where only that reads them."""
+        for number, station in enumerate(self.stations):
+            place = [station.names.index(name) for name in PLACE]
+            more = [station.names.index(name) for name in self.more]
+            invalid = station.names.index(INVALID) if INVALID in station.names else None
+            for values in station_blocks(station.nodes, self.packets(station), station.count):
+                point = station.moved_all([values[k] for k in place])
+                if invalid is not None:
+                    for column in point:
+                        column[values[invalid] != 0] = np.nan
+                count = len(point[0])
+                yield Block([*map(Numbers, point), *(Numbers(values[k]) for k in more), constant(number, count)], count)
+
     def packets(self, station: Station) -> Iterator[list[bytes]]:
         """Yields the bytes of each column in each packet of a station."""
-        at = self.logical(station.offset)
-        kind, length, data = struct.unpack('<B7xQQ', self.read(at, 24))
-        end, at = at + length, self.logical(data)
-        if kind != 1:
-            raise Refusal('the header of the points of a station of the E57 is invalid')
+        at, end = self.span(station)
         while at + 6 <= end:
             kind, size, count = struct.unpack('<BxHH', self.read(at, 6))
             if size < LEAST_PACKET - 1:

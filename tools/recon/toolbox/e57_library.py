@@ -9,9 +9,11 @@ from typing import Any, Iterator
 
 import numpy as np
 
+from recon.toolbox.blocks import Block, Numbers, constant
 from recon.toolbox.e57_file import MORE, E57Reader, NotRead
 from recon.toolbox.ply_text import SCANNER_LIMIT, Element, Property, Refusal
 from recon.toolbox.point_files import FileReader
+from recon.toolbox.text_columns import NotPlain
 
 AXES = ('cartesianX', 'cartesianY', 'cartesianZ')
 ROWS_AT_ONCE = 4096
@@ -60,14 +62,26 @@ class LibraryReader(FileReader):
             yield from self.places
             return
         for number, count in enumerate(self.counts):
-            columns = self.columns(number)
+            columns = self.station_columns(number)
             size = len(columns[0])
             for start in range(0, size, ROWS_AT_ONCE):
                 for values in zip(*(column[start:start + ROWS_AT_ONCE].tolist() for column in columns)):
                     yield [*map(repr, values), str(number)]
             yield from (['nan'] * 3 + ['0'] * len(self.more) + [str(number)] for _ in range(size, count))
 
-    def columns(self, number: int) -> list[np.ndarray[Any, Any]]:
+    def columns(self, element: Element) -> Iterator[Block]:
+        """Yields the points in blocks, a station at a time."""
+        for number, count in enumerate(self.counts):
+            columns = self.station_columns(number)
+            if len(columns[0]) > count:
+                raise NotPlain
+            lost = count - len(columns[0])
+            yield Block([*map(Numbers, columns), constant(number, len(columns[0]))], len(columns[0]))
+            if lost:
+                none = [Numbers(np.full(lost, np.nan)) for _ in range(3)]
+                yield Block([*none, *(constant(0, lost) for _ in self.more), constant(number, lost)], lost)
+
+    def station_columns(self, number: int) -> list[np.ndarray[Any, Any]]:
         """Returns the columns of a station, its coordinates where they are by its pose."""
         try:
             data = self.library.read_scan(number, intensity='intensity' in self.more, ignore_missing_fields=True,

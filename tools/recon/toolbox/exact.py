@@ -6,6 +6,7 @@ from typing import Sequence
 
 WIDE = Context(prec=400, Emin=-99999, Emax=99999)
 READ = Context(prec=30, rounding=ROUND_HALF_EVEN, Emin=-99999, Emax=99999)
+OVER_30_DIGITS = 10 ** 30
 
 
 def text(value: Decimal) -> str:
@@ -55,9 +56,9 @@ class Pose:
 
 def shifted(value: int, places: int) -> str | None:
     """Returns a whole number over a power of ten, as a word; None where it has over 30 digits."""
-    digits = str(abs(value))
-    if len(digits) > 30:
+    if abs(value) >= OVER_30_DIGITS:
         return None
+    digits = str(abs(value))
     if places:
         digits = digits.zfill(places + 1)
         digits = f'{digits[:-places]}.{digits[-places:]}'.rstrip('0').rstrip('.')

@@ -5,19 +5,20 @@ write_mesh (by the ending of the name).
 """
 from __future__ import annotations
 
-import contextlib
 import json
 import os
 import re
 import struct
 import warnings
 from dataclasses import dataclass, field
-from typing import Any, BinaryIO, Callable, Iterator, List, NoReturn, Tuple
+from typing import Any, Callable, Iterator, List, NoReturn, Tuple
 
 import numpy as np
 
+from recon.toolbox.output_files import whole_bytes
 from recon.toolbox.ply_text import FORMATS, Refusal
 from recon.toolbox.vectors import axes, normal
+from recon.toolbox.vertex_values import linear_colors, vertex_normals
 from recon.toolbox.whole_text import whole_numbers
 
 HEAD = re.compile(rb'ply\nformat ascii 1\.0\n(?:comment(?: [^\n]{0,998})?\n){0,100}'
@@ -27,6 +28,7 @@ WHOLE = ('char', 'uchar', 'short', 'ushort', 'int', 'uint', 'int8', 'uint8', 'in
 NOT_OURS = 'not a mesh of `recon build`: '
 LIMIT = 2097151
 COLORS = ('red', 'green', 'blue')
+NORMALS = ('nx', 'ny', 'nz')
 LINES = 10_000
 Column = Tuple[str, str, np.ndarray]
 
@@ -89,6 +91,16 @@ class Finished:
     face_columns: List[Column] = field(default_factory=list)
     vertex_of: np.ndarray = field(default_factory=lambda: np.zeros(0, np.int64))
 
+    def normals(self) -> np.ndarray:
+        """Returns the normals of the vertices, of length 1, (n, 3) as float32."""
+        return vertex_normals(self.places, self.faces)
+
+    def with_normals(self) -> List[Column]:
+        """The columns of the vertices, and after them their normals, unless columns of these names are there."""
+        names = {name for name, _, _ in self.columns}
+        normals = [] if names & set(NORMALS) else [(name, 'float', values) for name, values in zip(NORMALS, self.normals().T)]
+        return [*self.columns, *normals]
+
     def colors(self) -> np.ndarray | None:
         """Red, green and blue of each vertex as bytes, where it has them as whole numbers. Of 16 bits the upper eight are taken."""
         named = {name: (kind, values) for name, kind, values in self.columns}
@@ -97,20 +109,6 @@ class Finished:
         values = np.stack([named[name][1] for name in COLORS], axis=1).astype(np.int64)
         shift = 8 if values.max(initial=0) > 255 else 0
         return np.clip(values >> shift, 0, 255).astype(np.uint8)
-
-
-@contextlib.contextmanager
-def whole_bytes(path: str) -> Iterator[BinaryIO]:
-    """Yields a binary file that is written beside its place and moved there when it is whole."""
-    part = path + '.part'
-    with open(part, 'wb') as file:
-        try:
-            yield file
-        except BaseException:
-            file.close()
-            os.unlink(part)
-            raise
-    os.replace(part, path)
 
 
 def table_of(parts: list[tuple[str, str, Any]]) -> np.ndarray:
@@ -127,12 +125,13 @@ def column_parts(columns: list[Column]) -> list[tuple[str, str, np.ndarray]]:
 
 def ply_parts(mesh: Finished) -> Iterator[bytes]:
     """Yields a binary PLY, in pieces."""
+    columns = mesh.with_normals()
     lines = ['ply', 'format binary_little_endian 1.0', 'comment made by finish', f'element vertex {len(mesh.places)}']
-    lines += [f'property double {axis}' for axis in 'xyz'] + [f'property {kind} {name}' for name, kind, _ in mesh.columns]
+    lines += [f'property double {axis}' for axis in 'xyz'] + [f'property {kind} {name}' for name, kind, _ in columns]
     lines += [f'element face {len(mesh.faces)}', 'property list uchar int vertex_indices']
     lines += [f'property {kind} {name}' for name, kind, _ in mesh.face_columns] + ['end_header', '']
     yield '\n'.join(lines).encode('ascii')
-    yield table_of([('place', '<f8', mesh.places), *column_parts(mesh.columns)]).tobytes()
+    yield table_of([('place', '<f8', mesh.places), *column_parts(columns)]).tobytes()
     threes = np.full(len(mesh.faces), 3, np.uint8)
     yield table_of([('count', 'u1', threes), ('corners', '<i4', mesh.faces), *column_parts(mesh.face_columns)]).tobytes()
 
@@ -162,21 +161,22 @@ def stl_parts(mesh: Finished) -> Iterator[bytes]:
 
 
 def glb_parts(mesh: Finished) -> Iterator[bytes]:
-    """Yields a binary glTF, in pieces: the mesh with its colors, if it has any. The node adds the middle of coordinates that are far from 0, which
-    would lose digits in 24 bits."""
+    """Yields a binary glTF, in pieces: the mesh with normals at its vertices, and with its colors, if it has any, as linear values. The node adds the
+    middle of coordinates that are far from 0, which would lose digits in 24 bits."""
     middle = far_middle(mesh.places)
     places, colors = (mesh.places - middle).astype('<f4'), mesh.colors()
     node: dict[str, Any] = {'mesh': 0, 'translation': middle.tolist()} if middle.any() else {'mesh': 0}
-    data = [mesh.faces.astype('<u4').tobytes(), places.tobytes()]
+    data = [mesh.faces.astype('<u4').tobytes(), places.tobytes(), mesh.normals().astype('<f4').tobytes()]
     accessors: list[dict[str, Any]] = [
         {'bufferView': 0, 'componentType': 5125, 'count': 3 * len(mesh.faces), 'type': 'SCALAR'},
         {'bufferView': 1, 'componentType': 5126, 'count': len(places), 'type': 'VEC3',
-         'min': places.min(axis=0).astype(float).tolist(), 'max': places.max(axis=0).astype(float).tolist()}]
-    attributes = {'POSITION': 1}
+         'min': places.min(axis=0).astype(float).tolist(), 'max': places.max(axis=0).astype(float).tolist()},
+        {'bufferView': 2, 'componentType': 5126, 'count': len(places), 'type': 'VEC3'}]
+    attributes = {'POSITION': 1, 'NORMAL': 2}
     if colors is not None:
-        data.append(np.c_[colors, np.full(len(colors), 255, np.uint8)].tobytes())
-        accessors.append({'bufferView': 2, 'componentType': 5121, 'normalized': True, 'count': len(places), 'type': 'VEC4'})
-        attributes['COLOR_0'] = 2
+        data.append(linear_colors(colors).astype('<u2').tobytes())
+        accessors.append({'bufferView': 3, 'componentType': 5123, 'normalized': True, 'count': len(places), 'type': 'VEC4'})
+        attributes['COLOR_0'] = 3
     views, at = [], 0
     for number, part in enumerate(data):
         views.append({'buffer': 0, 'byteOffset': at, 'byteLength': len(part), 'target': 34962 if number else 34963})
@@ -192,13 +192,15 @@ def glb_parts(mesh: Finished) -> Iterator[bytes]:
 
 
 def obj_parts(mesh: Finished) -> Iterator[bytes]:
-    """Yields a Wavefront OBJ, in pieces. Colors follow the coordinates, from 0 to 1, as MeshLab, Blender and CloudCompare read
-    them."""
+    """Yields a Wavefront OBJ, in pieces, each coordinate by the fewest digits that tell it from all other numbers of its kind. Colors follow the
+    coordinates, from 0 to 1, as MeshLab, Blender and CloudCompare read them; each corner of a face has the normal of its vertex."""
     yield b'# made by finish\n'
     colors = mesh.colors()
     rows = mesh.places if colors is None else np.c_[mesh.places, colors / 255]
-    yield from lines('v %.17g %.17g %.17g' + ('' if colors is None else ' %.4g %.4g %.4g') + '\n', rows)
-    yield from lines('f %d %d %d\n', mesh.faces + 1)
+    for part in lines('v %r %r %r' + ('' if colors is None else ' %.4g %.4g %.4g') + '\n', rows):
+        yield part.replace(b'.0 ', b' ').replace(b'.0\n', b'\n')
+    yield from lines('vn %.4g %.4g %.4g\n', mesh.normals())
+    yield from lines('f %d//%d %d//%d %d//%d\n', np.repeat(mesh.faces + 1, 2, axis=1))
 
 
 def lines(form: str, rows: np.ndarray) -> Iterator[bytes]:

@@ -4,13 +4,12 @@ Rows are lists of tokens: a text body's own, digit by digit, and the numbers of 
 the same number. Nothing is held but a part of the file, and each output stands only when it is whole.
 
 Names: `Refusal` (why a file is rejected) · Property, Element (what a header says) · Reader (a file's header and its rows,
-text or binary) · plain_names (columns under names that every reader takes) · whole_file, Writer (a text PLY whose count is
-known at the end) · decimals (whether three words are a point) · index_text (the number of a scanner, written as a whole
-number) · read_positions (a table of scanner positions).
+text or binary) · plain_names (columns under names that every reader takes) · Writer (a text PLY whose count is known at the
+end) · decimals (whether three words are a point) · index_text (the number of a scanner, written as a whole number) ·
+read_positions (a table of scanner positions).
 """
 from __future__ import annotations
 
-import contextlib
 import os
 import re
 import struct
@@ -23,6 +22,8 @@ CHUNK = 1 << 20
 ROW_LIMIT = 4294967295
 SCANNER_LIMIT = 65536
 LINE_LIMIT = 1000
+# a name, with a number after it and what is before it, makes a line of a header
+NAME_LIMIT = 900
 FORMATS = {'char': 'b', 'int8': 'b', 'uchar': 'B', 'uint8': 'B', 'short': 'h', 'int16': 'h', 'ushort': 'H', 'uint16': 'H',
            'int': 'i', 'int32': 'i', 'uint': 'I', 'uint32': 'I', 'float': 'f', 'float32': 'f', 'double': 'd', 'float64': 'd'}
 ORDERS = {'ascii': '', 'binary_little_endian': '<', 'binary_big_endian': '>'}
@@ -324,31 +325,16 @@ class Reader:
 
 
 def plain_names(properties: list[Property]) -> list[Property]:
-    """Returns the same columns under names that every reader takes: printable ASCII, no two the same."""
+    """Returns the same columns under names that every reader takes: printable ASCII, on a short line, no two the same."""
     taken, plain = set(), []
     for p in properties:
-        name = base = re.sub(r'[^!-~]', '_', p.name)
+        name = base = re.sub(r'[^!-~]', '_', p.name)[:NAME_LIMIT]
         number = 2
         while name in taken:
             name, number = f'{base}_{number}', number + 1
         taken.add(name)
         plain.append(Property(name, p.kind, p.count_kind))
     return plain
-
-
-@contextlib.contextmanager
-def whole_file(path: str) -> Iterator[TextIO]:
-    """Yields a text file that is written beside its place and moved there when it is whole, so a run that ends early leaves what
-    was there."""
-    part = path + '.part'
-    with open(part, 'w', encoding='ascii', newline='\n', buffering=CHUNK) as file:
-        try:
-            yield file
-        except BaseException:
-            file.close()
-            os.unlink(part)
-            raise
-    os.replace(part, path)
 
 
 class Writer:
@@ -378,6 +364,12 @@ class Writer:
     def row(self, words: Sequence[str]) -> None:
         self.file.write(' '.join(words) + '\n')
         self.count += 1
+
+    def rows(self, columns: Sequence[Sequence[str]]) -> None:
+        """Writes rows whose words are given by column."""
+        lines = list(map(' '.join, zip(*columns)))
+        self.file.write('\n'.join([*lines, '']))
+        self.count += len(lines)
 
     def finish(self, positions: Sequence[Sequence[str]]) -> None:
         """Writes the scanners' rows and corrects the counts."""

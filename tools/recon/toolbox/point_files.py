@@ -10,11 +10,12 @@ import struct
 from decimal import Decimal
 from importlib.util import find_spec
 from math import isfinite
-from typing import Any, Iterator
+from typing import Any, BinaryIO, Iterator
 
 import numpy as np
 
 from recon.toolbox.exact import shifted
+from recon.toolbox.pdal_program import opened_by_pdal, pdal_path
 from recon.toolbox.ply_text import (ARE_THREE, CHUNK, FORMATS, LINE_LIMIT, ROW_LIMIT, SCANNER_LIMIT, Element, Property, Reader, Refusal,
                                     count_in)
 from recon.toolbox.text_lines import Lines
@@ -57,7 +58,8 @@ class FileReader:
     """What readers share: the file, and elements by name."""
 
     def __init__(self, path: str) -> None:
-        self.path, self.file = path, open(path, 'rb')
+        self.path = path
+        self.file: BinaryIO = open(path, 'rb')
         self.elements: list[Element] = []
         try:
             self.begin()
@@ -306,13 +308,19 @@ class LasReader(FileReader):
         head = self.file.read(375)
         if len(head) < 227:
             raise Refusal('truncated: the file ends in the header of a LAS')
+        if head[104] > 127 and find_spec('laspy') is None and pdal_path() is not None:
+            self.file.close()
+            self.file = opened_by_pdal(self.path)
+            head = self.file.read(375)
+            if len(head) < 227:
+                raise Refusal('pdal wrote no LAS')
         offset, = struct.unpack_from('<I', head, 96)
         kind, size, count = struct.unpack_from('<BHI', head, 104)
         if head[25] >= 4 and len(head) >= 255:
             count = struct.unpack_from('<Q', head, 247)[0] or count
         self.is_packed, kind = kind > 127, kind & 127
         if self.is_packed and find_spec('laspy') is None:
-            raise Refusal('this is LAZ, compressed LAS: install laspy and lazrs, or uncompress it by LAStools or PDAL')
+            raise Refusal('this is LAZ, compressed LAS: install laspy and lazrs, or PDAL, or uncompress it by LAStools')
         if kind >= len(LAS_ROWS):
             raise Refusal(f'unsupported point format of the LAS: {kind}')
         if count > ROW_LIMIT:

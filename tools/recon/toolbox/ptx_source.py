@@ -1,5 +1,5 @@
-"""Points of Leica's PTX: each station's points, brought to where they are by its matrix, with the number of the station; and each
-station's position. Returns that are empty (0 0 0) are left out, and so are intensity and colors.
+"""Points of Leica's PTX: each station's points, brought to where they are by its matrix, with the number of the station, intensity and colors; and each
+station's position. Returns that are empty (0 0 0) are left out.
 
 Coordinates are exact: digits as they stand where a matrix changes nothing, and else the whole sum of products, rounded only
 where it has over 30 digits, the most that `recon` reads.
@@ -7,15 +7,23 @@ where it has over 30 digits, the most that `recon` reads.
 from __future__ import annotations
 
 from decimal import Decimal
-from typing import Any, Sequence
+from typing import Any, Iterator, Sequence
 
+import numpy as np
+
+from recon.toolbox.blocks import Block, constant
 from recon.toolbox.exact import Pose
+from recon.toolbox.extras import common_extras, extra_words, text_extras
 from recon.toolbox.ply_text import IS_NUMBER, SCANNER_LIMIT, Refusal, decimals
+from recon.toolbox.posed import point_columns
 from recon.toolbox.sieve import Passage
 from recon.toolbox.sources import Source, refuse_others, scan_columns
+from recon.toolbox.text_columns import LineParts, NotPlain
 from recon.toolbox.text_lines import Lines
+from recon.toolbox.text_points import HeadLines, counted_rows, extra_columns, scanner_layout
 from recon.toolbox.tool import number_of, yes
 
+HEADER = 10
 UNCHANGED = [[Decimal(int(row == column)) for column in range(3)] for row in range(4)]
 
 
@@ -39,7 +47,7 @@ class Station:
                       'its matrix: choose one with position=header or position=matrix')
 
 
-def read_count(lines: Lines, words: Sequence[str] | None) -> int:
+def read_count(lines: Lines | HeadLines, words: Sequence[str] | None) -> int:
     if words is None:
         raise Refusal(f'truncated: the file ends within the header of a station, after line {lines.number}')
     if len(words) != 1 or not words[0].isdecimal():
@@ -47,7 +55,7 @@ def read_count(lines: Lines, words: Sequence[str] | None) -> int:
     return int(words[0])
 
 
-def read_numbers(lines: Lines, width: int) -> list[str]:
+def read_numbers(lines: Lines | HeadLines, width: int) -> list[str]:
     words = lines.next_words()
     if words is None:
         raise Refusal(f'truncated: the file ends within the header of a station, after line {lines.number}')
@@ -56,7 +64,7 @@ def read_numbers(lines: Lines, width: int) -> list[str]:
     return words
 
 
-def read_station(lines: Lines) -> Station | None:
+def read_station(lines: Lines | HeadLines) -> Station | None:
     """Returns the next station's header, or None at the end of the file."""
     words = lines.next_words()
     if words is None:
@@ -77,8 +85,13 @@ class Ptx(Source):
 
     def __init__(self, path: str, options: Any) -> None:
         refuse_others(options, ('position', 'open_end'), 'a PTX')
-        super().__init__(scan_columns(), path)
-        self.choice, self.lines = options.position, Lines(path, yes(options.open_end, 'open_end'))
+        self.layout = scanner_layout(path, HEADER)
+        self.extras = text_extras(self.layout, None)
+        self.more = common_extras([self.extras])
+        self.more_names = [p.name for p in self.more]
+        super().__init__(scan_columns() + self.more, path)
+        self.path, self.open_end = path, yes(options.open_end, 'open_end')
+        self.choice, self.lines = options.position, Lines(path, self.open_end)
         self.counts = {'empty': 0, 'not finite': 0}
         if self.choice not in (None, 'header', 'matrix'):
             raise Refusal('position= must be header or matrix')
@@ -104,8 +117,36 @@ class Ptx(Source):
             elif float(point[0]) == 0 and float(point[1]) == 0 and float(point[2]) == 0:
                 self.counts['empty'] += 1
             else:
-                receiver.row([*(pose.transform(point) if pose else point), index])
+                receiver.row([*(pose.transform(point) if pose else point), index, *extra_words(words, self.extras, self.more_names)])
         self.count += station.count
+
+    def close(self) -> None:
+        self.lines.close()
+
+    def blocks(self) -> Iterator[Block]:
+        self.lines.close()
+        try:
+            with open(self.path, 'rb') as file:
+                yield from self.station_blocks(LineParts(file, self.open_end))
+        except ArithmeticError:
+            raise NotPlain from None
+
+    def station_blocks(self, lines: LineParts) -> Iterator[Block]:
+        """Yields the points of all stations in blocks."""
+        head, width = HeadLines(lines), 3 + len(self.layout.places)
+        station = read_station(head)
+        while station is not None:
+            number, pose = len(self.positions), Pose(station.matrix) if station.matrix != UNCHANGED else None
+            self.positions.append(list(map(str, station.position(number, self.choice))))
+            if number == SCANNER_LIMIT:
+                raise NotPlain
+            for rows in counted_rows(lines, station.count, width):
+                point, is_empty = point_columns(rows, pose)
+                self.counts['empty'] += int(np.count_nonzero(is_empty))
+                self.count += rows.count
+                columns = [*point, constant(number, rows.count), *extra_columns(rows, self.layout, self.more_names)]
+                yield Block(columns, rows.count, is_empty)
+            station = read_station(head)
 
     def run(self, receiver: Passage) -> None:
         try:

@@ -4,13 +4,19 @@ Names: Rows · Listed · checked_index (the number of a scanner that is there).
 """
 from __future__ import annotations
 
-from typing import Any, Callable, Sequence
+from typing import Any, Callable, Iterator, Sequence
 
+import numpy as np
+
+from recon.toolbox.blocks import Block, Numbers, constant, finite_points
 from recon.toolbox.flight import TIMES, Above, Flight
 from recon.toolbox.ply_text import (ARE_THREE, FORMATS, IS_NUMBER, IS_WHOLE, SCANNER_LIMIT, Element, Property, Refusal, decimals, index_text,
                               read_positions)
+from recon.toolbox.row_columns import columns_of
 from recon.toolbox.sieve import Passage
 from recon.toolbox.sources import Source, refuse_others
+from recon.toolbox.text_columns import NotPlain
+from recon.toolbox.tool import three
 
 MOST_WEIGHTS = 1000
 
@@ -75,6 +81,30 @@ class OfReader(Source):
     def pass_vertices(self, receiver: Passage) -> None:
         raise NotImplementedError
 
+    def close(self) -> None:
+        self.reader.close()
+
+    def element_blocks(self) -> Iterator[Block]:
+        """Yields the points in blocks, and reads the other elements where they stand."""
+        try:
+            for element in self.reader.elements:
+                if element is self.vertex:
+                    yield from columns_of(self.reader, element)
+                elif element is self.scanners:
+                    self.read_scanners()
+                else:
+                    for _ in self.reader.rows(element):
+                        pass
+                    self.counts[f'rows of {element.name}'] = element.count
+            self.reader.finish()
+        finally:
+            self.reader.close()
+
+    def check_weights(self, block: Block) -> None:
+        """Raises `NotPlain` for a weight that is no whole number."""
+        if self.weight is not None and not all(map(IS_WHOLE, set(block.columns[self.weight].words()))):
+            raise NotPlain
+
     def refuse_weight(self, word: str, place: Callable[[], str]) -> None:
         """Refuses a weight that is not a whole number. Those that occurred before are known."""
         if word not in self.weights:
@@ -97,16 +127,21 @@ class Rows(OfReader):
     """Points whose properties are not lists. All are kept."""
 
     def __init__(self, reader: Any, path: str, options: Any) -> None:
-        refuse_others(options, ('index', 'positions', 'open_end'), 'a PLY, PCD, LAS or E57 with scanners')
+        refuse_others(options, ('scanner', 'index', 'positions', 'open_end'), 'a PLY, PCD, LAS or E57 with scanners')
         super().__init__(reader, path, [Property(p.name, p.kind) for p in reader.element('vertex').properties])
         self.counts['without scanner'] = 0
         self.point, self.index = self.places, index_column(self.vertex, options.index)
+        position = getattr(options, 'scanner', None)
         if options.positions:
             if self.scanners:
                 raise Refusal('positions= cannot be used with a file that has an element scanner')
             self.positions = [words for words, _ in read_positions(options.positions)]
-        self.has_scanners = self.scanners is not None or bool(options.positions)
-        self.limit = self.scanners.count if self.scanners else len(self.positions) if options.positions else None
+        elif position:
+            # one position for all points, whatever the file says
+            self.positions, self.scanners, self.index = [three(position, 'scanner=')], None, None
+        has_positions = bool(options.positions or position)
+        self.has_scanners = self.scanners is not None or has_positions
+        self.limit = self.scanners.count if self.scanners else len(self.positions) if has_positions else None
         self.is_one = self.index is None and not self.scanners and self.limit == 1
         if self.has_scanners and self.index is None and not self.is_one:
             raise Refusal('vertex has no property scanner: pass the name of the property with the scanner index as index=')
@@ -122,7 +157,32 @@ class Rows(OfReader):
                 p.name = 'scanner_before' if p.name == 'scanner' else p.name
             self.columns[self.index] = Property('scanner', 'int')
         elif self.is_one:
+            for p in self.columns:
+                p.name = 'scanner_before' if p.name == 'scanner' else p.name
             self.columns.append(Property('scanner', 'int'))
+
+    def blocks(self) -> Iterator[Block]:
+        for block in self.element_blocks():
+            self.check_weights(block)
+            if self.is_one:
+                block.columns.append(constant(0, block.count))
+            elif self.index is not None:
+                self.number_scanners(block, self.index)
+            yield block
+
+    def number_scanners(self, block: Block, index: int) -> None:
+        """Puts whole numbers of scanners in the place of those of the file, and leaves out points that have none."""
+        numbers = block.columns[index].floats()
+        are_finite = np.isfinite(numbers)
+        whole = np.where(are_finite, numbers, 0)
+        limit = 2 ** 31 if self.limit is None else self.limit
+        if block.count and ((whole % 1 != 0).any() or whole.min() < 0 or whole.max() >= limit):
+            raise NotPlain
+        block.columns[index] = Numbers(whole.astype(np.int64))
+        if not are_finite.all():
+            is_point = np.logical_and.reduce([np.isfinite(block.columns[k].floats()) for k in self.point])
+            block.left_out = ~are_finite
+            self.counts['without scanner'] += int(np.count_nonzero(block.left_out & is_point))
 
     def pass_vertices(self, receiver: Passage) -> None:
         x, y, z = self.point
@@ -231,6 +291,17 @@ class Airborne(OfReader):
             receiver.row([*words, number])
         self.positions = list(self.flight.positions) if self.flight else [self.above.position()]
         self.counts['before or after the flight'] = unknown
+
+    def blocks(self) -> Iterator[Block]:
+        if self.flight:
+            raise NotPlain
+        self.counts['before or after the flight'] = 0
+        for block in self.element_blocks():
+            self.check_weights(block)
+            self.above.box.show_all(finite_points(block, self.point))
+            block.columns.append(constant(0, block.count))
+            yield block
+        self.positions = [self.above.position()]
 
     def remark(self) -> str:
         return '' if self.flight else self.above.remark()

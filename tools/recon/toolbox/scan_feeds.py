@@ -12,10 +12,11 @@ from typing import Any, Callable, Sequence
 
 from recon.toolbox.ply_text import Refusal
 from recon.toolbox.scan_source import source_of
-from recon.toolbox.sieve import Mover, Passage
+from recon.toolbox.sieve import Passage, Sieve
 from recon.toolbox.sources import READING, Source
+from recon.toolbox.tool import Options, field
 
-KEYS = READING + ('origin',)
+KEYS = READING + ('origin', 'from', 'to', 'outside')
 Receive = Callable[[Sequence[str]], None]
 
 
@@ -24,7 +25,7 @@ class Fed:
     scanners."""
 
     def __init__(self, positions: list[list[str]], source: Source) -> None:
-        self.positions, self.read, self.left_out = positions, source.read(), source.counts
+        self.positions, self.read, self.left_out = positions, source.read(), dict(source.counts)
         self.has_weights, self.has_lists = source.weight is not None, source.has_lists
 
 
@@ -42,10 +43,20 @@ def picker(source: Source, receive: Receive) -> Callable[[list[str]], None]:
     return row
 
 
+def reading_of(options: Any) -> Options:
+    """The options that say how a scan is read, without those that a program has for something else."""
+    chosen = Options(KEYS)
+    for key in KEYS:
+        setattr(chosen, field(key), getattr(options, field(key), None))
+    return chosen
+
+
 def feed(names: Sequence[str], options: Any, receive: Receive) -> Fed:
     """Hands the rows of a scan on, and answers what it is."""
-    source, mover = source_of(names, options), Mover(options.origin)
+    source, mover = source_of(names, options), Sieve(reading_of(options))
     if not source.has_scanners:
         raise Refusal('no scanner positions in the file: pass positions=')
     source.run(Passage(source, mover, picker(source, receive)))
-    return Fed([mover.moved(position) for position in source.positions], source)
+    fed = Fed([mover.moved(position) for position in source.positions], source)
+    fed.left_out.update(mover.counts)
+    return fed

@@ -1,6 +1,7 @@
 """Which source the arguments of a program name, by the options and the first bytes of the file."""
 from __future__ import annotations
 
+import copy
 import os
 from typing import Any, Callable, Sequence
 
@@ -13,13 +14,15 @@ from recon.toolbox.row_source import Airborne, Listed, Rows
 from recon.toolbox.sources import Source
 from recon.toolbox.station_source import Overhead, Stations, is_count
 from recon.toolbox.text_lines import Lines
-from recon.toolbox.tool import yes
+from recon.toolbox.tool import three, yes
 
 
 def source_of(names: Sequence[str], options: Any) -> Source:
     """Returns the source of these names."""
     if options.table is None and not names:
         raise Refusal('no input file')
+    if getattr(options, 'scanner', None) is not None:
+        names, options = with_scanner(names, options)
     has_normals = yes(options.normals, 'normals')
     if options.far is not None and not has_normals:
         raise Refusal('far= requires normals=yes')
@@ -35,6 +38,18 @@ def source_of(names: Sequence[str], options: Any) -> Source:
     if options.table is not None or len(names) > 1 or '=' in names[0]:
         return Stations(names, options)
     return one_file(names[0], options)
+
+
+def with_scanner(names: Sequence[str], options: Any) -> tuple[Sequence[str], Any]:
+    """Returns names and options where scanner= gives one position to all points of a file: FILE=X,Y,Z for a file that has no rows."""
+    if len(names) != 1 or '=' in names[0] and not os.path.exists(names[0]) or options.positions is not None or options.table is not None:
+        raise Refusal('scanner= requires a single FILE without =X,Y,Z, and excludes positions= and table=')
+    three(options.scanner, 'scanner=')
+    if os.path.isdir(names[0]) or has_rows(names[0]):
+        return names, options
+    changed = copy.copy(options)
+    changed.scanner = None
+    return [f'{names[0]}={options.scanner}'], changed
 
 
 def airborne(names: Sequence[str], options: Any) -> Source:

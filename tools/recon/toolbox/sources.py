@@ -5,15 +5,17 @@ place and a scanner alone) · READING (the options that say how files are read) 
 """
 from __future__ import annotations
 
-from typing import TYPE_CHECKING, Any, Sequence
+from typing import TYPE_CHECKING, Any, Iterator, Sequence
 
 from recon.toolbox.ply_text import Property, Refusal
+from recon.toolbox.text_columns import NotPlain
 from recon.toolbox.tool import number_of
 
 if TYPE_CHECKING:
+    from recon.toolbox.blocks import Block
     from recon.toolbox.sieve import Passage
 
-READING = ('table', 'index', 'positions', 'position', 'images', 'normals', 'far', 'above', 'flight', 'open_end')
+READING = ('scanner', 'table', 'index', 'positions', 'position', 'images', 'normals', 'far', 'above', 'flight', 'open_end')
 
 
 def scan_columns() -> list[Property]:
@@ -40,6 +42,14 @@ class Source:
     def run(self, receiver: Passage) -> None:
         """Passes on all rows."""
         raise NotImplementedError
+
+    def blocks(self) -> Iterator[Block]:
+        """Yields all rows in blocks, which is faster than `run`. Raises `NotPlain`, also after some blocks, where only that reads them; errors without
+        their place are of this kind too."""
+        raise NotPlain
+
+    def close(self) -> None:
+        """Closes the files of a source that is not read to its end."""
 
     def read(self) -> str:
         """Returns what was read, in words."""

@@ -1,5 +1,5 @@
-"""Points of files that are one a station, each with its scanner's position. Of points that stand in rows the coordinates are
-taken alone, digits as they stand.
+"""Points of files that are one a station, each with its scanner's position. Taken are coordinates, digits as they stand, and colors, intensity and normals
+where all files have them.
 
 A file is a PLY of any kind, a PCD, a LAS or an E57; a PTS (the number of its rows, and then the rows); or a list of numbers with
 X, Y and Z first in each line, parted by spaces, tabs, commas or semicolons, perhaps with one heading, and with lines of remarks
@@ -10,20 +10,25 @@ from __future__ import annotations
 import os
 from typing import Any, Callable, Iterator, List, Optional, Sequence, Tuple
 
+from recon.toolbox.blocks import Block, TextColumn, constant, finite_points
+from recon.toolbox.extras import FileExtras, common_extras, extra_words, extras_of
 from recon.toolbox.flight import Above
 from recon.toolbox.ply_text import ARE_THREE, IS_NOT_FINITE, IS_NUMBER, SCANNER_LIMIT, Refusal, decimals, read_positions
 from recon.toolbox.point_files import PcdReader, has_rows, open_points
+from recon.toolbox.row_columns import columns_of
 from recon.toolbox.sieve import Passage
 from recon.toolbox.sources import Source, refuse_others, scan_columns
+from recon.toolbox.text_columns import NotPlain
 from recon.toolbox.text_lines import DECIMAL_COMMAS, Lines
+from recon.toolbox.text_points import extra_columns, list_rows, pts_rows
 from recon.toolbox.tool import number_of, three, yes
 
 Point = Tuple[List[str], Tuple[str, int]]
 Station = Tuple[str, Optional[Sequence[str]]]
 
 
-def row_points(path: str, open_end: bool) -> Iterator[Point]:
-    """Yields the points of a file of rows, each with a word for its place."""
+def row_points(path: str, open_end: bool, more: Sequence[int] = ()) -> Iterator[Point]:
+    """Yields the points of a file of rows, with the fields of more columns, each with a field for its place."""
     reader = open_points(path, open_end)
     try:
         vertex = reader.element('vertex')
@@ -35,7 +40,7 @@ def row_points(path: str, open_end: bool) -> Iterator[Point]:
         for element in reader.elements:
             for row, words in enumerate(reader.rows(element)):
                 if element is vertex:
-                    yield [words[x], words[y], words[z]], ('vertex row', row)
+                    yield [words[x], words[y], words[z], *(words[k] for k in more)], ('vertex row', row)
         reader.finish()
     finally:
         reader.close()
@@ -43,6 +48,26 @@ def row_points(path: str, open_end: bool) -> Iterator[Point]:
 
 def is_count(words: Sequence[str]) -> bool:
     return len(words) == 1 and words[0].isdecimal()
+
+
+def row_blocks(path: str, open_end: bool, more: Sequence[int]) -> Iterator[Block]:
+    """Yields the same in blocks."""
+    reader = open_points(path, open_end)
+    try:
+        vertex = reader.element('vertex')
+        if vertex is None:
+            raise NotPlain
+        order = [*vertex.point_columns(), *more]
+        for element in reader.elements:
+            if element is vertex:
+                for block in columns_of(reader, element):
+                    yield block.taken(order)
+            else:
+                for _ in reader.rows(element):
+                    pass
+        reader.finish()
+    finally:
+        reader.close()
 
 
 def pts_points(lines: Lines) -> Iterator[Point]:
@@ -60,7 +85,7 @@ def pts_points(lines: Lines) -> Iterator[Point]:
                 raise Refusal('a PTX has its own scanner positions: pass it as the only file, without =X,Y,Z')
             if len(words) < 3:
                 raise Refusal(f'line {lines.number} is not a row X Y Z ...')
-            yield words[:3], ('line', lines.number)
+            yield words, ('line', lines.number)
         words = lines.next_words()
 
 
@@ -88,24 +113,43 @@ def list_points(lines: Lines, counts: dict[str, int]) -> Iterator[Point]:
                 if len(words) != width or width < 3:
                     raise Refusal(f'line {lines.number} has {number_of(len(words), "value")}'
                                   + (f', the first row has {width}' if width >= 3 else ', a point has three'))
-                yield words[:3], ('line', lines.number)
+                yield words, ('line', lines.number)
         line = lines.next_line()
 
 
-def points_of(path: str, open_end: bool, counts: dict[str, int]) -> Iterator[Point]:
-    """Yields the points of a file of any of the three kinds."""
+def points_of(path: str, open_end: bool, counts: dict[str, int], extras: FileExtras = FileExtras({}), names: Sequence[str] = ()) -> Iterator[Point]:
+    """Yields the points of a file of any of the three kinds, each with its further values of these names."""
     with open(path, 'rb') as file:
         start = file.readline(100)
     if not start:
         raise Refusal('the file is empty')
     if has_rows(path):
-        yield from row_points(path, open_end)
+        yield from row_points(path, open_end, [extras.columns[name][0] for name in names])
         return
     lines = Lines(path, open_end)
     try:
-        yield from pts_points(lines) if start.strip().isdigit() else list_points(lines, counts)
+        for words, at in pts_points(lines) if start.strip().isdigit() else list_points(lines, counts):
+            yield [*words[:3], *extra_words(words, extras, names)], at
     finally:
         lines.close()
+
+
+def blocks_of(path: str, open_end: bool, counts: dict[str, int], extras: FileExtras, names: Sequence[str]) -> Iterator[Block]:
+    """Yields the same points in blocks."""
+    if has_rows(path):
+        yield from row_blocks(path, open_end, [extras.columns[name][0] for name in names])
+        return
+    layout = extras.layout
+    if layout is None:
+        raise NotPlain
+    if extras.start is None:
+        rows_of = pts_rows(path, open_end, 3 + len(layout.places))
+    else:
+        if extras.start.headings:
+            counts['heading'] = counts.get('heading', 0) + extras.start.headings
+        rows_of = list_rows(path, open_end, extras.start)
+    for rows in rows_of:
+        yield Block([*(TextColumn(rows, k) for k in range(3)), *extra_columns(rows, layout, names)], rows.count)
 
 
 def station_of(name: str) -> Station:
@@ -159,25 +203,52 @@ def stations(names: Sequence[str], table: str | None) -> list[Station]:
     return found
 
 
+def files_of_table(table: str) -> list[str]:
+    """Returns the paths of a table of stations and of the files that it names."""
+    return [table] + [os.path.join(os.path.dirname(table), name) for _, name in read_positions(table) if name is not None]
+
+
 class Stations(Source):
     """Files of stations."""
 
     def __init__(self, names: Sequence[str], options: Any) -> None:
         refuse_others(options, ('table', 'open_end'), 'FILE=X,Y,Z or table=')
         self.files, self.open_end = stations(names, options.table), yes(options.open_end, 'open_end')
-        super().__init__(scan_columns(), self.files[0][0] if len(self.files) == 1 else number_of(len(self.files), 'file'))
+        self.find_extras()
+        super().__init__(scan_columns() + self.more, self.files[0][0] if len(self.files) == 1 else number_of(len(self.files), 'file'))
         self.numbers: dict[tuple[str, ...], str] = {}
 
+    def find_extras(self) -> None:
+        """Finds what the files have beyond coordinates, and what all of them have."""
+        have_positions = all(position is not None for _, position in self.files)
+        self.extras = [extras_of(path, self.open_end) if have_positions else FileExtras({}) for path, _ in self.files]
+        self.more = common_extras(self.extras)
+        self.more_names = [p.name for p in self.more]
+
     def run(self, receiver: Passage) -> None:
-        for path, position in self.files:
+        for (path, position), extras in zip(self.files, self.extras):
             try:
                 if position is None:
                     self.pass_viewed(path, receiver)
                 else:
                     self.positions.append(position)
-                    self.pass_file(path, str(len(self.positions) - 1), receiver.row)
+                    self.pass_file(path, extras, str(len(self.positions) - 1), receiver.row)
             except Refusal as refusal:
                 raise Refusal(f'{path}: {refusal}') from None
+
+    def blocks(self) -> Iterator[Block]:
+        for (path, position), extras in zip(self.files, self.extras):
+            if position is None:
+                raise NotPlain
+            self.positions.append(position)
+            yield from self.file_blocks(path, extras, len(self.positions) - 1)
+
+    def file_blocks(self, path: str, extras: FileExtras, index: int) -> Iterator[Block]:
+        """Yields the points of a file in blocks, with this number of a scanner."""
+        for block in blocks_of(path, self.open_end, self.counts, extras, self.more_names):
+            self.count += block.count
+            block.columns.insert(3, constant(index, block.count))
+            yield block
 
     def number_of_view(self, place: Sequence[str]) -> str:
         """Returns the number of a place that points of any file were seen from."""
@@ -206,16 +277,16 @@ class Stations(Source):
         finally:
             reader.close()
 
-    def pass_file(self, path: str, index: str, row: Callable[[list[str]], None]) -> None:
+    def pass_file(self, path: str, extras: FileExtras, index: str, row: Callable[[list[str]], None]) -> None:
         at = ('', 0)
 
         def place() -> str:
             return f'{at[0]} {at[1]}'
 
-        for point, at in points_of(path, self.open_end, self.counts):
+        for point, at in points_of(path, self.open_end, self.counts, extras, self.more_names):
             self.count += 1
             if decimals(point[0], point[1], point[2], place):
-                point.append(index)
+                point.insert(3, index)
                 row(point)
             else:
                 self.counts['not finite'] += 1
@@ -227,7 +298,8 @@ class Overhead(Stations):
     def __init__(self, names: Sequence[str], options: Any) -> None:
         refuse_others(options, ('above', 'open_end'), 'above=')
         self.files, self.open_end = [(name, ('0', '0', '0')) for name in names], yes(options.open_end, 'open_end')
-        Source.__init__(self, scan_columns(), names[0] if len(names) == 1 else number_of(len(names), 'file'))
+        self.find_extras()
+        Source.__init__(self, scan_columns() + self.more, names[0] if len(names) == 1 else number_of(len(names), 'file'))
         self.above = Above()
 
     def run(self, receiver: Passage) -> None:
@@ -235,11 +307,18 @@ class Overhead(Stations):
             self.above.box.show(float(words[0]), float(words[1]), float(words[2]))
             receiver.row(words)
 
-        for path, _ in self.files:
+        for (path, _), extras in zip(self.files, self.extras):
             try:
-                self.pass_file(path, '0', row)
+                self.pass_file(path, extras, '0', row)
             except Refusal as refusal:
                 raise Refusal(f'{path}: {refusal}') from None
+        self.positions = [self.above.position()]
+
+    def blocks(self) -> Iterator[Block]:
+        for (path, _), extras in zip(self.files, self.extras):
+            for block in self.file_blocks(path, extras, 0):
+                self.above.box.show_all(finite_points(block))
+                yield block
         self.positions = [self.above.position()]
 
     def remark(self) -> str:

@@ -35,10 +35,10 @@ def write(folder: str, names: list[str], options: Any) -> None:
     more = ''.join(' ' + option for option in options)
     with open(os.path.join(folder, 'jobs.txt'), 'w', encoding='ascii') as file:
         for name in names:
-            job = JOB.format(recon='${RECON:-recon}', name=name, options=more, dollar='$')
+            job = JOB.format(recon='"${RECON:-recon}"', name=name, options=more, dollar='$')
             file.write(LINE.format(name=name, job=job))
     with open(os.path.join(folder, 'Makefile'), 'w', encoding='ascii') as file:
-        job = JOB.format(recon='$(RECON)', name='$*', options=more, dollar='$$')
+        job = JOB.format(recon='"$(RECON)"', name='$*', options=more, dollar='$$')
         file.write(MAKEFILE.format(names=' '.join(names), job=job))
 
 

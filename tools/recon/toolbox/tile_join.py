@@ -21,7 +21,8 @@ from fractions import Fraction
 from dataclasses import dataclass
 from typing import Any, BinaryIO, Callable, Iterator, List, Optional, TextIO, Tuple
 
-from recon.toolbox.ply_text import CHUNK, Refusal, read_head, whole_file
+from recon.toolbox.output_files import passing_file, whole_file
+from recon.toolbox.ply_text import CHUNK, Refusal, read_head
 from recon.toolbox.tile_gaps import Gaps
 from recon.toolbox.tile_jobs import is_done
 from recon.toolbox.tool import Report, number_of
@@ -325,16 +326,6 @@ class Joined:
         self.face_count += self.filled
 
 
-@contextlib.contextmanager
-def passing_file(path: str) -> Iterator[TextIO]:
-    """Yields a text file that is taken away at the end."""
-    with open(path, 'w+', encoding='ascii', newline='\n', buffering=CHUNK) as file:
-        try:
-            yield file
-        finally:
-            os.unlink(path)
-
-
 def copy(passing: TextIO, file: TextIO) -> None:
     """Puts what was written into a passing file behind what stands in another."""
     passing.seek(0)
@@ -345,7 +336,7 @@ def join_tiles(folder: str, tiles: list[Tile], handed: set[int], out: str, fills
                int]:
     """Writes the joined surface, and answers what was joined and how many faces the tiles had."""
     had = 0
-    with whole_file(out) as file, passing_file(out + '.vertices.part') as vertices, passing_file(out + '.faces.part') as faces:
+    with whole_file(out) as file, passing_file(out) as vertices, passing_file(out) as faces:
         joined = Joined(vertices, faces, Seams(tiles, report), handed)
         for tile in tiles:
             mesh = read_mesh(os.path.join(folder, tile.name + '.mesh.ply'))

@@ -7,19 +7,18 @@ Names: Wanted (what a split is asked for) · split (cuts a scan into a folder's 
 """
 from __future__ import annotations
 
-import contextlib
 import json
 import os
-import shutil
 from itertools import chain
 from math import inf, isinf
 from operator import gt
 from dataclasses import dataclass
-from typing import Any, Callable, Dict, Iterator, Sequence
+from typing import Any, Callable, Dict, Sequence
 
 import numpy as np
 
 from recon.toolbox import tile_jobs
+from recon.toolbox.output_files import new_folder
 from recon.toolbox.ply_text import SCANNER_LIMIT, Property, Refusal, Writer
 from recon.toolbox.scan_feeds import Fed, feed
 from recon.toolbox.tile_boxes import Core, Cut, Row, Sample, cores_of, divide, mean_spacing
@@ -290,22 +289,6 @@ def write_folder(scan: list[str], folder: str, wanted: Wanted, options: Any) -> 
     return fed, about
 
 
-@contextlib.contextmanager
-def whole_folder(path: str) -> Iterator[str]:
-    """Yields a folder that is filled beside its place and moved there when it is whole; one that is there is refused."""
-    path = path.rstrip('/')
-    if os.path.lexists(path):
-        raise Refusal(f'{path} exists already: choose a new folder')
-    part = path + '.part'
-    os.mkdir(part)
-    try:
-        yield part
-        os.rename(part, path)
-    except BaseException:
-        shutil.rmtree(part)
-        raise
-
-
 @dataclass
 class SplitReport(Report):
     """Tiles that were written: how many, the most points of one and the points of all, the overlap and the mean spacing."""
@@ -326,7 +309,7 @@ class SplitReport(Report):
 
 def split(scan: list[str], folder: str, wanted: Wanted, options: Any) -> SplitReport:
     """Cuts the scan of these names into tiles."""
-    with whole_folder(folder) as part:
+    with new_folder(folder) as part:
         fed, about = write_folder(scan, part, wanted, options)
     tiles = about['tiles']
     most, handed = max(tile['points'] for tile in tiles), sum(tile['points'] for tile in tiles)

@@ -8,10 +8,14 @@ from __future__ import annotations
 
 import os
 import sys
+import warnings
 from decimal import Decimal
 from typing import Any, Callable, Iterator, Sequence
 
+from recon.toolbox.one_form import version_line
 from recon.toolbox.ply_text import IS_NUMBER, Refusal, count_in
+from recon.toolbox.progress import read_part, signs_of_life, step
+from recon.toolbox.stopping import Stopped, stoppable
 
 SWITCHES = ('above', 'outside', 'open_end', 'normals', 'flips', 'manifold', 'seen', 'fill')
 FARTHEST = 300
@@ -100,11 +104,20 @@ def run(work: Callable[..., Any], doc: str, name_count: int | None, keys: tuple[
         if '--help' in words or '-h' in words:
             print(doc.strip(), flush=True)
             return
-        report = work(*read_words(words, name_count, keys))
+        if words == ['--version']:
+            print(version_line(name), flush=True)
+            return
+        names, options = read_words(words, name_count, keys)
+        # what is not finite is looked for where it matters
+        warnings.simplefilter('ignore', RuntimeWarning)
+        with stoppable(), signs_of_life(name), step('working', read_part(names + inputs_in(names))):
+            report = work(names, options)
         print(f'{name}: {report}', flush=True)
         sys.exit(3 if isinstance(report, Report) and report.is_empty else 0)
     except NotUnderstood:
         sys.exit(told(2, f'{name}: invalid arguments: see {name} --help'))
+    except Stopped as error:
+        sys.exit(told(error.status, f'{name}: {error}'))
     except Refusal as refusal:
         sys.exit(told(1, f'{name}: error: {refusal}'))
     except ArithmeticError:
@@ -116,6 +129,11 @@ def run(work: Callable[..., Any], doc: str, name_count: int | None, keys: tuple[
         sys.exit(0 if '--help' in words or '-h' in words else 1)
     except OSError as error:
         sys.exit(told(1, f'{name}: error: {error.strerror}: {error.filename or "writing"}'))
+
+
+def inputs_in(names: list[str]) -> list[str]:
+    """Returns the files of names as FILE=X,Y,Z."""
+    return [name.rpartition('=')[0] for name in names if '=' in name]
 
 
 def told(status: int, line: str) -> int:

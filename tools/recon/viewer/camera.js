@@ -61,6 +61,13 @@ class Camera {
     return [scale / width, 0, 0, 0, 0, scale / height, 0, 0, 0, 0, (far + near) / (near - far), -1, 0, 0, 2 * far * near / (near - far), 0];
   }
 
+  /** Returns the eye, and the direction to a pixel of a picture of this size. */
+  ray(x, y, width, height) {
+    const [right, up, back] = this.axes(), step = 2 * Math.tan(HALF_ANGLE) / Math.min(width, height);
+    const across = (x - width / 2) * step, above = (height / 2 - y) * step;
+    return [this.aim.map((place, k) => place + back[k] * this.distance), right.map((part, k) => part * across + up[k] * above - back[k])];
+  }
+
   orbit(right, down) {
     this.turn -= right;
     this.tilt = clamp(this.tilt + down, -1.57, 1.57);

@@ -1,6 +1,8 @@
 // The page: its switches, mouse, touch and keys. `#mesh=2&flat=1&unseen=0` behind the page's address sets them at the start.
 
-const SWITCHES = ['flat', 'unseen', 'back', 'colors', 'scanners', 'sights'];
+const SWITCHES = ['flat', 'unseen', 'back', 'colors', 'scanners', 'sights', 'full', 'turned', 'measure'];
+// how far in pixels a click may go before it drags
+const STILL = 4;
 const element = (id) => document.getElementById(id);
 
 class Page {
@@ -11,10 +13,18 @@ class Page {
     this.scene = new Scene(this.canvas, scene.scanners, scene.sights);
     this.loaded = new Map();
     this.waits = false;
+    this.ruler = new Ruler(scene);
     this.listen();
+    element('unseen').checked = scene.showsUnseen;
     this.readAddress();
     this.camera.reset();
+    this.cut();
     this.show(Number(element('mesh').value));
+  }
+
+  /** The switches, by name. */
+  options() {
+    return Object.fromEntries(SWITCHES.map((id) => [id, element(id).checked]));
   }
 
   /** Draws before the next picture of the screen, once. */
@@ -23,25 +33,65 @@ class Page {
     this.waits = true;
     requestAnimationFrame(() => {
       this.waits = false;
-      this.scene.draw(this.camera, Object.fromEntries(SWITCHES.map((id) => [id, element(id).checked])));
+      this.scene.draw(this.camera, this.options());
     });
   }
 
-  /** Decodes mesh `k` where that was not done, and draws it unless another was asked for meanwhile. */
+  /** Shows mesh `k`: first its preview where it has one, and then all faces unless they are switched off, or another mesh was asked for
+   *  meanwhile. */
   async show(k) {
     this.asked = k;
     const head = this.data.meshes[k];
     element('name').textContent = head.name;
     element('status').textContent = 'reading the mesh';
     try {
-      if (!this.loaded.has(k)) this.loaded.set(k, this.scene.upload(await decoded(k, head), head));
+      if (head.preview && !this.loaded.has(`mesh-${k}`)) await this.load(k, `preview-${k}`, head.preview);
+      if (!head.preview || element('full').checked) await this.load(k, `mesh-${k}`, head);
+      else await this.load(k, `preview-${k}`, head.preview);
     } catch (error) {
-      return fail(`the mesh cannot be shown: ${error.message}`);
+      fail(`the mesh cannot be shown: ${error.message}`);
     }
+  }
+
+  /** Decodes a block where that was not done, and draws it. */
+  async load(k, id, head) {
+    if (!this.loaded.has(id)) this.loaded.set(id, this.scene.upload(await decoded(id, head), head));
     if (this.asked !== k) return;
-    this.scene.mesh = this.loaded.get(k);
-    element('status').textContent = `${head.faces.toLocaleString('en')} faces, ${head.vertices.toLocaleString('en')} vertices`;
+    this.scene.mesh = this.loaded.get(id);
+    const all = this.data.meshes[k], faces = `${all.faces.toLocaleString('en')} faces, ${all.vertices.toLocaleString('en')} vertices`;
+    element('status').textContent = head === all ? faces : `preview by ${head.faces.toLocaleString('en')} faces of ${faces}`;
     this.canvas.dataset.mesh = k;
+    this.canvas.dataset.block = id;
+    this.draw();
+    // the picture comes before the next block is decoded
+    await new Promise((done) => setTimeout(done, 30));
+  }
+
+  /** Takes the section over from its switches. */
+  cut() {
+    const axis = element('section').value, part = Number(element('at').value), { box, low, side } = this.data, k = AXES.indexOf(axis);
+    this.scene.section = sectionOf(axis, part, element('turned').checked, box);
+    element('has-section').hidden = k < 0;
+    element('height').textContent = k < 0 ? '' : `${axis} = ${(low[k] + side * part * box[k]).toPrecision(6)}`;
+    this.draw();
+  }
+
+  /** Measures at a pixel of the view. */
+  pick(x, y) {
+    const { canvas, scene } = this, { mesh } = scene, options = this.options();
+    if (!mesh) return;
+    const ray = this.camera.ray(x, y, canvas.clientWidth, canvas.clientHeight);
+    const place = met(mesh, options.unseen ? mesh.head.faces : mesh.head.seen, ray, scene.section, options.back);
+    if (place) this.ruler.add(place);
+    this.tell();
+  }
+
+  /** Says what was measured, and draws it. */
+  tell() {
+    const isRough = this.scene.mesh?.head !== this.data.meshes[this.asked];
+    const text = this.ruler.text();
+    element('measured').textContent = text + (text && isRough ? ', on the preview' : '');
+    this.scene.measure(this.ruler.places.flat());
     this.draw();
   }
 
@@ -51,6 +101,8 @@ class Page {
     for (const id of SWITCHES) if (given.has(id)) element(id).checked = given.get(id) === '1';
     if (given.has('mesh')) element('mesh').value = given.get('mesh');
     if (given.get('up') in FRAMES) this.camera.up = element('up').value = given.get('up');
+    if (AXES.includes(given.get('section'))) element('section').value = given.get('section');
+    if (given.has('at')) element('at').value = given.get('at');
   }
 
   listen() {
@@ -61,7 +113,14 @@ class Page {
     element('has-colors').hidden = !meshes.some((head) => head.colored);
     element('has-scanners').hidden = !scanners.length;
     element('has-sights').hidden = !sights.length;
+    element('has-full').hidden = !meshes.some((head) => head.preview);
     for (const id of SWITCHES) element(id).addEventListener('change', () => this.draw());
+    for (const id of ['section', 'at', 'turned']) element(id).addEventListener('input', () => this.cut());
+    element('full').addEventListener('change', () => this.show(this.asked));
+    element('measure').addEventListener('change', () => {
+      this.ruler.clear();
+      this.tell();
+    });
     element('mesh').addEventListener('input', (event) => this.show(Number(event.target.value)));
     element('up').addEventListener('change', (event) => {
       this.camera.up = event.target.value;
@@ -84,10 +143,15 @@ class Page {
     canvas.addEventListener('pointerdown', (event) => {
       canvas.setPointerCapture(event.pointerId);
       held.set(event.pointerId, [event.clientX, event.clientY]);
+      this.pressed = held.size === 1 && event.button === 0 ? [event.offsetX, event.offsetY] : null;
+    });
+    canvas.addEventListener('pointerup', (event) => {
+      const start = this.pressed, end = [event.offsetX, event.offsetY];
+      if (start && element('measure').checked && Math.hypot(end[0] - start[0], end[1] - start[1]) < STILL) this.pick(...end);
     });
     for (const kind of ['pointerup', 'pointercancel']) canvas.addEventListener(kind, (event) => held.delete(event.pointerId));
     canvas.addEventListener('pointermove', (event) => this.move(event));
-    canvas.addEventListener('dblclick', () => this.reset());
+    canvas.addEventListener('dblclick', () => element('measure').checked || this.reset());
     canvas.addEventListener('contextmenu', (event) => event.preventDefault());
     canvas.addEventListener('wheel', (event) => {
       event.preventDefault();
@@ -123,6 +187,10 @@ class Page {
     else if (event.key === '+' || event.key === '=') this.camera.zoom(0.85);
     else if (event.key === '-') this.camera.zoom(1 / 0.85);
     else if (event.key === 'Home') this.camera.reset();
+    else if (event.key === 'Escape') {
+      this.ruler.clear();
+      this.tell();
+    }
     else return;
     event.preventDefault();
     this.draw();

@@ -82,9 +82,9 @@ function normalsOf(positions, corners, faces) {
   return normals;
 }
 
-/** Returns positions, normals, corners and colors of mesh `k`, of which `head` gives the counts. */
-async function decoded(k, head) {
-  const bytes = await inflated(`mesh-${k}`);
+/** Returns positions, normals, corners and colors of the mesh in the block `id`, of which `head` gives the counts. */
+async function decoded(id, head) {
+  const bytes = await inflated(id);
   const positions = positionsOf(planes(bytes, 0, 3 * head.vertices), head.vertices);
   const corners = cornersOf(bytes, 12 * head.vertices, head);
   const end = 12 * head.vertices + 8 * head.fans + 4 * head.faces + Math.ceil(head.faces / 8);

@@ -3,21 +3,24 @@
 const SURFACE_VERTEX = `#version 300 es
 in vec3 position, normal, color;
 uniform mat4 projection, view;
-out vec3 seen, turned, painted;
+out vec3 seen, turned, painted, at;
 void main() {
   vec4 placed = view * vec4(position, 1);
   seen = placed.xyz;
+  at = position;
   turned = mat3(view) * normal;
   painted = color;
   gl_Position = projection * placed;
 }`;
 const SURFACE_FRAGMENT = `#version 300 es
 precision highp float;
-in vec3 seen, turned, painted;
+in vec3 seen, turned, painted, at;
 uniform bool isFlat, isPainted;
 uniform vec3 base;
+uniform vec4 section;
 out vec4 pixel;
 void main() {
+  if (dot(section.xyz, at) > section.w) discard;
   vec3 face = normalize(cross(dFdx(seen), dFdy(seen)));
   vec3 side = gl_FrontFacing ? turned : -turned;
   vec3 normal = isFlat || dot(side, side) < 0.01 ? face : normalize(side);
@@ -50,7 +53,16 @@ class Scene {
     this.lines = this.program(LINE_VERTEX, LINE_FRAGMENT);
     this.spots = this.strip(spots);
     this.segments = this.strip(segments);
+    this.measured = this.strip([]);
+    this.section = [0, 0, 0, 1];
     this.mesh = null;
+  }
+
+  /** Sets the places that were clicked, three numbers each. */
+  measure(numbers) {
+    this.gl.deleteVertexArray(this.measured.array);
+    this.gl.deleteBuffer(this.measured.buffer);
+    this.measured = this.strip(numbers);
   }
 
   shader(kind, text) {
@@ -77,20 +89,21 @@ class Scene {
   }
 
   attribute(slot, array, type, bytes) {
-    const gl = this.gl;
-    gl.bindBuffer(gl.ARRAY_BUFFER, gl.createBuffer());
+    const gl = this.gl, buffer = gl.createBuffer();
+    gl.bindBuffer(gl.ARRAY_BUFFER, buffer);
     gl.bufferData(gl.ARRAY_BUFFER, array, gl.STATIC_DRAW);
     gl.enableVertexAttribArray(slot);
     gl.vertexAttribPointer(slot, 3, type, type !== gl.FLOAT, bytes, 0);
+    return buffer;
   }
 
   /** Returns positions on the graphics card, three numbers each. */
   strip(numbers) {
     const gl = this.gl, array = gl.createVertexArray();
     gl.bindVertexArray(array);
-    this.attribute(0, new Float32Array(numbers), gl.FLOAT, 12);
+    const buffer = this.attribute(0, new Float32Array(numbers), gl.FLOAT, 12);
     gl.bindVertexArray(null);
-    return { array, count: numbers.length / 3 };
+    return { array, buffer, count: numbers.length / 3 };
   }
 
   /** Returns a decoded mesh on the graphics card. */
@@ -103,7 +116,7 @@ class Scene {
     gl.bindBuffer(gl.ELEMENT_ARRAY_BUFFER, gl.createBuffer());
     gl.bufferData(gl.ELEMENT_ARRAY_BUFFER, mesh.corners, gl.STATIC_DRAW);
     gl.bindVertexArray(null);
-    return { array, head };
+    return { array, head, positions: mesh.positions, corners: mesh.corners };
   }
 
   /** Gives the canvas as many pixels as the screen has there, at most two a unit of length of the page. */
@@ -135,6 +148,8 @@ class Scene {
     gl.uniform1f(uniforms.size, 8 * ratio);
     if (options.sights) this.drawStrip(uniforms, this.segments, gl.LINES, [0.15, 0.4, 0.8, 0.5]);
     if (options.scanners) this.drawStrip(uniforms, this.spots, gl.POINTS, [0.8, 0.1, 0.1, 1]);
+    gl.disable(gl.DEPTH_TEST);
+    for (const kind of [gl.LINES, gl.POINTS]) this.drawStrip(uniforms, this.measured, kind, [0.75, 0, 0.6, 1]);
     gl.bindVertexArray(null);
   }
 
@@ -143,6 +158,7 @@ class Scene {
     if (options.back) gl.disable(gl.CULL_FACE);
     else gl.enable(gl.CULL_FACE);
     gl.bindVertexArray(array);
+    gl.uniform4fv(uniforms.section, this.section);
     gl.uniform1i(uniforms.isFlat, options.flat);
     gl.uniform1i(uniforms.isPainted, head.colored && options.colors);
     gl.uniform3fv(uniforms.base, SEEN);

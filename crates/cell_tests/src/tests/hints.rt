@@ -3,11 +3,12 @@
 ghost use Rattle.std.specs.Prelude.{◌≡◌, length, IfOk};
 
 use super::flow_networks::three_nodes;
-use flow_hint::{Hint, find_hint, find_hint_above, find_hint_on, find_levels};
+use flow_hint::{Hint, find_hint, find_hint_above, find_hint_on};
 use flow_net::{Flow, NetBuilder, Sequence};
-use host::Silent;
+use max_flow::find_levels;
 use std::alloc::Global;
 use std::test::Fail;
+use watch::Silent;
 
 /// Capacities of three nodes with the sinks 1, 3 and 5, the maximum flow, and which nodes reach a sink with residual capacity.
 #[derive(Clone, Copy)]

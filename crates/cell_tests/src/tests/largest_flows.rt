@@ -2,14 +2,15 @@
 //! capacities increase.
 
 use super::flow_networks::{Kind, random_net, row_with_sights};
+use flow_hint::Hinting;
 use flow_net::{Net, NetBuilder, cost, value};
-use host::Silent;
 use max_flow::{
     is_valid_flow, least_inside, minimum_cut, minimum_cut_above, minimum_cut_and_preflow, resume,
     solve,
 };
 use std::alloc::Global;
 use std::test::Fail;
+use watch::Silent;
 
 /// The largest capacity and the largest sink, 2^60.
 const LIMIT: u64 = 1_152_921_504_606_846_976;
@@ -23,11 +24,16 @@ const MIDDLE: Kind = Kind {
     times: 1,
 };
 
-/// Returns whether the value of a flow is the cost of the labels. No flow has a larger value than the cost of any labels, so
-/// both are optimal then.
+/// Returns whether the value of a flow is the cost of the labels, and labels are the same without hints. No flow has a larger value
+/// than the cost of any labels, so both are optimal then.
 fn is_worth_its_cut(alloc: Global, net: &Net) -> Result<bool, Fail> {
-    let (flow, labels) = minimum_cut(alloc, net, &mut Silent)?;
-    Ok(is_valid_flow(alloc, net, &flow)? && value(net, &flow) == cost(net, &labels))
+    let (flow, labels) = minimum_cut(alloc, net, &mut Hinting { watch: Silent })?;
+    let (_flow, plain) = minimum_cut(alloc, net, &mut Silent)?;
+    Ok(
+        is_valid_flow(alloc, net, &flow)?
+            && value(net, &flow) == cost(net, &labels)
+            && plain.inside.as_slice() == labels.inside.as_slice(),
+    )
 }
 
 const KINDS: [(&str, Kind); 7] = [
@@ -123,11 +129,12 @@ fn as_much_flows_as_the_labels_cost(rt: HostRuntime) -> Result<(), Fail> {
 /// Returns the values of a maximum flow of one network in another, with the same arcs and no smaller capacities: resumed with
 /// its preflow, and without.
 fn gone_on(alloc: Global, before: &Net, net: &Net) -> Result<[u128; 2], Fail> {
-    let (mut flow, _labels, mut kept) = minimum_cut_and_preflow(alloc, before, &mut Silent)?;
+    let mut hints = Hinting { watch: Silent };
+    let (mut flow, _labels, mut kept) = minimum_cut_and_preflow(alloc, before, &mut hints)?;
     if !is_valid_flow(alloc, net, &flow)? {
         return Err(Fail::from("a flow that is none where capacities rise"));
     }
-    let above = minimum_cut_above(alloc, net, &flow, &mut kept)?;
+    let above = minimum_cut_above(alloc, net, &flow, &mut kept, &mut hints)?;
     resume(alloc, net, &mut flow)?;
     Ok([value(net, &above.0), value(net, &flow)])
 }

@@ -13,7 +13,7 @@ use super::points::{
 use delaunay::build;
 use flow_net::{Sight, Voted, are_sights};
 use geo_sign::Point;
-use mesh_ply::Mesh;
+use mesh::Mesh;
 use plain_net::{plain_mesh, plain_net};
 use std::alloc::{AllocError, Global};
 use std::test::Fail;

@@ -5,7 +5,7 @@ ghost use Rattle.flow_net.specs.Flows.{IsAdmissible};
 
 use super::points::{five_scanners, five_sights, four_points, point, scene_of};
 use flow_net::{Labels, Net, Sequence, are_sights};
-use mesh_ply::Mesh;
+use mesh::Mesh;
 use plain_net::{NoMemory, plain_mesh, plain_net};
 use std::alloc::Global;
 use std::test::Fail;

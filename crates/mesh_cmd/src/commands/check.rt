@@ -4,6 +4,7 @@ ghost use Rattle.std.specs.Prelude.{◌≡◌, false, map, string_bytes, IfOk};
 ghost use Rattle.command_run.specs.Answers.{file_limit};
 ghost use Rattle.command_run.specs.Steps.{IsReplied, IsReplyOf, CountsFaults, ReadsFor};
 ghost use Rattle.host.specs.Whole.{OnlyReads};
+ghost use Rattle.mesh_ply.specs.Texts.{IsPrinted};
 ghost use Rattle.mesh_cmd.specs.Commands.{asked, confirm_of};
 ghost use Rattle.mesh_cmd.specs.Check.{confirm_names, confirm_task, OutAnswer};
 ghost use Rattle.mesh_cmd.specs.Input.{surface_of_input};
@@ -66,7 +67,8 @@ fn reply_to_home<'a, H: Host>(
     home: &InputMesh,
     words: &CheckWords<'a>,
 ) -> Result<Reply<'a>, Stop>
-    requires { (H.state host.old).writing ≡ false }
+    requires closed { (H.state host.old).writing ≡ false }
+    requires home { IsPrinted home.now.mesh.points.items home.now.mesh.faces.items }
     ensures replied { IfOk result (λ reply. IsReplyOf (confirm_task (confirm_names words.now)) (OutAnswer file_limit words.now.finished.now home.now.digest (surface_of_input home.now)) reply (H.state host.old)) }
     ensures only { OnlyReads (H.state host.old) (H.state host.new) }
     ensures cause { CountsFaults result (H.state host.old).faults (H.state host.new).faults }

@@ -1,10 +1,11 @@
 //! `finish MESH OUT [pieces=N] [manifold=yes] [flips=no] [smooth=N within=D] [comments=no]`: its arguments, its answer and its lines.
 ghost use Rattle.std.specs.Option.{option_map};
 ghost use Rattle.std.specs.Prelude.{◌≡◌, ◌++◌, false, length, map, string_bytes, IfOk, OnOk};
-ghost use Rattle.mesh_ply.specs.Meshes.{Surface};
+ghost use Rattle.mesh.specs.Meshes.{Surface};
 ghost use Rattle.mesh_ply.specs.Texts.{IsPrinted};
 ghost use Rattle.mesh_provenance.specs.Texts.{file_text};
 ghost use Rattle.mesh_finish.specs.Steps.{ExplainsFinish};
+ghost use Rattle.finish_options.specs.declared.options.FinishOptions.{FinishOptions};
 ghost use Rattle.command_run.specs.Answers.{file_limit};
 ghost use Rattle.command_run.specs.Replies.{answer_of};
 ghost use Rattle.command_run.specs.Steps.{IsReplied, ReadsFor, CountsFaults, surface_of};
@@ -19,9 +20,10 @@ use command_run::{
     push_labelled,
 };
 use host::Host;
+use mesh::Mesh;
 use mesh_finish::{FinishError, FinishedMesh, SmoothOptions, Step, finish_mesh};
-use mesh_ply::{Mesh, push_mesh};
-use mesh_provenance::{Provenance, push_annotated};
+use mesh_ply::push_mesh;
+use mesh_provenance::{Made, Provenance, push_annotated};
 use std::alloc::{AllocError, Global};
 
 /// The arguments of `finish`.
@@ -84,7 +86,7 @@ fn reply_to_mesh<'a>(
     requires { IsPrinted mesh.points.items mesh.faces.items }
     ensures { IfOk result (λ reply. FinishAnswer output.now request digest.now (surface_of mesh) (answer_of 1 reply)) }
 {
-    match finish_mesh(alloc, mesh, request.options) {
+    match finish_mesh(alloc, mesh, request.options, &[]) {
         Ok(finished) => Ok(reply_of_mesh(alloc, &finished, digest, request, output)?),
         Err(error) => Ok(reply_to_error(alloc, error)?),
     }
@@ -92,7 +94,7 @@ fn reply_to_mesh<'a>(
 
 /// Makes the answer that says why a mesh is not finished. Out of memory has none.
 fn reply_to_error<'a>(alloc: Global, error: FinishError) -> Result<Reply<'a>, NoMemory>
-    ensures { (mesh : Surface) → ExplainsFinish mesh.faces error → IfOk result (λ reply. IsNotFinished mesh (answer_of 1 reply)) }
+    ensures { (options : FinishOptions) (mesh : Surface) → ExplainsFinish options mesh.points mesh.faces error → IfOk result (λ reply. IsNotFinished options mesh (answer_of 1 reply)) }
 {
     match error {
         FinishError::NotClosed(edge) => {
@@ -147,7 +149,7 @@ fn text_of_mesh(
     if request.comments {
         let digest = *digest;
         let provenance = Provenance {
-            options: request.options,
+            made: Made::Finish(request.options),
             fine: finished.fine,
             digest,
         };
@@ -193,7 +195,7 @@ fn line_of_finish(
 
 /// Returns the line of a mesh that is not closed: an edge, and how many faces have it in each direction.
 #[tactic(auto, unfolding(crate::specs::Finish::not_closed_line))]
-fn line_of_open_mesh(
+pub(crate) fn line_of_open_mesh(
     alloc: Global,
     from: u32,
     to: u32,
@@ -216,9 +218,7 @@ fn line_of_unverified(alloc: Global, step: Step) -> Result<Vec<u8>, NoMemory>
     ensures { IfOk result (λ line. line.items ≡ unverified_line step) }
 {
     match step {
-        Step::Pairing => line_of_text(alloc, b"refused 31 unverified pairing"),
         Step::Pieces => line_of_text(alloc, b"refused 31 unverified pieces"),
-        Step::Splitting => line_of_text(alloc, b"refused 31 unverified splitting"),
         Step::Umbrellas => line_of_text(alloc, b"refused 31 unverified umbrellas"),
     }
 }

@@ -15,10 +15,10 @@ use command_run::{
     FILE_LIMIT, Line, NoMemory, Reply, Status, Stop, are_names, invalid_input, push_labelled,
 };
 use host::Host;
+use mesh::Mesh;
 use mesh_crossings::{CrossingCounts, count_crossings};
 use mesh_edges::{UnbalancedEdge, first_unbalanced};
 use mesh_measures::{Topology, count_flat_faces, measure_topology, six_volume};
-use mesh_ply::Mesh;
 use num_text::push_whole;
 use std::alloc::Global;
 

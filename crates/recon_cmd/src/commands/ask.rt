@@ -5,7 +5,7 @@ ghost use Rattle.std.specs.List.{flat_map};
 ghost use Rattle.std.specs.Prelude.{map, string_bytes, ◌≡◌, false, IfOk, length, All, count_by, Some, ◌++◌, OnOk};
 ghost use Rattle.geo_sign.specs.Point.{IsWithin};
 ghost use Rattle.geo_sign.specs.declared.point.TheConstants.{DATA_LIMIT};
-ghost use Rattle.scan.specs.Views.{shown_of};
+ghost use Rattle.scan_rows.specs.Views.{shown_of};
 ghost use Rattle.solid_query.specs.Queries.{points_in};
 ghost use Rattle.solution.specs.Scans.{points_of};
 ghost use Rattle.command_run.specs.Replies.{answer_of};
@@ -24,11 +24,12 @@ use crate::whole_run::{Reading, read_input};
 use command_run::{
     Line, NoMemory, Reply, Status, Stop, Text, invalid_input, line_of_number, push_labelled,
 };
+use flow_net::FlowHints;
 use geo_sign::Point;
-use host::{Host, ReadRefusal, Watch, read_all};
+use host::{Host, ReadRefusal, read_all};
 use merge::merge;
 use num_text::push_ended;
-use scan::Scan;
+use scan_rows::Scan;
 use solid_query::{QueryRefusal, ask_watched, read_queries};
 use std::alloc::{AllocError, Global};
 
@@ -62,7 +63,7 @@ pub fn ask_command(words: &[String]) -> Option<Request<'_>>
 }
 
 /// Reads the scan and, unless it is rejected, the points, and returns the answer of `ask`. Nothing is written or printed.
-pub fn reply_to_ask<'a, H: Host, W: Watch>(
+pub fn reply_to_ask<'a, H: Host, W: FlowHints>(
     alloc: Global,
     host: &mut H,
     names: &AskNames<'a>,
@@ -86,7 +87,7 @@ pub fn reply_to_ask<'a, H: Host, W: Watch>(
 }
 
 /// Reads the points, and returns the answer to a scan.
-fn reply_to_scan<'a, H: Host, W: Watch>(
+fn reply_to_scan<'a, H: Host, W: FlowHints>(
     alloc: Global,
     host: &mut H,
     scan: &Scan,
@@ -115,7 +116,7 @@ fn reply_to_scan<'a, H: Host, W: Watch>(
 }
 
 /// Returns the answer to a scan and the bytes of the points' file, which are freed before the scan is solved.
-fn reply_to_points<'a, W: Watch>(
+fn reply_to_points<'a, W: FlowHints>(
     alloc: Global,
     scan: &Scan,
     bytes: Vec<u8>,
@@ -138,7 +139,7 @@ fn reply_to_points<'a, W: Watch>(
 }
 
 /// Returns the labels of points, and the line.
-fn reply_to_queries<'a, W: Watch>(
+fn reply_to_queries<'a, W: FlowHints>(
     alloc: Global,
     scan: &Scan,
     points: &[Point],

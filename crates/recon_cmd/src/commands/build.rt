@@ -1,9 +1,9 @@
 //! `build IN MESH CERT`, its arguments, answer and lines: the best surface of a scan, and the certificate of its optimality.
 //! Depends on `recon_build`, which computes both, and on `mesh_ply` and `cert_text`, which print them.
 ghost use Rattle.std.specs.Prelude.{map, string_bytes, ◌≡◌, false, IfOk, length};
-ghost use Rattle.cert_text.specs.Certificates.{claim_of, IsWellFormed};
-ghost use Rattle.mesh_ply.specs.Meshes.{IsMesh};
-ghost use Rattle.scan.specs.Views.{shown_of};
+ghost use Rattle.certificate.specs.Certificates.{claim_of, IsWellFormed};
+ghost use Rattle.mesh.specs.Meshes.{IsMesh};
+ghost use Rattle.scan_rows.specs.Views.{shown_of};
 ghost use Rattle.solution.specs.Solutions.{surface_of};
 ghost use Rattle.command_run.specs.Replies.{answer_of};
 ghost use Rattle.command_run.specs.Steps.{IsReplied, ReadsFor, CountsFaults};
@@ -17,12 +17,14 @@ use crate::names::{ALL_KEYS, NamesAndOptions, named};
 use crate::options::Options;
 use crate::stamps::stamp_of;
 use crate::whole_run::{Reading, read_input};
-use cert_text::{Certificate, push_cert};
+use cert_text::push_cert;
+use certificate::Certificate;
 use command_run::{Line, NoMemory, Reply, Status, Stop, Text, invalid_input, push_labelled};
-use host::{Host, Watch};
+use flow_net::FlowHints;
+use host::Host;
 use mesh_ply::push_mesh;
 use recon_build::{Solved, solve_scan_watched};
-use scan::Scan;
+use scan_rows::Scan;
 use std::alloc::Global;
 
 /// The names of `build IN MESH CERT`.
@@ -55,7 +57,7 @@ pub fn build_command(words: &[String]) -> Option<Request<'_>>
 }
 
 /// Reads the scan and returns the answer of `build`. Nothing is written or printed.
-pub fn reply_to_build<'a, H: Host, W: Watch>(
+pub fn reply_to_build<'a, H: Host, W: FlowHints>(
     alloc: Global,
     host: &mut H,
     names: &BuildNames<'a>,
@@ -77,7 +79,7 @@ pub fn reply_to_build<'a, H: Host, W: Watch>(
 }
 
 /// Returns the answer to a scan and the bytes of its file, which are freed before it is solved.
-fn reply_to_scan<'a, W: Watch>(
+fn reply_to_scan<'a, W: FlowHints>(
     alloc: Global,
     scan: &Scan,
     bytes: Vec<u8>,

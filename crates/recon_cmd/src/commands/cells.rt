@@ -4,8 +4,8 @@ ghost use Rattle.std.specs.List.{flat_map};
 ghost use Rattle.std.specs.Prelude.{map, string_bytes, ◌≡◌, false, IfOk, ◌++◌, OnOk};
 ghost use Rattle.geo_sign.specs.Cells.{IsCellList};
 ghost use Rattle.geo_sign.specs.Vertices.{boxed_vertices};
-ghost use Rattle.scan.specs.Shown.{Shown, IsShown};
-ghost use Rattle.scan.specs.Views.{shown_of};
+ghost use Rattle.scan_rows.specs.Shown.{Shown, IsShown};
+ghost use Rattle.scan_rows.specs.Views.{shown_of};
 ghost use Rattle.solution.specs.Scans.{points_of};
 ghost use Rattle.command_run.specs.Replies.{answer_of};
 ghost use Rattle.command_run.specs.Steps.{IsReplied, ReadsFor, CountsFaults};
@@ -22,11 +22,12 @@ use cell_net::rising_cells;
 use command_run::{Line, NoMemory, Reply, Status, Stop, Text, invalid_input};
 use delaunay::build_watched;
 use geo_sign::Point;
-use host::{Host, Watch};
+use host::Host;
 use merge::merge;
 use num_text::{push_ended, push_whole};
-use scan::Scan;
+use scan_rows::Scan;
 use std::alloc::Global;
+use watch::Watch;
 
 /// The options of `cells`.
 const CELLS_KEYS: [Key; 2] = [Key::Unit, Key::Scanner];

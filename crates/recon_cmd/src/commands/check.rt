@@ -2,7 +2,7 @@
 //! of its optimality. And `upgrade IN MESH CERT OUT`: if so, writes the certificate with the fingerprint of this run. Depends
 //! on `recon_check`, which decides, and on `cert_text`.
 ghost use Rattle.std.specs.Prelude.{map, string_bytes, ◌≡◌, false, IfOk, ℕ, ⊤, Some, []};
-ghost use Rattle.cert_text.specs.Certificates.{claim_of, stamp_view, IsWellFormed};
+ghost use Rattle.certificate.specs.Certificates.{claim_of, stamp_view, IsWellFormed};
 ghost use Rattle.cert_text.specs.Texts.{cert_text};
 ghost use Rattle.command_run.specs.Replies.{answer_of};
 ghost use Rattle.command_run.specs.Steps.{IsReplied, ReadsFor, CountsFaults, IsReplyOf};
@@ -19,15 +19,17 @@ use crate::names::{ALL_KEYS, NamesAndOptions, named};
 use crate::options::Options;
 use crate::stamps::stamp_of;
 use crate::whole_run::{Reading, read_input};
-use cert_text::{Certificate, Stamp, push_cert};
+use cert_text::push_cert;
+use certificate::{Certificate, Stamp};
 use command_run::{
     Line, NoMemory, Reply, Status, Stop, Text, invalid_input, line_of_too_long_mesh, push_labelled,
 };
-use host::{Host, ReadRefusal, Watch, read_all};
+use host::{Host, ReadRefusal, read_all};
 use lines::{line_of_reason, line_of_yes};
 use recon_check::{Checked, CheckedTexts, Confirmed, check_all_watched};
-use scan::Scan;
+use scan_rows::Scan;
 use std::alloc::Global;
+use watch::Watch;
 
 /// The names of `check IN MESH CERT` and of `upgrade IN MESH CERT OUT`.
 #[derive(Clone, Copy, Debug)]

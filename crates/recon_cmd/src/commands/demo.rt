@@ -1,7 +1,7 @@
 //! `demo N SEED`, its arguments, answer and lines: the result of `build` for a scan that is generated from a seed. Depends on
 //! `gen_scan`, which generates the scan.
 ghost use Rattle.std.specs.Prelude.{map, string_bytes, ◌≡◌, IfOk, ◌≤◌, Ok, OnOk, length};
-ghost use Rattle.scan.specs.Views.{shown_of};
+ghost use Rattle.scan_rows.specs.Views.{shown_of};
 ghost use Rattle.command_run.specs.Answers.{file_limit};
 ghost use Rattle.command_run.specs.Replies.{answer_of};
 ghost use Rattle.recon_cmd.specs.Answers.{read_as};
@@ -16,12 +16,12 @@ use crate::commands::{Command, Request};
 use crate::options::{DEFAULT_SMOOTH, DEFAULT_UNIT, DEFAULT_VOTE, number_in};
 use crate::stamps::stamp_of;
 use command_run::{Line, NoMemory, Reply, Status, push_labelled};
-use flow_net::Settings;
+use flow_net::{FlowHints, Settings};
 use gen_scan::gen_scan;
-use host::Watch;
 use num_text::all_digits;
 use recon_build::solve_scan_watched;
-use scan::{POINT_LIMIT, Scan, ScanRefusal, push_scan, read_scan};
+use scan::{ScanRefusal, push_scan, read_scan};
+use scan_rows::{POINT_LIMIT, Scan};
 use std::alloc::{AllocError, Global};
 pub use words::Demo;
 
@@ -55,7 +55,7 @@ pub fn seed_in(text: &str) -> Option<u64>
 
 /// Returns the answer of `demo`. The scan is printed and read as a file would be, and its surface is computed; no text of it is
 /// made.
-pub fn reply_to_demo<'a, W: Watch>(
+pub fn reply_to_demo<'a, W: FlowHints>(
     alloc: Global,
     demo: Demo,
     watch: &mut W,

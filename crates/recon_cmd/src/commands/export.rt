@@ -13,8 +13,8 @@ use command_run::{
     MeshReading, NoMemory, Status, Stop, are_names, conclude, push_labelled, read_mesh_file,
 };
 use host::Host;
+use mesh::Mesh;
 use mesh_form::{Form, drive_all};
-use mesh_ply::Mesh;
 use std::alloc::Global;
 
 /// The arguments after `export MESH OUT1 .. OUTn`.

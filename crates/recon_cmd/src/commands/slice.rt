@@ -21,7 +21,7 @@ use command_run::{
 };
 use geo_sign::BOX_LIMIT;
 use host::Host;
-use mesh_ply::Mesh;
+use mesh::Mesh;
 use solid_slice::{Ring, SliceRefusal, push_slice, slice};
 use std::alloc::{AllocError, Global};
 pub use words::SliceWords;

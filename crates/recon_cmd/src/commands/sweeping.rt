@@ -4,7 +4,7 @@ ghost use Rattle.std.specs.Option.{option_map};
 ghost use Rattle.std.specs.Prelude.{◌≡◌, IfSome, map, string_bytes, ◌≤◌, false, length, All, IfOk};
 ghost use Rattle.flow_net.specs.declared.votes.TheConstants.{WEIGHT_LIMIT};
 ghost use Rattle.mesh_form.specs.Received.{IsFresh};
-ghost use Rattle.scan.specs.Views.{shown_of};
+ghost use Rattle.scan_rows.specs.Views.{shown_of};
 ghost use Rattle.command_run.specs.declared.status.Status.TheVariants.{Refused};
 ghost use Rattle.recon_cmd.specs.Sweep.{FitsForms, sweep_asked, sweep_words_of, entries_of, sweep_behind, SweepOutcome, SweepHandOut, sweep_line};
 
@@ -12,12 +12,13 @@ use crate::names::{NamesAndOptions, named};
 use crate::options::{Key, Options, number_in};
 use crate::whole_run::{Reading, read_input, write_forms};
 use command_run::{NoMemory, Status, Stop, conclude, is_name, push_labelled};
-use flow_net::{Settings, WEIGHT_LIMIT};
-use host::{Host, Stage, Watch};
+use flow_net::{FlowHints, Settings, WEIGHT_LIMIT};
+use host::Host;
 use mesh_form::Form;
-use scan::Scan;
+use scan_rows::Scan;
 use std::alloc::Global;
 use sweep::hand_surfaces_watched;
+use watch::Stage;
 
 /// The options of `sweep`.
 const SWEEP_KEYS: [Key; 3] = [Key::Unit, Key::Vote, Key::Scanner];
@@ -116,7 +117,7 @@ fn understand_behind<'a>(
 
 /// Reads the scan, whose file may be as long as the limit, passes its best surface at each weight to a writer, and writes the
 /// writers' texts, in order. No file is created before all texts are in memory.
-pub fn sweep_scan<H: Host, W: Watch>(
+pub fn sweep_scan<H: Host, W: FlowHints>(
     alloc: Global,
     host: &mut H,
     words: &SweepWords,
@@ -147,7 +148,7 @@ pub fn sweep_scan<H: Host, W: Watch>(
 }
 
 /// Passes the surface of each weight to its writer, and writes their texts.
-fn hand_out<H: Host, W: Watch>(
+fn hand_out<H: Host, W: FlowHints>(
     alloc: Global,
     host: &mut H,
     scan: &Scan,

@@ -9,7 +9,8 @@ use crate::lines::{line_of_refusal, line_of_too_long_scan};
 use crate::options::Options;
 use command_run::{Line, NoMemory, Stop};
 use host::{Host, ReadRefusal, read_all};
-use scan::{Scan, read_scan};
+use scan::read_scan;
+use scan_rows::Scan;
 use std::alloc::Global;
 
 /// The result of reading a scan.

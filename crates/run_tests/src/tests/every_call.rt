@@ -11,7 +11,8 @@ use super::fixtures::{in_three_forms, owned, plain};
 use super::watched::{Files, Watched};
 use geo_sign::Point;
 use host::HostCall;
-use scan::{Scan, read_scan};
+use scan::read_scan;
+use scan_rows::Scan;
 use std::alloc::Global;
 use std::test::Fail;
 

@@ -8,11 +8,11 @@ use super::fixtures::{
 use super::forms::{beginning, shows};
 use super::sweeps;
 use super::watched::{Files, Watched};
-use host::Silent;
 use mesh_form::{Form, ObjForm, OffForm, PlyForm};
 use recon_cmd::run_forms_within;
 use std::alloc::Global;
 use std::test::Fail;
+use watch::Silent;
 
 const SLICE: [&str; 4] = ["slice", "mesh", "0", "out"];
 

@@ -6,10 +6,10 @@
 -- read of them.
 use Rattle.std.proofs.Common.{◌≡◌, ◌∙◌, ◌++◌, List, ℕ, [], refl, ap, sym, Result, Ok, Err, IfOk, IfErr, IsErr, MatchResult}
 use Rattle.std.proofs.Common.{arith}
-use Rattle.cert_text.specs.declared.certificate.Certificate.{Certificate}
+use Rattle.certificate.specs.declared.certificate.Certificate.{Certificate}
 use Rattle.cert_text.specs.declared.refusal.CertRefusal.{CertRefusal}
 use Rattle.cert_text.specs.declared.refusal.CertRefusal.TheVariants.{BadLine, Order, CertCut, NoMemory}
-use Rattle.cert_text.specs.Certificates.{Claim, claim_of, IsWellFormed}
+use Rattle.certificate.specs.Certificates.{Claim, claim_of, IsWellFormed}
 use Rattle.cert_text.specs.Texts.{cert_text}
 use Rattle.cert_text.specs.Refusals.{OrNoMemory, IsRefusedCertificate}
 use Rattle.cert_text.proofs.CertCodes.{cert_code}

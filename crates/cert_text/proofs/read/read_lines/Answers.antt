@@ -7,7 +7,7 @@ use Rattle.std.proofs.Common.{◌+◌, arith}
 use Rattle.line_text.specs.Lists.{WithMemory, RefusedList}
 use Rattle.line_text.proofs.Rows.{IfErr-holds, WithMemory-holds, WithMemory-weaker, some_left, none_left}
 use Rattle.line_text.proofs.Parts.{word_refused, behind_word, list_refused}
-use Rattle.cert_text.specs.Rows.{IsCellRow, IsFlowRow, IsSinkRow, cell_order, flow_order, sink_order}
+use Rattle.certificate.specs.Rows.{IsCellRow, IsFlowRow, IsSinkRow, cell_order, flow_order, sink_order}
 use Rattle.cert_text.specs.Texts.{cell_line, flow_line, sink_line, inside_word, flow_word, sink_word}
 use Rattle.cert_text.specs.Refusals.{AtEnd, AtSink, AtFlow, AtCertificate}
 use Rattle.cert_text.proofs.WholeLemmas.{at_counts, at_inside, at_flow, at_sink, at_end, behind_end, whole}

@@ -1,5 +1,5 @@
 use Rattle.std.proofs.Common.{◌≡◌, ◌++◌, length, map}
-use Rattle.scan.specs.Shown.{seen_from, shown_by}
+use Rattle.scan_rows.specs.Shown.{seen_from, shown_by}
 use Rattle.gen_scan.specs.Generated.{generated}
 use Rattle.gen_scan.proofs.Words.{point_in, rows_left}
 use Rattle.gen_scan.proofs.generate.vertices.Given as goal

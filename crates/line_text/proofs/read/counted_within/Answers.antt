@@ -1,5 +1,6 @@
 use Rattle.std.proofs.Common.{◌≡◌, ◌++◌, ℕ, List, Option, Some, None, IfNone, Bor}
-use Rattle.line_text.specs.Numbers.{ended, counted, line_feed, BeginsWithNone, IsBetween}
+use Rattle.line_text.specs.Numbers.{ended, counted, line_feed, BeginsWithNone}
+use Rattle.geo_sign.specs.Numbers.{IsBetween}
 use Rattle.line_text.proofs.Codes.{none_behind}
 use Rattle.line_text.proofs.read.counted_within.Goals as goal
 

@@ -1,18 +1,21 @@
 //! The answer of `check` to two valid meshes, and its lines.
 ghost use Rattle.std.specs.Prelude.{◌≡◌, [], IfOk, Some};
+ghost use Rattle.mesh.specs.Meshes.{IsMesh};
 ghost use Rattle.mesh_ply.specs.Texts.{IsPrinted};
 ghost use Rattle.command_run.specs.Replies.{answer_of};
 ghost use Rattle.command_run.specs.Steps.{surface_of};
-ghost use Rattle.mesh_cmd.specs.Check.{reach_of, demands_of, line_answer, verdict_answer, fault_line, unbalanced_out_line, nonmanifold_line, confirmed_line, ConfirmAnswer};
+ghost use Rattle.mesh_cmd.specs.Check.{reach_of, demands_of, line_answer, verdict_answer, fault_line, unbalanced_out_line, nonmanifold_line, confirmed_line, IsJudgedBy, ConfirmAnswer};
 ghost use Rattle.mesh_cmd.specs.Input.{surface_of_input};
 
 use crate::crossings::push_crossings;
 use crate::input::InputMesh;
 use command_run::{Line, NoMemory, Reply, Status, line_of_number, line_of_text, push_labelled};
-use mesh_check::{Demands, Fault, Verdict, judge};
+use finish_options::{FinishOptions, SmoothOptions};
+use mesh::Mesh;
+use mesh_check::{Demands, Fault, Verdict, judge, judge_simplified};
 use mesh_crossings::CrossingCounts;
-use mesh_ply::Mesh;
-use mesh_provenance::{Provenance, SmoothOptions};
+use mesh_provenance::{Made, Provenance};
+use mesh_reach::Reach;
 use std::alloc::Global;
 
 /// Makes the answer to two valid meshes.
@@ -21,7 +24,8 @@ pub fn reply_to_finished<'a>(
     home: &InputMesh,
     finished: &InputMesh,
 ) -> Result<Reply<'a>, NoMemory>
-    requires { IsPrinted finished.now.mesh.points.items finished.now.mesh.faces.items }
+    requires home { IsPrinted home.now.mesh.points.items home.now.mesh.faces.items }
+    requires finished { IsPrinted finished.now.mesh.points.items finished.now.mesh.faces.items }
     ensures { IfOk result (λ reply. ConfirmAnswer home.now.digest (surface_of_input home.now) finished.now.provenance (surface_of_input finished.now) (answer_of 2 reply)) }
 {
     match &finished.provenance {
@@ -40,16 +44,37 @@ fn reply_to_stated<'a>(
     provenance: &Provenance,
     finished: &InputMesh,
 ) -> Result<Reply<'a>, NoMemory>
-    requires { IsPrinted finished.now.mesh.points.items finished.now.mesh.faces.items }
+    requires home { IsPrinted home.now.mesh.points.items home.now.mesh.faces.items }
+    requires finished { IsPrinted finished.now.mesh.points.items finished.now.mesh.faces.items }
     ensures { IfOk result (λ reply. ConfirmAnswer home.now.digest (surface_of_input home.now) (Some provenance.now) (surface_of_input finished.now) (answer_of 2 reply)) }
 {
     if provenance.digest != home.digest {
         let line = line_of_text(alloc, b"no 2 other_mesh")?;
         return Ok(reply_of_line(alloc, Status::No, line));
     }
-    let demands = demands_of(provenance);
-    let verdict = judge(alloc, &home.mesh.points, &finished.mesh, demands)?;
+    let verdict = verdict_on(alloc, &home.mesh, provenance, &finished.mesh)?;
     reply_to_verdict(alloc, &finished.mesh, verdict)
+}
+
+/// Returns the verdict on a mesh whose file has these comments.
+fn verdict_on(
+    alloc: Global,
+    home: &Mesh,
+    provenance: &Provenance,
+    mesh: &Mesh,
+) -> Result<Verdict, NoMemory>
+    requires home { IsMesh home.now.points.items home.now.faces.items }
+    requires mesh { IsMesh mesh.now.points.items mesh.now.faces.items }
+    ensures { IfOk result (λ verdict. IsJudgedBy (surface_of home.now) provenance.now.made provenance.now.fine (surface_of mesh.now) verdict) }
+{
+    let fine = provenance.fine;
+    match provenance.made {
+        Made::Finish(options) => judge(alloc, &home.points, mesh, demands_of(options, fine)),
+        Made::Simplify(options) => {
+            let within = options.within;
+            judge_simplified(alloc, home, mesh, Reach { fine, within })
+        }
+    }
 }
 
 /// Returns how far a vertex may be from the nearest of the mesh before.
@@ -62,14 +87,14 @@ fn reach_of(smoothing: Option<SmoothOptions>) -> u32
     }
 }
 
-/// Returns what the comments demand of the mesh.
-fn demands_of(provenance: &Provenance) -> Demands
-    ensures { result ≡ demands_of provenance.now }
+/// Returns what these options demand of a finished mesh with this scale.
+fn demands_of(options: FinishOptions, fine: u32) -> Demands
+    ensures { result ≡ demands_of options fine }
 {
     Demands {
-        manifold: provenance.options.manifold,
-        fine: provenance.fine,
-        within: reach_of(provenance.options.smoothing),
+        manifold: options.manifold,
+        fine,
+        within: reach_of(options.smoothing),
     }
 }
 
@@ -135,6 +160,9 @@ fn line_of_fault(alloc: Global, fault: Fault) -> Result<Vec<u8>, NoMemory>
             line_of_nonmanifold(alloc, edges as u64, vertices as u64)
         }
         Fault::FarVertex(vertex) => line_of_number(alloc, b"no 5 far_vertex ", vertex as u64),
+        Fault::UnreachedVertex(vertex) => {
+            line_of_number(alloc, b"no 6 unreached_vertex ", u64::from(vertex))
+        }
     }
 }
 

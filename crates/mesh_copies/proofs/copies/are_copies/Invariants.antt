@@ -1,5 +1,5 @@
 use Rattle.std.proofs.Common.{ℕ, ◌≡◌, ◌<◌, [], map, take, length, get_or}
-use Rattle.mesh_ply.specs.Meshes.{IsFace}
+use Rattle.mesh.specs.Meshes.{IsFace}
 use Rattle.mesh_copies.proofs.copies.are_copies.Given as goal
 
 abbrev pub invariant-loop-f : goal.invariant-loop-f

@@ -1,5 +1,5 @@
 use Rattle.std.proofs.Common.{◌≡◌, map, take}
-use Rattle.mesh_ply.specs.Meshes.{point_at}
+use Rattle.mesh.specs.Meshes.{point_at}
 use Rattle.mesh_copies.proofs.copies.points_of.Given as goal
 
 abbrev pub invariant-loop-v : goal.invariant-loop-v

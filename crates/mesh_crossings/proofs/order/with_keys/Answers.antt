@@ -1,6 +1,6 @@
 use Rattle.std.proofs.Common.{ℕ, ◌++◌, ap, sym, ◌∙◌, List, [], ◌∷◌, map}
 use Rattle.std.proofs.lemmas.List.{map-append}
-use Rattle.mesh_ply.proofs.Vertices.{below_more}
+use Rattle.mesh.proofs.Vertices.{below_more}
 use Rattle.mesh_crossings.specs.Tested.{face_number}
 use Rattle.mesh_crossings.proofs.order.with_keys.Goals as goal
 

@@ -1,5 +1,5 @@
 use Rattle.std.proofs.Common.{◌≡◌, map}
-use Rattle.mesh_ply.specs.Meshes.{below}
+use Rattle.mesh.specs.Meshes.{below}
 use Rattle.mesh_crossings.specs.Tested.{face_number}
 use Rattle.mesh_crossings.proofs.order.with_keys.Given as goal
 

@@ -1,11 +1,8 @@
-use Rattle.std.proofs.Common.{Bool, rules, sym, subst}
-use Rattle.mesh_finish.specs.Steps.{IsSplitIf}
+use Rattle.std.proofs.Common.{length}
+use Rattle.half_edges.proofs.Paired.{paired_closed}
 use Rattle.mesh_finish.proofs.steps.split.Goals as goal
 
-pub returns-clause-split : goal.returns-clause-split
-returns-clause-split c =
-    subst (λ (b : Bool). IsSplitIf b c.args.kept.mesh.points.items c.args.kept.mesh.faces.items c.in_ok-new.new.points.items c.in_ok-new.new.faces.items)
-    (sym c.if-not-manifold.false) c.in_ok-new.ensures.split
-
-pub returns-in_err-new-clause-why : goal.returns-in_err-new-clause-why
-returns-in_err-new-clause-why c = λ faces. search (rules, c.in_err-new.ensures.why faces)
+pub returns-then-not-manifold-clause-closed : goal.returns-then-not-manifold-clause-closed
+returns-then-not-manifold-clause-closed c =
+    let mesh = c.args.kept.mesh in
+    paired_closed (length mesh.points.items) mesh.faces.items c.args.kept.twins.items c.requires.valid.each c.requires.paired

@@ -2,5 +2,5 @@ use Rattle.geo_sign.specs.declared.point.TheConstants.{BOX_LIMIT}
 use Rattle.mesh_copies.proofs.Boxed.{copies_boxed}
 use Rattle.mesh_finish.proofs.steps.split_all.Goals as goal
 
-pub returns-in-Ok-clause-boxed : goal.returns-in-Ok-clause-boxed
-returns-in-Ok-clause-boxed c = λ boxed. copies_boxed BOX_LIMIT _ _ _ _ _ c.in-Ok.ensures.split.copy boxed
+pub returns-clause-boxed : goal.returns-clause-boxed
+returns-clause-boxed c = λ boxed. copies_boxed BOX_LIMIT _ _ _ _ _ c.in_ok-new.ensures.split.copy boxed

@@ -1,7 +1,7 @@
 use Rattle.std.proofs.Common.{ℕ, ◌≡◌, List, [], length, arith, sym, subst, ◌∷◌, ◌++◌, ◌+◌, ◌<◌, length-append}
 use Rattle.std.proofs.lemmas.List.{get_or_default}
 use Rattle.mesh_flips.specs.Turns.{IsTriangle, IsCycled}
-use Rattle.mesh_ply.specs.Meshes.{IsFace}
+use Rattle.mesh.specs.Meshes.{IsFace}
 use Rattle.mesh_edges.specs.Edges.{face_at}
 use Rattle.mesh_finish.proofs.Rewritten.{turned_more}
 use Rattle.mesh_finish.proofs.turned.turned_faces.Goals as goal

@@ -1,5 +1,5 @@
 use Rattle.std.proofs.Common.{ℕ, ◌≡◌, ◌<◌, length}
-use Rattle.mesh_ply.specs.Meshes.{IsFace}
+use Rattle.mesh.specs.Meshes.{IsFace}
 use Rattle.mesh_flips.specs.Turns.{IsTriangle, IsCycled}
 use Rattle.mesh_edges.specs.Edges.{face_at}
 use Rattle.mesh_finish.proofs.turned.turned_faces.Given as goal

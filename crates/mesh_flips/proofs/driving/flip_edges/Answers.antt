@@ -7,8 +7,11 @@ returns-in_err-tree-clause-flipped c = unchanged _ _
 pub returns-in_err-hints-clause-flipped : goal.returns-in_err-hints-clause-flipped
 returns-in_err-hints-clause-flipped c = unchanged _ _
 
+pub returns-in_err-longest-clause-flipped : goal.returns-in_err-longest-clause-flipped
+returns-in_err-longest-clause-flipped c = unchanged _ _
+
 pub loop-least-init : goal.loop-least-init
-loop-least-init c = record { flipped = unchanged _ _; ready = c.in_ok-tree.ensures }
+loop-least-init c = record { flipped = c.lower_area.ensures.flipped; ready = c.lower_area.ensures.ready }
 
 pub returns-in_err-flip_pass-clause-flipped : goal.returns-in_err-flip_pass-clause-flipped
 returns-in_err-flip_pass-clause-flipped c =

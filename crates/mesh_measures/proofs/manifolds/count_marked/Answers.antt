@@ -1,6 +1,6 @@
 use Rattle.std.proofs.Common.{ℕ, ◌∙◌, arith, length, sym, subst}
 use Rattle.std.specs.List.{All}
-use Rattle.mesh_ply.specs.Meshes.{IsFace}
+use Rattle.mesh.specs.Meshes.{IsFace}
 use Rattle.mesh_edges.proofs.EdgeCounts.{each_among}
 use Rattle.mesh_measures.specs.Marks.{HasCorner, IsEndOfOdd}
 use Rattle.mesh_measures.proofs.Marked.{none_marked}

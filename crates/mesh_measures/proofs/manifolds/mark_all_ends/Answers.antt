@@ -1,6 +1,6 @@
 use Rattle.std.proofs.Common.{ℕ, ◌≡◌, arith, length, sym, subst}
 use Rattle.std.specs.List.{All}
-use Rattle.mesh_ply.specs.Meshes.{IsFace}
+use Rattle.mesh.specs.Meshes.{IsFace}
 use Rattle.mesh_measures.specs.Marks.{IsEndOfOdd, IsFlagged}
 use Rattle.mesh_measures.proofs.manifolds.mark_all_ends.Goals as goal
 

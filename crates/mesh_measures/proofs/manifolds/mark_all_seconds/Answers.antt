@@ -1,6 +1,6 @@
 use Rattle.std.proofs.Common.{ℕ, ◌≡◌, ◌*◌, ◌⊎◌, arith, length, refl, sym, subst}
 use Rattle.std.specs.List.{All}
-use Rattle.mesh_ply.specs.Meshes.{IsFace}
+use Rattle.mesh.specs.Meshes.{IsFace}
 use Rattle.mesh_measures.specs.Marks.{HasSecond, IsEndOfOdd, IsFlagged}
 use Rattle.mesh_measures.proofs.Marked.{second_none}
 use Rattle.mesh_measures.proofs.manifolds.mark_all_seconds.Goals as goal

@@ -1,5 +1,5 @@
 use Rattle.std.proofs.Common.{ℕ, ◌≡◌, refl, ap, ◌∙◌, arith, [], length, get_or, map}
-use Rattle.mesh_ply.specs.Marks.{marked}
+use Rattle.mesh.specs.Marks.{marked}
 use Rattle.mesh_edges.specs.Edges.{face_at}
 use Rattle.mesh_pieces.proofs.Marked.{faces_more, few_kept}
 use Rattle.mesh_pieces.proofs.kept.marked_faces.Goals as goal

@@ -1,5 +1,5 @@
 use Rattle.std.proofs.Common.{◌≡◌, map}
-use Rattle.mesh_ply.specs.Marks.{marked}
+use Rattle.mesh.specs.Marks.{marked}
 use Rattle.mesh_edges.specs.Edges.{face_at}
 use Rattle.mesh_pieces.proofs.kept.marked_faces.Given as goal
 

@@ -1,9 +1,9 @@
 -- The marks are a union, the listed faces are the marked ones, and the mesh that was made is a copy of these.
 use Rattle.std.proofs.Common.{ℕ, ◌≡◌, ◌<◌, Bool, List, Option, IfSome, length, ap, subst, ◌∙◌, arith}
 use Rattle.geo_sign.specs.Point.{Point}
-use Rattle.mesh_ply.specs.declared.mesh.Mesh.{Mesh}
-use Rattle.mesh_copies.specs.Copies.{IsCopy, IsAscending}
-use Rattle.mesh_pieces.specs.Pieces.{IsUnion, IsCornerOf, kept_faces}
+use Rattle.mesh.specs.declared.mesh.Mesh.{Mesh}
+use Rattle.mesh_copies.specs.Copies.{IsCopy, IsAscending, IsCornerOf}
+use Rattle.mesh_pieces.specs.Pieces.{AreLargestPieces, kept_faces}
 use Rattle.mesh_pieces.proofs.pieces.keep_pieces.Goals as goal
 
 pub returns-clause-pieces : goal.returns-clause-pieces
@@ -25,7 +25,10 @@ returns-clause-pieces c =
       kept = kept;
       origin = origin;
       paired = c.requires.paired;
-      union = subst (IsUnion c.args.twins.now) c.deref.ensures.value c.if-not-is_union.ensures;
+      union = c.in_ok-kept.ensures.union;
+      largest =
+          subst (λ (fs : List (List ℕ)). AreLargestPieces c.args.twins.now (length fs) kept c.args.most) c.deref.ensures.value
+          c.in_ok-kept.ensures.largest;
       copy =
           subst (λ (ps : List Point). IsCopy ps (kept_faces c.args.mesh.now.faces.items kept) new.points.items new.faces.items origin)
           c.deref-5.ensures.value

@@ -1,5 +1,5 @@
 use Rattle.std.proofs.Common.{None, refl}
-use Rattle.mesh_ply.specs.Meshes.{IsFace}
+use Rattle.mesh.specs.Meshes.{IsFace}
 use Rattle.line_text.proofs.Rows.{one_more_read_at, pushed, bad_row}
 use Rattle.mesh_ply.specs.Texts.{face_line}
 use Rattle.mesh_ply.proofs.read.read_faces.Goals as goal

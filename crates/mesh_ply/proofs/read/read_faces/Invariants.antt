@@ -1,5 +1,5 @@
 use Rattle.std.proofs.Common.{None}
-use Rattle.mesh_ply.specs.Meshes.{IsFace}
+use Rattle.mesh.specs.Meshes.{IsFace}
 use Rattle.line_text.proofs.Rows.{IsReadSoFar}
 use Rattle.mesh_ply.specs.Texts.{face_line}
 use Rattle.mesh_ply.proofs.read.read_faces.Given as goal

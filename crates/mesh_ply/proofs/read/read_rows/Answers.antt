@@ -2,7 +2,7 @@ use Rattle.std.proofs.Common.{◌+◌, None, inl, arith}
 use Rattle.line_text.specs.Refusals.{IsRefusedRow}
 use Rattle.line_text.specs.Lists.{WithMemory}
 use Rattle.line_text.proofs.Rows.{IfErr-holds, WithMemory-weaker, some_left}
-use Rattle.mesh_ply.specs.Meshes.{IsFace}
+use Rattle.mesh.specs.Meshes.{IsFace}
 use Rattle.mesh_ply.specs.Texts.{face_line}
 use Rattle.mesh_ply.specs.Refusals.{AtPoints}
 use Rattle.mesh_ply.proofs.MeshRefused.{at_faces, at_end}

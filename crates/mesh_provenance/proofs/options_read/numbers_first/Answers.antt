@@ -1,8 +1,9 @@
 use Rattle.std.proofs.Common.{List, ℕ, subst}
-use Rattle.line_text.specs.Numbers.{counted, BeginsWithNone, IsBetween}
+use Rattle.line_text.specs.Numbers.{counted, BeginsWithNone}
+use Rattle.geo_sign.specs.Numbers.{IsBetween}
 use Rattle.line_text.proofs.Kept.{IfNone-holds}
 use Rattle.line_text.proofs.Parts.{behind_word}
-use Rattle.mesh_provenance.specs.declared.options.TheConstants.{FARTHEST}
+use Rattle.finish_options.specs.declared.options.TheConstants.{FARTHEST}
 use Rattle.mesh_provenance.proofs.OptionForms.{no_steps, no_within}
 use Rattle.mesh_provenance.proofs.options_read.numbers_first.Goals as goal
 

@@ -1,7 +1,7 @@
 use Rattle.std.proofs.Common.{ℕ, ◌<◌}
 use Rattle.geo_sign.specs.Point.{IsWithin}
 use Rattle.geo_sign.specs.declared.point.TheConstants.{BOX_LIMIT}
-use Rattle.mesh_ply.specs.Meshes.{point_at}
+use Rattle.mesh.specs.Meshes.{point_at}
 use Rattle.mesh_smooth.proofs.fine_grid.keep_box.Given as goal
 
 abbrev pub invariant-loop-p : goal.invariant-loop-p

@@ -1,5 +1,5 @@
 use Rattle.std.proofs.Common.{ℕ, ◌≡◌, ◌<◌, length}
-use Rattle.mesh_ply.specs.Meshes.{point_at}
+use Rattle.mesh.specs.Meshes.{point_at}
 use Rattle.mesh_smooth.specs.Smoothed.{magnified}
 use Rattle.mesh_smooth.proofs.fine_grid.magnified_points.Given as goal
 

@@ -1,5 +1,5 @@
 use Rattle.std.proofs.Common.{ℕ, ◌≡◌, ◌⊎◌}
-use Rattle.mesh_ply.specs.Meshes.{point_at}
+use Rattle.mesh.specs.Meshes.{point_at}
 use Rattle.mesh_flips.specs.Fields.{IsTreeOf}
 use Rattle.mesh_smooth.specs.Rounds.{AreKeptApart}
 use Rattle.mesh_smooth.proofs.rounds.all_rounds.Given as goal

@@ -1,6 +1,6 @@
 use Rattle.std.proofs.Common.{arith, subst, sym}
 use Rattle.geo_sign.specs.Point.{Point}
-use Rattle.mesh_ply.specs.Meshes.{point_at}
+use Rattle.mesh.specs.Meshes.{point_at}
 use Rattle.mesh_smooth.specs.Near.{IsNear}
 use Rattle.mesh_smooth.proofs.Shapes.{near_set}
 use Rattle.mesh_smooth.proofs.step.move_all.Goals as goal

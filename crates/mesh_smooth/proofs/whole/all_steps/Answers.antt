@@ -15,6 +15,6 @@ loop-preserved c =
           (c.loop.invariant.near.count ∙ sym c.smooth_and_flip.ensures.near.count) c.smooth_and_flip.ensures.each;
       near = c.smooth_and_flip.ensures.near;
       shape = shaped_on c.args.points.now c.loop.points c.smooth_and_flip.new.points c.args.faces.now c.loop.faces
-          c.smooth_and_flip.new.faces c.loop.invariant.shape c.in_ok-twins.ensures.shape;
+          c.smooth_and_flip.new.faces c.loop.invariant.shape c.in_ok-hints.ensures.shape;
       still = λ off. c.smooth_and_flip.ensures.still off ∙ c.loop.invariant.still off;
     }

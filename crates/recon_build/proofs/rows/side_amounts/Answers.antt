@@ -5,7 +5,7 @@
 use Rattle.std.proofs.Common.{ℕ, ◌≡◌, ◌<◌, ◌∙◌, ◌++◌, ◌∷◌, Contains, List, ap, ap₂, append_assoc, sym, subst, arith}
 use Rattle.std.specs.List.{flat_map}
 use Rattle.geo_sign.proofs.Members.{here, there}
-use Rattle.cert_text.specs.declared.certificate.FlowRow.{FlowRow}
+use Rattle.certificate.specs.declared.certificate.FlowRow.{FlowRow}
 use Rattle.tetra_store.specs.declared.link.Cell.{Cell}
 use Rattle.recon_build.specs.Walks.{flows_if_any}
 use Rattle.recon_build.proofs.Walks.{entry_below}

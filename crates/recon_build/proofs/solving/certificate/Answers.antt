@@ -5,8 +5,8 @@
 -- (cost_fits), the rows since their lists are in memory.
 use Rattle.std.proofs.Common.{ℕ, ◌<◌, ◌≤◌, ◌^◌, refl, sym, subst, arith, Bool, List, slice_index}
 use Rattle.flow_net.specs.Nets.{flag_at}
-use Rattle.scan.proofs.ShownLemmas.{scan_is_shown}
-use Rattle.scan.specs.Views.{shown_of}
+use Rattle.scan_rows.proofs.ShownLemmas.{scan_is_shown}
+use Rattle.scan_rows.specs.Views.{shown_of}
 use Rattle.visibility.specs.Scenes.{Scene}
 use Rattle.cell_net.specs.ByNumber.{SaysOfCells, SaysOfSides, IsZeroElsewhere}
 use Rattle.cell_net.specs.StoredComplexes.{stored_complex}

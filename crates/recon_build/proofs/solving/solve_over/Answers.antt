@@ -5,8 +5,8 @@
 use Rattle.std.proofs.Common.{◌≡◌, ◌++◌, List, Bool}
 use Rattle.flow_net.specs.Nets.{flag_at}
 use Rattle.geo_sign.specs.Vertices.{corners}
-use Rattle.scan.specs.Shown.{Shown}
-use Rattle.scan.specs.Views.{shown_of}
+use Rattle.scan_rows.specs.Shown.{Shown}
+use Rattle.scan_rows.specs.Views.{shown_of}
 use Rattle.solution.specs.Scans.{points_of, scene_of_scan}
 use Rattle.solution.proofs.Meshes.{mesh_is}
 use Rattle.surface.specs.Labelled.{AreLabelsOver}

@@ -1,6 +1,6 @@
 use Rattle.std.proofs.lemmas.Result.{IfOk-weaker}
-use Rattle.cert_text.specs.Certificates.{claim_of}
-use Rattle.scan.specs.Views.{shown_of}
+use Rattle.certificate.specs.Certificates.{claim_of}
+use Rattle.scan_rows.specs.Views.{shown_of}
 use Rattle.solution.specs.Laws.{IsSame}
 use Rattle.solution.specs.Solutions.{IsSolution, surface_of}
 use Rattle.solution.proofs.Uniqueness.{solution_law}

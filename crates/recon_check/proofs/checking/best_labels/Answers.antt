@@ -2,9 +2,9 @@
 -- reason that is told of it is a fault, and where there is none the labels are the best (told_at): the value of the flow is their cost, which is
 -- small.
 use Rattle.std.proofs.Common.{◌≡◌, ◌∙◌, refl, arith}
-use Rattle.cert_text.specs.Certificates.{claim_of}
-use Rattle.scan.proofs.ShownLemmas.{scan_is_shown}
-use Rattle.scan.specs.Views.{shown_of}
+use Rattle.certificate.specs.Certificates.{claim_of}
+use Rattle.scan_rows.proofs.ShownLemmas.{scan_is_shown}
+use Rattle.scan_rows.specs.Views.{shown_of}
 use Rattle.solution.specs.Scans.{scene_of_scan}
 use Rattle.visibility.specs.Complexes.{Complex}
 use Rattle.visibility.specs.Cuts.{cost}

@@ -1,9 +1,9 @@
 -- The labels that were shown best are those of the scene's cells, and no fixed cell is inside, so their facets can be cut (labels_over).
 -- The mesh of these is the surface of the labels, over the corners and the points of the scan, which the store has in this order.
 use Rattle.std.proofs.Common.{◌++◌}
-use Rattle.cert_text.specs.Certificates.{claim_of}
+use Rattle.certificate.specs.Certificates.{claim_of}
 use Rattle.geo_sign.specs.Vertices.{corners}
-use Rattle.scan.specs.Views.{shown_of}
+use Rattle.scan_rows.specs.Views.{shown_of}
 use Rattle.solution.specs.Scans.{points_of, scene_of_scan}
 use Rattle.solution.proofs.Meshes.{mesh_is}
 use Rattle.surface.proofs.CutList.{can_be_cut}

@@ -1,7 +1,7 @@
 -- What is returned is an answer: the Yes of what was shown, or the reason that was found. As no texts have two answers, it is the only one
 -- (one_answer), Yes where they are those of a solution (built_yes), and else none is accepted.
-use Rattle.cert_text.specs.Certificates.{stamp_view}
-use Rattle.scan.specs.Views.{shown_of}
+use Rattle.certificate.specs.Certificates.{stamp_view}
+use Rattle.scan_rows.specs.Views.{shown_of}
 use Rattle.recon_check.specs.Answers.{IsAnswer}
 use Rattle.recon_check.specs.declared.answer.Answer.TheVariants.{Yes, No}
 use Rattle.recon_check.proofs.Uniqueness.{one_answer}

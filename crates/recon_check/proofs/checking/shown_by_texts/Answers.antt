@@ -1,6 +1,6 @@
 use Rattle.std.proofs.Common.{inl, inr}
-use Rattle.cert_text.specs.Certificates.{claim_of, stamp_view}
-use Rattle.scan.specs.Views.{shown_of}
+use Rattle.certificate.specs.Certificates.{claim_of, stamp_view}
+use Rattle.scan_rows.specs.Views.{shown_of}
 use Rattle.recon_check.specs.Answers.{IsFault, IsAnswer}
 use Rattle.recon_check.specs.declared.answer.Answer.TheVariants.{No}
 use Rattle.recon_check.proofs.Stopped.{passed_on, stop_weaker}

@@ -2,13 +2,13 @@
 -- certificate is as it is to be, since its labels were shown best. Where they are the same, the certificate has no fault, so the surface
 -- and it are a solution (solution_from), with the numbers that are given.
 use Rattle.std.proofs.Common.{ℕ, ◌≡◌, ◌++◌, [], ap, sym, subst, ◌∙◌, arith, refl, List}
-use Rattle.cert_text.specs.Certificates.{Claim, claim_of}
-use Rattle.mesh_ply.specs.Meshes.{Surface}
+use Rattle.certificate.specs.Certificates.{Claim, claim_of}
+use Rattle.mesh.specs.Meshes.{Surface}
 use Rattle.mesh_ply.specs.Texts.{mesh_text}
-use Rattle.mesh_ply.specs.declared.mesh.Mesh.{Mesh}
+use Rattle.mesh.specs.declared.mesh.Mesh.{Mesh}
 use Rattle.solution.specs.Solutions.{surface_of, IsSolution}
-use Rattle.scan.specs.Shown.{Shown}
-use Rattle.scan.specs.Views.{shown_of}
+use Rattle.scan_rows.specs.Shown.{Shown}
+use Rattle.scan_rows.specs.Views.{shown_of}
 use Rattle.recon_check.specs.Answers.{IsFault, surface_text}
 use Rattle.recon_check.specs.Differences.{IsFirstDifference}
 use Rattle.recon_check.proofs.Solutions.{solution_from}

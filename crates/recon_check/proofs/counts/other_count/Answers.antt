@@ -1,9 +1,9 @@
 use Rattle.std.proofs.Common.{◌≡◌, ap, refl, arith, length, [], ◌∷◌, None}
 use Rattle.std.proofs.lemmas.List.Elements.{All-nil}
-use Rattle.cert_text.specs.Certificates.{Claim, claim_of}
+use Rattle.certificate.specs.Certificates.{Claim, claim_of}
 use Rattle.solution.proofs.SightLists.{few_points}
-use Rattle.scan.specs.Shown.{Shown}
-use Rattle.scan.specs.Views.{shown_of}
+use Rattle.scan_rows.specs.Shown.{Shown}
+use Rattle.scan_rows.specs.Views.{shown_of}
 use Rattle.recon_check.specs.declared.answer.Which.TheVariants.{Points, Scanners, Sights, Vote, Smooth}
 use Rattle.recon_check.proofs.FirstCounts.{IsSame, IsToldOf, none_told, or_told, some_told}
 use Rattle.recon_check.proofs.counts.other_count.Goals as goal

@@ -1,5 +1,5 @@
 use Rattle.std.proofs.Common.{◌∙◌, sym}
-use Rattle.cert_text.specs.Certificates.{claim_of}
+use Rattle.certificate.specs.Certificates.{claim_of}
 use Rattle.recon_check.proofs.CellFaults.{cost_is, value_is}
 use Rattle.recon_check.proofs.faults.not_equal.Goals as goal
 

@@ -2,8 +2,8 @@
 -- at the place, which is that of the facet.
 use Rattle.std.proofs.Common.{ℕ, ◌<◌, ◌∙◌, List, ap, sym, subst, arith, length}
 use Rattle.std.proofs.lemmas.List.{get_or_read, length-map}
-use Rattle.cert_text.specs.Certificates.{claim_of}
-use Rattle.cert_text.specs.declared.certificate.FlowRow.{FlowRow}
+use Rattle.certificate.specs.Certificates.{claim_of}
+use Rattle.certificate.specs.declared.certificate.FlowRow.{FlowRow}
 use Rattle.visibility.specs.Cuts.{network_over}
 use Rattle.recon_check.specs.ByRows.{numbers}
 use Rattle.recon_check.proofs.CellFaults.{over_rows, side_capacity}

@@ -2,8 +2,8 @@
 -- number at the place, which is that of the cell.
 use Rattle.std.proofs.Common.{ℕ, ◌<◌, ◌∙◌, List, ap, sym, subst, arith, length}
 use Rattle.std.proofs.lemmas.List.{get_or_read, length-map}
-use Rattle.cert_text.specs.Certificates.{claim_of}
-use Rattle.cert_text.specs.declared.certificate.SinkRow.{SinkRow}
+use Rattle.certificate.specs.Certificates.{claim_of}
+use Rattle.certificate.specs.declared.certificate.SinkRow.{SinkRow}
 use Rattle.flow_net.specs.Faults.{sink_limit}
 use Rattle.flow_net.specs.Numbered.{network_by}
 use Rattle.visibility.specs.Cuts.{network_over}

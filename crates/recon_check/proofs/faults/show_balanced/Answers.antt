@@ -1,5 +1,5 @@
 use Rattle.std.proofs.Common.{◌∙◌, ap, sym, length, subst, Option, IfSome, IfNone}
-use Rattle.cert_text.specs.Certificates.{claim_of}
+use Rattle.certificate.specs.Certificates.{claim_of}
 use Rattle.flow_net.specs.Firsts.{NoneBelow}
 use Rattle.flow_net.specs.Faults.{total_out}
 use Rattle.flow_net.specs.Networks.{amount_in}

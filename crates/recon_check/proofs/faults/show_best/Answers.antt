@@ -2,7 +2,7 @@
 -- cost what it is worth. So a reason that is told where that holds is told where all rows are there, and the last test shows the labels
 -- best.
 use Rattle.std.proofs.lemmas.Result.{on_ok_weaker}
-use Rattle.cert_text.specs.Certificates.{claim_of}
+use Rattle.certificate.specs.Certificates.{claim_of}
 use Rattle.recon_check.specs.Over.{IsThereOver, TellsOver}
 use Rattle.recon_check.proofs.Stopped.{passed_on, result_weaker, stop_weaker}
 use Rattle.recon_check.proofs.faults.show_best.Goals as goal

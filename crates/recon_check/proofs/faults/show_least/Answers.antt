@@ -1,6 +1,6 @@
 use Rattle.std.proofs.Common.{[]}
 use Rattle.std.proofs.lemmas.List.{get_or_read}
-use Rattle.cert_text.specs.Certificates.{claim_of}
+use Rattle.certificate.specs.Certificates.{claim_of}
 use Rattle.recon_check.proofs.CellFaults.{best, largest, least_rows}
 use Rattle.recon_check.proofs.KeyedRows.{first_key, none_key}
 use Rattle.recon_check.proofs.faults.show_least.Goals as goal

@@ -1,6 +1,6 @@
 use Rattle.std.proofs.Common.{ℕ, ◌+◌, ◌*◌, ◌∙◌, List, Vec, Global, length, map, ap, sym, subst, arith}
 use Rattle.std.proofs.lemmas.List.{with_items_is}
-use Rattle.cert_text.specs.declared.certificate.FlowRow.{FlowRow}
+use Rattle.certificate.specs.declared.certificate.FlowRow.{FlowRow}
 use Rattle.recon_check.specs.Lookups.{is_open_side, side_facet, AreSidesFound, IsNoted}
 use Rattle.recon_check.proofs.Lookups.{found_missed, found_more}
 use Rattle.recon_check.proofs.stated.sides_of_rows.Goals as goal

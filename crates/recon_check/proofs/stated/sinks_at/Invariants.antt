@@ -1,5 +1,5 @@
 use Rattle.std.proofs.Common.{◌≡◌, length, map}
-use Rattle.cert_text.specs.declared.certificate.SinkRow.{SinkRow}
+use Rattle.certificate.specs.declared.certificate.SinkRow.{SinkRow}
 use Rattle.recon_check.proofs.Lookups.{ArePlaced}
 use Rattle.recon_check.proofs.stated.sinks_at.Given as goal
 

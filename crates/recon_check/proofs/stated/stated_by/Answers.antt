@@ -4,9 +4,9 @@
 -- one the rows are about cells and sides of the scene, and labels and amounts stand at their numbers (StatedRows).
 use Rattle.std.proofs.Common.{ℕ, ◌≡◌, ◌≤◌, ◌*◌, ◌∙◌, Bool, false, List, length, map, slice_index, ap, refl, subst, sym}
 use Rattle.std.proofs.lemmas.List.{map-id}
-use Rattle.cert_text.specs.Certificates.{claim_of}
-use Rattle.cert_text.specs.declared.certificate.FlowRow.{FlowRow}
-use Rattle.cert_text.specs.declared.certificate.SinkRow.{SinkRow}
+use Rattle.certificate.specs.Certificates.{claim_of}
+use Rattle.certificate.specs.declared.certificate.FlowRow.{FlowRow}
+use Rattle.certificate.specs.declared.certificate.SinkRow.{SinkRow}
 use Rattle.flow_net.specs.Firsts.{IsFirst}
 use Rattle.flow_net.specs.Nets.{flag_at}
 use Rattle.tetra_store.specs.Links.{links_of}

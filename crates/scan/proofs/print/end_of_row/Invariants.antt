@@ -1,5 +1,5 @@
 use Rattle.std.proofs.Common.{◌≡◌, ◌≤◌, ◌<◌, ℕ, get_or}
-use Rattle.scan.specs.declared.scan.Seen.{Seen}
+use Rattle.scan_rows.specs.declared.scan.Seen.{Seen}
 use Rattle.scan.proofs.print.end_of_row.Given as goal
 
 abbrev pub invariant-loop-k : goal.invariant-loop-k

@@ -1,5 +1,5 @@
 use Rattle.std.proofs.Common.{◌≡◌, ◌++◌, map, take}
-use Rattle.scan.specs.declared.scan.Seen.{Seen}
+use Rattle.scan_rows.specs.declared.scan.Seen.{Seen}
 use Rattle.scan.specs.PlainForm.{spaced}
 use Rattle.scan.proofs.print.push_scanners.Given as goal
 

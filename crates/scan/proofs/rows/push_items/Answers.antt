@@ -7,7 +7,7 @@ use Rattle.std.proofs.Common.{◌≡◌, ◌++◌, ◌∷◌, [], ◌-◌, refl,
 use Rattle.std.proofs.lemmas.Result.{err_from_is_err_and}
 use Rattle.ply_head.specs.declared.header.Scalar.{Scalar}
 use Rattle.ply_rows.specs.Items.{items_from, HasItems}
-use Rattle.scan.specs.declared.scan.Seen.{Seen}
+use Rattle.scan_rows.specs.declared.scan.Seen.{Seen}
 use Rattle.scan.specs.Needs.{type_of}
 use Rattle.scan.specs.Found.{scanner_named}
 use Rattle.scan.specs.ReadViews.{row_view}

@@ -1,6 +1,6 @@
 -- The flags by the numbers of cells are the labels of the minimum cut, which says them of the cells by their vertices.
 use Rattle.std.proofs.Common.{arith}
-use Rattle.scan.specs.Views.{shown_of}
+use Rattle.scan_rows.specs.Views.{shown_of}
 use Rattle.solution.specs.Scans.{scene_of_scan}
 use Rattle.tetra_store.proofs.Observed.{slot_in}
 use Rattle.visibility.proofs.ListingAgreements.{with_rising}

@@ -9,7 +9,7 @@ use Rattle.std.proofs.lemmas.Int.{ints}
 use Rattle.geo_sign.specs.Point.{Point}
 use Rattle.solid_slice.specs.Cuts.{is_above, IsUpEdge, rise, at_height}
 use Rattle.mesh_edges.specs.Edges.{face_at}
-use Rattle.mesh_ply.specs.Meshes.{point_at}
+use Rattle.mesh.specs.Meshes.{point_at}
 use Rattle.mesh_edges.proofs.FaceEdges.{edge_within}
 use Rattle.solid_slice.proofs.Crossed.{cut_within, up_edge_at}
 use Rattle.solid_slice.proofs.height.step_of.Goals as goal

@@ -1,7 +1,7 @@
 use Rattle.std.proofs.Common.{ap, subst, ◌∙◌, arith, length}
 use Rattle.geo_sign.specs.Point.{origin}
-use Rattle.scan.proofs.ShownLemmas.{scan_is_shown}
-use Rattle.scan.specs.Views.{shown_of}
+use Rattle.scan_rows.proofs.ShownLemmas.{scan_is_shown}
+use Rattle.scan_rows.specs.Views.{shown_of}
 use Rattle.visibility.specs.Scenes.{Scene}
 use Rattle.cell_net.specs.Counts.{AreCountsOf}
 use Rattle.solution.proofs.ScanScenes.{points_within, points_apart}

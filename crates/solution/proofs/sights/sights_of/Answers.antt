@@ -4,11 +4,11 @@
 -- eight corners before it, fits 32 bits. Each turn adds the sight of the definitions to those so far (sights_more).
 use Rattle.std.proofs.Common.{ℕ, ◌≡◌, ◌+◌, ◌<◌, [], ◌∷◌, ◌++◌, ap, arith, subst, sym, ◌∙◌, get_or, length, List, map, take}
 use Rattle.flow_net.specs.declared.votes.Sight.{Sight}
-use Rattle.scan.proofs.ShownLemmas.{scan_is_shown}
-use Rattle.scan.specs.Shown.{Shown}
-use Rattle.scan.specs.Views.{shown_of}
-use Rattle.scan.specs.declared.scan.Scan.{Scan}
-use Rattle.scan.specs.declared.scan.Seen.{Seen}
+use Rattle.scan_rows.proofs.ShownLemmas.{scan_is_shown}
+use Rattle.scan_rows.specs.Shown.{Shown}
+use Rattle.scan_rows.specs.Views.{shown_of}
+use Rattle.scan_rows.specs.declared.scan.Scan.{Scan}
+use Rattle.scan_rows.specs.declared.scan.Seen.{Seen}
 use Rattle.solution.specs.Scans.{sight_of}
 use Rattle.solution.proofs.SightLists.{no_sight, seen_at, index_count, few_indices, sights_more}
 use Rattle.solution.proofs.sights.sights_of.Goals as goal

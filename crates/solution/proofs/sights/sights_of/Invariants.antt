@@ -1,5 +1,5 @@
 use Rattle.std.proofs.Common.{◌≡◌, map, take}
-use Rattle.scan.specs.Views.{shown_of}
+use Rattle.scan_rows.specs.Views.{shown_of}
 use Rattle.solution.specs.Scans.{sight_of}
 use Rattle.solution.proofs.sights.sights_of.Given as goal
 

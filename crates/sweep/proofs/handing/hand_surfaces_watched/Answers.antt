@@ -1,6 +1,6 @@
 use Rattle.std.proofs.Common.{ℕ}
 use Rattle.line_text.proofs.Kept.{OnErr-holds}
-use Rattle.scan.specs.Views.{shown_of}
+use Rattle.scan_rows.specs.Views.{shown_of}
 use Rattle.sweep.specs.Entries.{CostsAt, Given}
 use Rattle.sweep.proofs.Handings.{at_scan, costs_at, entries_at, fronts_at, fronts_of_fresh, last_at}
 use Rattle.sweep.proofs.handing.hand_surfaces_watched.Goals as goal

@@ -15,4 +15,4 @@ returns-in_ok-reply_of_mesh-in-Ok c =
 
 pub returns-in_ok-reply_to_error-in-Err : goal.returns-in_ok-reply_to_error-in-Err
 returns-in_ok-reply_to_error-in-Err c =
-    inr (c.in_ok-reply_to_error-in-Err.ensures (surface_of c.args.mesh) c.in-Err.ensures.why)
+    inr (c.in_ok-reply_to_error-in-Err.ensures c.args.request.options (surface_of c.args.mesh) c.in-Err.ensures.why)

@@ -1,5 +1,5 @@
 use Rattle.std.proofs.Common.{IfSome, subst}
-use Rattle.scan.specs.Views.{shown_of}
+use Rattle.scan_rows.specs.Views.{shown_of}
 use Rattle.recon_cmd.specs.Answers.{ToScan, scan_within}
 use Rattle.recon_cmd.specs.Ask.{AskAnswer, ask_task, ask_names, QueryNames}
 use Rattle.recon_cmd.specs.OptionViews.{options_view}

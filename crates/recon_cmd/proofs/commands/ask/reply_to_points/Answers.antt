@@ -1,6 +1,6 @@
 use Rattle.std.proofs.Common.{List, ℕ, ◌≡◌, Ok, IfOk, ap, sym, subst, ◌∙◌}
 use Rattle.geo_sign.specs.Point.{Point}
-use Rattle.scan.specs.Views.{shown_of}
+use Rattle.scan_rows.specs.Views.{shown_of}
 use Rattle.solid_query.specs.Queries.{points_in, Fails}
 use Rattle.command_run.specs.Replies.{answer_of}
 use Rattle.recon_cmd.specs.Answers.{ToContent, or_line}

@@ -1,5 +1,5 @@
 use Rattle.std.proofs.Common.{◌≡◌, refl, ap, ◌∙◌, Bool, List, [], ◌∷◌, ◌++◌, length, count_by}
-use Rattle.scan.specs.Views.{shown_of}
+use Rattle.scan_rows.specs.Views.{shown_of}
 use Rattle.solution.specs.Scans.{points_of}
 use Rattle.command_run.specs.Replies.{texts_of}
 use Rattle.command_run.specs.declared.reply.Text.{Text}

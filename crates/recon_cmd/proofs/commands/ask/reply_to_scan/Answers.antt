@@ -1,6 +1,6 @@
 use Rattle.std.proofs.Common.{rules}
 use Rattle.std.proofs.lemmas.Option.{IfSome_then}
-use Rattle.scan.specs.Views.{shown_of}
+use Rattle.scan_rows.specs.Views.{shown_of}
 use Rattle.solid_query.specs.Queries.{points_in}
 use Rattle.recon_cmd.specs.Answers.{or_line}
 use Rattle.recon_cmd.specs.Ask.{AskAnswer, WritesLabels, ask_task, ask_names, query_refusal_line, too_long_points_line, QueryNames}

@@ -1,5 +1,5 @@
 use Rattle.std.proofs.Common.{IfSome, Ok, ap, subst}
-use Rattle.scan.specs.Views.{shown_of}
+use Rattle.scan_rows.specs.Views.{shown_of}
 use Rattle.command_run.specs.Answers.{Answer}
 use Rattle.command_run.specs.declared.status.Status.TheVariants.{Done}
 use Rattle.recon_cmd.specs.Answers.{scan_within}

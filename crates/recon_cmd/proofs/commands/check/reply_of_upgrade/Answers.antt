@@ -1,5 +1,5 @@
 use Rattle.std.proofs.Common.{◌≡◌, ap, ◌∙◌, ◌++◌, List, [], ◌∷◌}
-use Rattle.cert_text.specs.Certificates.{claim_of, stamp_view}
+use Rattle.certificate.specs.Certificates.{claim_of, stamp_view}
 use Rattle.command_run.specs.Replies.{texts_of}
 use Rattle.command_run.specs.declared.reply.Text.{Text}
 use Rattle.recon_cmd.proofs.CheckReplies.{upgraded}

@@ -1,6 +1,6 @@
 use Rattle.std.proofs.Common.{ℕ, List, Option, IfOk, IfSome, subst}
-use Rattle.cert_text.specs.Stamps.{StampView}
-use Rattle.scan.specs.Views.{shown_of}
+use Rattle.certificate.specs.Stamps.{StampView}
+use Rattle.scan_rows.specs.Views.{shown_of}
 use Rattle.command_run.specs.Steps.{IsReplyOf}
 use Rattle.recon_cmd.specs.Answers.{ToScan, scan_within}
 use Rattle.recon_cmd.specs.Check.{CheckAnswer, HasVerdict, MeshAnswer, check_task, check_names, output_of}

@@ -1,6 +1,6 @@
 use Rattle.std.proofs.Common.{rules, subst, Ok, List, ℕ}
-use Rattle.cert_text.specs.Certificates.{stamp_view}
-use Rattle.scan.specs.Views.{shown_of}
+use Rattle.certificate.specs.Certificates.{stamp_view}
+use Rattle.scan_rows.specs.Views.{shown_of}
 use Rattle.command_run.specs.Replies.{answer_of}
 use Rattle.recon_cmd.specs.Check.{CertAnswerFor, HasVerdictFor, check_names, output_of, task_for, too_long_cert_line}
 use Rattle.recon_cmd.specs.OptionViews.{options_view}

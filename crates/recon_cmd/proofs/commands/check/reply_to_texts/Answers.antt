@@ -1,7 +1,7 @@
 use Rattle.std.proofs.Common.{ap, ◌∙◌, refl, ℕ, List, [], Option}
 use Rattle.std.proofs.lemmas.Result.{IfOk-weaker}
-use Rattle.cert_text.specs.Certificates.{stamp_view}
-use Rattle.scan.specs.Views.{shown_of}
+use Rattle.certificate.specs.Certificates.{stamp_view}
+use Rattle.scan_rows.specs.Views.{shown_of}
 use Rattle.command_run.specs.Answers.{Answer}
 use Rattle.command_run.specs.Replies.{answer_of}
 use Rattle.command_run.specs.declared.status.Status.{Status}

@@ -1,5 +1,5 @@
 use Rattle.std.proofs.Common.{ℕ, List, Some, ap, ◌++◌, ◌∙◌}
-use Rattle.cert_text.specs.Certificates.{claim_of, stamp_view}
+use Rattle.certificate.specs.Certificates.{claim_of, stamp_view}
 use Rattle.cert_text.specs.Texts.{cert_text}
 use Rattle.recon_build.proofs.WellFormed.{version_of}
 use Rattle.recon_cmd.specs.Check.{restamped}

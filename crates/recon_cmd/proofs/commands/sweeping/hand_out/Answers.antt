@@ -1,5 +1,5 @@
 use Rattle.std.proofs.Common.{inl, refl, ◌∙◌}
-use Rattle.scan.specs.Views.{shown_of}
+use Rattle.scan_rows.specs.Views.{shown_of}
 use Rattle.sweep.proofs.Handings.{fronts_of_entries}
 use Rattle.recon_cmd.proofs.SweepReplies.{as_long, handed}
 use Rattle.recon_cmd.proofs.commands.sweeping.hand_out.Goals as goal

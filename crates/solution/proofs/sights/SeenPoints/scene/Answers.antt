@@ -1,6 +1,6 @@
 use Rattle.std.proofs.Common.{◌∙◌}
-use Rattle.scan.proofs.ShownLemmas.{scan_is_shown}
-use Rattle.scan.specs.Views.{shown_of}
+use Rattle.scan_rows.proofs.ShownLemmas.{scan_is_shown}
+use Rattle.scan_rows.specs.Views.{shown_of}
 use Rattle.solution.proofs.ScanScenes.{sights_are}
 use Rattle.solution.proofs.SightLists.{few_sights}
 use Rattle.solution.proofs.sights.SeenPoints.scene.Goals as goal

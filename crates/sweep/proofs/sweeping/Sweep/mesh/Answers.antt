@@ -1,5 +1,5 @@
 use Rattle.std.proofs.Common.{subst, Result, Ok, Err, IfOk}
-use Rattle.mesh_ply.specs.declared.mesh.Mesh.{Mesh}
+use Rattle.mesh.specs.declared.mesh.Mesh.{Mesh}
 use Rattle.solution.specs.Solutions.{surface_of}
 use Rattle.surface.proofs.CutList.{can_be_cut}
 use Rattle.visibility.specs.Scenes.{Scene, scene_of}

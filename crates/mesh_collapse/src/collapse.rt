@@ -1,0 +1,156 @@
+//! The search as a whole.
+
+use crate::NoMemory;
+use crate::boxes::Boxes;
+use crate::clear::is_clear;
+use crate::commit::commit;
+use crate::costs::cheapest;
+use crate::fan::Fan;
+use crate::fans::find_fans;
+use crate::homes::collapsed_of;
+use crate::link::Marks;
+use crate::numbers::{NONE, number_at, put};
+use crate::order::{Ordered, along_curve, first_numbers};
+use crate::passes::make_passes;
+use crate::reach::{Lists, keeps_points};
+use crate::shape::has_shape;
+use crate::surface::Surface;
+use geo_sign::Point;
+use half_edges::find_twins;
+use std::alloc::Global;
+
+/// What is asked for.
+#[derive(Clone, Copy, Debug, PartialEq, Eq)]
+pub struct Request {
+    /// How far a given point may be from the nearest new face.
+    pub within: u32,
+    /// How many faces are left at least, if the given ones are that many.
+    pub faces: u32,
+}
+
+/// The faces that are left, and hints for tests.
+#[derive(Drop)]
+pub struct Collapsed {
+    /// The faces, by the numbers of the given vertices.
+    pub faces: Vec<[u32; 3]>,
+    /// For each face the number of a given one, whose corners it may have.
+    pub source: Vec<u32>,
+    /// For each given vertex the index of a face that it may be near.
+    pub homes: Vec<u32>,
+}
+
+/// All that a search works on.
+#[derive(Drop)]
+pub(crate) struct Work {
+    pub(crate) surface: Surface,
+    pub(crate) lists: Lists,
+    pub(crate) boxes: Boxes,
+    pub(crate) marks: Marks,
+    /// What the cheapest collapse of each vertex costs; below 0 if that is not known.
+    pub(crate) costs: Vec<f64>,
+    /// The half edge of that collapse.
+    pub(crate) cheapest: Vec<u32>,
+    /// Up to which cost collapses of each vertex have failed.
+    pub(crate) floors: Vec<f64>,
+    pub(crate) within: f64,
+    /// The number of each given vertex along the curve.
+    pub(crate) vertices: Vec<u32>,
+}
+
+/// Collapses an edge if it may be, and returns whether it is done.
+pub(crate) fn try_edge(work: &mut Work, fan: &mut Fan, edge: u32) -> Result<bool, NoMemory> {
+    let (u, v) = (work.surface.from(edge), work.surface.to(edge));
+    if !fan.gather(&work.surface, edge)? {
+        return Ok(false);
+    }
+    if !work.marks.is_linked(&work.surface, &fan.ring, &fan.star) {
+        return Ok(false);
+    }
+    if !has_shape(&work.surface, fan, u, v)? {
+        return Ok(false);
+    }
+    if !keeps_points(&work.surface, &work.lists, fan, u, work.within)? {
+        return Ok(false);
+    }
+    if !is_clear(&work.surface, &work.boxes, fan, v) {
+        return Ok(false);
+    }
+    commit(work, fan, u, v);
+    Ok(true)
+}
+
+/// Returns the half edge of the cheapest collapse of a vertex whose cost is known.
+pub(crate) fn cheapest_edge(work: &Work, u: u32) -> u32 {
+    number_at(&work.cheapest, u)
+}
+
+/// Returns the cost of the cheapest collapse of a vertex, infinite if there is none.
+pub(crate) fn cost_of(work: &mut Work, u: u32) -> f64 {
+    let known = work.costs.get(u as usize).copied().unwrap_or(f64::INFINITY);
+    if known >= 0.0 {
+        return known;
+    }
+    let floor = work.floors.get(u as usize).copied().unwrap_or(0.0);
+    let (cost, edge) = match cheapest(&work.surface, u, floor) {
+        Some(candidate) => (candidate.cost, candidate.edge),
+        None => (f64::INFINITY, NONE),
+    };
+    if (u as usize) < work.costs.len() {
+        work.costs[u as usize] = cost;
+    }
+    put(&mut work.cheapest, u, edge);
+    cost
+}
+
+/// Returns the work on a mesh.
+fn work_on(alloc: Global, ordered: Ordered, within: u32) -> Result<Work, NoMemory> {
+    let Ordered {
+        vertices,
+        places,
+        faces,
+        source,
+    } = ordered;
+    let twins = find_twins(alloc, &places, &faces)?;
+    let (count, live) = (places.len(), faces.len());
+    let origin = first_numbers(alloc, count)?;
+    let mut surface = Surface {
+        places,
+        faces,
+        twins,
+        edge_of: Vec::new(alloc),
+        origin,
+        source,
+        live,
+    };
+    find_fans(alloc, &mut surface)?;
+    Ok(Work {
+        lists: Lists::empty(alloc, &surface.places, live)?,
+        boxes: Boxes::of(alloc, &surface)?,
+        marks: Marks {
+            marks: vec![in alloc; 0; count]?,
+            stamp: 0,
+        },
+        costs: vec![in alloc; -1.0; count]?,
+        cheapest: vec![in alloc; NONE; count]?,
+        floors: vec![in alloc; -1.0; count]?,
+        within: f64::from(within),
+        vertices,
+        surface,
+    })
+}
+
+/// Collapses edges of a mesh while its given vertices stay within a distance of the faces, down to a number of faces.
+///
+/// Nothing is promised of the result. The search makes some 30 passes over the vertices, each in the time of sorting them.
+pub fn collapse_edges(
+    alloc: Global,
+    points: &[Point],
+    faces: &[[u32; 3]],
+    request: Request,
+) -> Result<Collapsed, NoMemory> {
+    let ordered = along_curve(alloc, points, faces)?;
+    let mut work = work_on(alloc, ordered, request.within)?;
+    let mut fan = Fan::empty(alloc);
+    make_passes(alloc, &mut work, &mut fan, request.faces as usize)?;
+    collapsed_of(alloc, &work)
+}

@@ -1,0 +1,37 @@
+//! Collapses edges of a closed mesh, cheapest first: a search whose result has to be tested.
+//!
+//! Verified: `collapse_edges` is safe and ends. Nothing is stated about its result.
+//!
+//! [`collapse_edges`] merges a vertex into a neighbor again and again. The cost of a collapse is how far the neighbor is from the planes
+//! of the faces around the vertex, by area (Garland and Heckbert, 1997, without memory of former faces: Lindstrom and Turk, 1998). A
+//! collapse is left out if it changes how faces are connected, turns a face, makes a sliver, leaves a given point farther than a distance
+//! from the new faces, or makes two faces meet. Passes over all vertices along a curve take the cheapest quarter each.
+//!
+//! No clause says anything of the result but that the call ends. Callers test what they need.
+//!
+//! It depends on `geo_sign` (points), `half_edges` (twins), `hull_tree` (boxes), `triangle_gap` (faces that are apart), `face_near`
+//! (nearest points) and `mesh_flips` (vectors in floating point).
+#![tactic(auto)]
+
+mod boxes;
+mod clear;
+mod collapse;
+mod commit;
+mod costs;
+mod fan;
+mod fans;
+mod homes;
+mod link;
+mod numbers;
+mod order;
+mod pack;
+mod passes;
+mod reach;
+mod shape;
+mod surface;
+
+pub use collapse::{Collapsed, Request, collapse_edges};
+use std::alloc::AllocError;
+
+/// Out of memory.
+pub type NoMemory = AllocError;

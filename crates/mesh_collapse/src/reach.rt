@@ -1,0 +1,185 @@
+//! Whether the given points around a collapse stay near a face.
+
+use crate::NoMemory;
+use crate::fan::{Fan, Moved};
+use crate::numbers::{NONE, after, number_at, put};
+use crate::surface::{Surface, between};
+use face_near::{Corners, nearest_on, spot};
+use geo_sign::Point;
+use mesh_flips::Way;
+use std::alloc::Global;
+
+/// The given points, and for each face a list of those that are near it. A point at which a vertex is left is on no list.
+#[derive(Drop)]
+pub(crate) struct Lists {
+    /// The given points, along the curve.
+    pub(crate) points: Vec<Point>,
+    /// The first point of each face's list.
+    pub(crate) head: Vec<u32>,
+    /// The point after each one in its list.
+    pub(crate) next: Vec<u32>,
+}
+
+/// Two faces that a collapse does not change, which points may be near too.
+#[derive(Clone, Copy)]
+struct Beside {
+    one: u32,
+    other: u32,
+    one_spots: Corners,
+    other_spots: Corners,
+}
+
+/// The nearest face of a point so far.
+#[derive(Clone, Copy)]
+struct Best {
+    face: u32,
+    square: f64,
+    /// The distance up to which it counts as near.
+    limit: f64,
+}
+
+/// What rounding to whole weights may add to a distance, for each unit of length of a face's sides.
+const SLACK: f64 = 0.000002;
+
+/// Returns the distance up to which a point counts as near a face, less what rounding may add.
+fn limit_on(t: &Corners, within: f64) -> f64 {
+    let (p, q) = (between(t.a, t.b), between(t.a, t.c));
+    (within - SLACK * (p.length() + q.length())).max(0.0)
+}
+
+impl Best {
+    /// Takes a face if it is nearer.
+    fn improve(&mut self, p: Way, t: &Corners, face: u32, within: f64) {
+        let square = nearest_on(p, t).square;
+        if square < self.square {
+            self.square = square;
+            self.face = face;
+            self.limit = limit_on(t, within);
+        }
+    }
+
+    fn is_near(&self) -> bool {
+        self.face != NONE && (self.square == 0.0 || self.square < self.limit * self.limit)
+    }
+}
+
+/// Returns the faces across the two that go, on the side of the vertex that stays.
+fn faces_beside(surface: &Surface, fan: &Fan) -> Beside {
+    let first = fan.ring.first().copied().unwrap_or(NONE);
+    let last = fan.ring.last().copied().unwrap_or(NONE);
+    let one = surface.twin(after(first)) / 3;
+    let other = surface.twin(after(last)) / 3;
+    Beside {
+        one,
+        other,
+        one_spots: surface.corners(surface.face(one)),
+        other_spots: surface.corners(surface.face(other)),
+    }
+}
+
+/// Returns the nearest face of a point among those that change and those beside.
+fn nearest_face(fan: &Fan, two: &Beside, p: Way, within: f64) -> Best {
+    let mut best = Best {
+        face: NONE,
+        square: f64::INFINITY,
+        limit: 0.0,
+    };
+    for new in &fan.changed {
+        best.improve(p, &new.spots, new.face, within);
+    }
+    best.improve(p, &two.one_spots, two.one, within);
+    best.improve(p, &two.other_spots, two.other, within);
+    best
+}
+
+/// Finds a face that a point is near, and returns whether there is one.
+fn place_point(
+    lists: &Lists,
+    fan: &mut Fan,
+    two: &Beside,
+    point: u32,
+    within: f64,
+) -> Result<bool, NoMemory> {
+    let Some(p) = lists.points.get(point as usize) else {
+        return Ok(false);
+    };
+    let best = nearest_face(fan, two, spot(*p), within);
+    if !best.is_near() {
+        return Ok(false);
+    }
+    fan.moved.push(Moved {
+        point,
+        face: best.face,
+    })?;
+    Ok(true)
+}
+
+/// Finds faces that the points of a face's list are near, and returns whether there is one for each.
+fn place_list(
+    lists: &Lists,
+    fan: &mut Fan,
+    two: &Beside,
+    face: u32,
+    within: f64,
+) -> Result<bool, NoMemory> {
+    let mut point = number_at(&lists.head, face);
+    for _ in 0..lists.next.len() {
+        if point == NONE {
+            break;
+        }
+        if !place_point(lists, fan, two, point, within)? {
+            return Ok(false);
+        }
+        point = number_at(&lists.next, point);
+    }
+    Ok(true)
+}
+
+/// Finds faces that the given points around a collapse of `u` are near afterwards, and returns whether there is one for each.
+pub(crate) fn keeps_points(
+    surface: &Surface,
+    lists: &Lists,
+    fan: &mut Fan,
+    u: u32,
+    within: f64,
+) -> Result<bool, NoMemory> {
+    fan.moved.clear();
+    let two = faces_beside(surface, fan);
+    if !place_point(lists, fan, &two, number_at(&surface.origin, u), within)? {
+        return Ok(false);
+    }
+    for i in 0..fan.ring.len() {
+        if i < fan.ring.len() {
+            let face = fan.ring[i] / 3;
+            if !place_list(lists, fan, &two, face, within)? {
+                return Ok(false);
+            }
+        }
+    }
+    Ok(true)
+}
+
+impl Lists {
+    /// Returns empty lists.
+    pub(crate) fn empty(alloc: Global, places: &[Point], faces: usize) -> Result<Lists, NoMemory> {
+        let mut points = Vec::with_capacity(alloc, places.len())?;
+        points.extend_from_slice(places)?;
+        Ok(Lists {
+            points,
+            head: vec![in alloc; NONE; faces]?,
+            next: vec![in alloc; NONE; places.len()]?,
+        })
+    }
+
+    /// Moves points to the lists of the faces that they are near.
+    pub(crate) fn move_points(&mut self, fan: &Fan) {
+        for h in &fan.ring {
+            put(&mut self.head, *h / 3, NONE);
+        }
+        for moved in &fan.moved {
+            let first = number_at(&self.head, moved.face);
+            put(&mut self.next, moved.point, first);
+            put(&mut self.head, moved.face, moved.point);
+        }
+    }
+}

@@ -1,0 +1,108 @@
+-- The line of what was done says what, and with which options.
+--
+-- The words of the two kinds of lines differ in their twentieth byte (finish_not_simplify). What follows the word is one of the options of
+-- its kind (options_code, simplify_code).
+use Rattle.std.proofs.Common.{ℕ, ◌≡◌, ◌-◌, ◌^◌, ap, sym, ◌∙◌, arith, List, ◌++◌, get_or, append_assoc}
+use Rattle.line_text.specs.Numbers.{ended, counted, BeginsWithNone}
+use Rattle.geo_sign.specs.Numbers.{IsBetween}
+use Rattle.line_text.proofs.Codes.{IsCode, behind_same, ended_code, counted_code}
+use Rattle.mesh_ply.specs.Texts.{vertex_word}
+use Rattle.finish_options.specs.declared.options.FinishOptions.{FinishOptions}
+use Rattle.finish_options.specs.declared.options.SimplifyOptions.{SimplifyOptions}
+use Rattle.finish_options.specs.declared.options.Made.{Made}
+use Rattle.finish_options.specs.declared.options.Made.TheVariants.{Finish, Simplify}
+use Rattle.finish_options.specs.declared.options.TheConstants.{FARTHEST}
+use Rattle.mesh_provenance.specs.Options.{AreOptions, options_end}
+use Rattle.mesh_provenance.specs.Simplifying.{AreSimplifyOptions, simplify_word, faces_word, simplify_end}
+use Rattle.mesh_provenance.specs.Texts.{IsMade, finish_word, made_line}
+use Rattle.mesh_provenance.proofs.OptionCodes.{options_code}
+
+f_not_s : ◌≡◌ {A = ℕ} 102 115 → ⊥
+f_not_s e = omega arith
+
+c_not_e : ◌≡◌ {A = ℕ} 99 101 → ⊥
+c_not_e e = omega arith
+
+pub finish_not_simplify : (r t : List ℕ) → finish_word ++ r ≡ simplify_word ++ t → ⊥
+unfolding finish_word simplify_word
+finish_not_simplify r t e = f_not_s (ap (λ (l : List ℕ). get_or l 19 0) e)
+
+-- ---- the numbers of simplifying
+with_numbers : (within faces : ℕ) → SimplifyOptions
+with_numbers within faces = record { within = within; faces = faces }
+
+pub simplify_parts : (o : SimplifyOptions) (r : List ℕ)
+    → simplify_end o ++ r ≡ ended o.within 32 ++ (counted faces_word o.faces ++ r)
+simplify_parts o r = append_assoc (ended o.within 32) (counted faces_word o.faces) r
+
+simplify_code : IsCode AreSimplifyOptions simplify_end
+unfolding with_numbers
+simplify_code v w r s a b e =
+    let within =
+    ended_code v.within w.within 32 _ _ (omega arith) (omega (arith, a.0.1)) (omega (arith, b.0.1))
+    (sym (simplify_parts v r) ∙ e ∙ simplify_parts w s) in
+    let faces =
+    counted_code faces_word v.faces w.faces r s (omega (arith, a.1.1)) (omega (arith, b.1.1)) within.1 in (
+      ap (λ (n : ℕ). with_numbers n v.faces) within.0 ∙ ap (λ (n : ℕ). with_numbers w.within n) faces.0,
+      faces.1,
+    )
+
+-- texts that begin with no such numbers
+pub no_distance : (text : List ℕ) → BeginsWithNone (IsBetween 1 FARTHEST) (λ n. ended n 32) text
+    → BeginsWithNone AreSimplifyOptions simplify_end text
+no_distance text none = λ o r h e. none o.within _ h.0 (e ∙ simplify_parts o r)
+
+pub no_faces : (text last : List ℕ) (n : ℕ) → IsBetween 1 FARTHEST n → text ≡ ended n 32 ++ last
+    → BeginsWithNone (IsBetween 0 (2 ^ 32 - 1)) (counted faces_word) last → BeginsWithNone AreSimplifyOptions simplify_end text
+no_faces text last n fits is none = λ o r h e.
+    let first =
+    ended_code n o.within 32 last _ (omega arith) (omega (arith, fits.1)) (omega (arith, h.0.1))
+    (sym is ∙ (e ∙ simplify_parts o r)) in
+    none o.faces r h.1 first.1
+
+-- ---- the line
+pub finish_parts : (o : FinishOptions) (r : List ℕ) → made_line (Finish o) ++ r ≡ finish_word ++ (options_end o ++ r)
+finish_parts o r = append_assoc finish_word (options_end o) r
+
+pub simplified_parts : (o : SimplifyOptions) (r : List ℕ)
+    → made_line (Simplify o) ++ r ≡ simplify_word ++ (simplify_end o ++ r)
+simplified_parts o r = append_assoc simplify_word (simplify_end o) r
+
+pub made_code : IsCode IsMade made_line
+made_code (Finish v) (Finish w) r s a b e =
+    let both = options_code v w r s a b (behind_same finish_word _ _ (sym (finish_parts v r) ∙ e ∙ finish_parts w s)) in
+    (ap Finish both.0, both.1)
+made_code (Finish v) (Simplify w) r s a b e =
+    absurd (finish_not_simplify _ _ (sym (finish_parts v r) ∙ e ∙ simplified_parts w s))
+made_code (Simplify v) (Finish w) r s a b e =
+    absurd (finish_not_simplify _ _ (sym (finish_parts w s) ∙ sym e ∙ simplified_parts v r))
+made_code (Simplify v) (Simplify w) r s a b e =
+    let both =
+    simplify_code v w r s a b (behind_same simplify_word _ _ (sym (simplified_parts v r) ∙ e ∙ simplified_parts w s)) in
+    (ap Simplify both.0, both.1)
+
+-- it is not the line of a number of vertices
+pub made_not_vertices : (m : Made) (r s : List ℕ) (n : ℕ) → made_line m ++ r ≡ counted vertex_word n ++ s → ⊥
+unfolding finish_word simplify_word vertex_word
+made_not_vertices (Finish o) r s n e = c_not_e (ap (λ (l : List ℕ). get_or l 0 0) e)
+made_not_vertices (Simplify o) r s n e = c_not_e (ap (λ (l : List ℕ). get_or l 0 0) e)
+
+-- ---- texts that begin with no such line
+pub none_after_simplify : (text behind : List ℕ) → text ≡ simplify_word ++ behind
+    → BeginsWithNone AreSimplifyOptions simplify_end behind → BeginsWithNone IsMade made_line text
+none_after_simplify text behind is none (Finish o) r h e =
+    finish_not_simplify _ behind (sym (finish_parts o r) ∙ (sym e ∙ is))
+none_after_simplify text behind is none (Simplify o) r h e =
+    none o r h (behind_same simplify_word _ _ (sym is ∙ (e ∙ simplified_parts o r)))
+
+pub none_of_words : (text : List ℕ) → ((rest : List ℕ) → ¬ (text ≡ simplify_word ++ rest))
+    → ((rest : List ℕ) → ¬ (text ≡ finish_word ++ rest)) → BeginsWithNone IsMade made_line text
+none_of_words text one other (Finish o) r h e = other _ (e ∙ finish_parts o r)
+none_of_words text one other (Simplify o) r h e = one _ (e ∙ simplified_parts o r)
+
+pub none_after_finish : (text behind : List ℕ) → text ≡ finish_word ++ behind → BeginsWithNone AreOptions options_end behind
+    → BeginsWithNone IsMade made_line text
+none_after_finish text behind is none (Finish o) r h e =
+    none o r h (behind_same finish_word _ _ (sym is ∙ (e ∙ finish_parts o r)))
+none_after_finish text behind is none (Simplify o) r h e =
+    finish_not_simplify behind _ (sym is ∙ (e ∙ simplified_parts o r))

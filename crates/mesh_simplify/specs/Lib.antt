@@ -1,0 +1,4 @@
+pub mod Simplified
+pub mod Keys
+pub mod Laws
+pub mod Tested

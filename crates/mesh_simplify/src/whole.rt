@@ -1,0 +1,97 @@
+//! The simplified mesh.
+
+ghost use Rattle.std.specs.Prelude.{◌≡◌, IfOk, IfErr, IfSome, All};
+ghost use Rattle.geo_sign.specs.Point.{IsWithin};
+ghost use Rattle.geo_sign.specs.declared.point.TheConstants.{BOX_LIMIT};
+ghost use Rattle.mesh.specs.Meshes.{IsMesh};
+ghost use Rattle.mesh_edges.specs.Edges.{IsBalanced};
+ghost use Rattle.mesh_simplify.specs.Simplified.{IsSimplified, ExplainsSimplify};
+ghost use Rattle.mesh_simplify.specs.Tested.{IsGood};
+
+use crate::NoMemory;
+use crate::candidate::{Candidate, find_candidate};
+use crate::tests::{Hints, is_simplified};
+use crate::valid::{is_mesh, points_of};
+use mesh::Mesh;
+use mesh_collapse::Request;
+use mesh_edges::{UnbalancedEdge, first_unbalanced};
+use std::alloc::Global;
+
+/// Why a mesh is not simplified.
+#[derive(Clone, Copy, Debug, PartialEq, Eq)]
+pub enum SimplifyError {
+    /// It is not closed: this is its smallest edge that occurs another number of times than its reverse.
+    NotClosed(UnbalancedEdge),
+    /// Out of memory.
+    NoMemory,
+}
+
+/// Returns the mesh of a candidate, if it is valid and simplified.
+fn tested(alloc: Global, old: &Mesh, new: Candidate, within: u32) -> Result<Option<Mesh>, NoMemory>
+    requires { IsMesh old.now.points.items old.now.faces.items }
+    ensures { IfOk result (λ new. IfSome new (λ m. IsGood within old.now.points.items old.now.faces.items m.points.items m.faces.items)) }
+{
+    let Candidate {
+        faces,
+        from,
+        source,
+        homes,
+    } = new;
+    let Some(points) = points_of(alloc, &old.points, &from)? else {
+        return Ok(None);
+    };
+    let mesh = Mesh { points, faces };
+    if !is_mesh(&mesh) {
+        return Ok(None);
+    }
+    let hints = Hints {
+        from: &from,
+        source: &source,
+        homes: &homes,
+    };
+    if !is_simplified(alloc, old, &mesh, &hints, within)? {
+        return Ok(None);
+    }
+    Ok(Some(mesh))
+}
+
+/// Returns what the search finds, if it passes all tests.
+fn found(alloc: Global, mesh: &Mesh, request: Request) -> Result<Option<Mesh>, NoMemory>
+    requires { IsMesh mesh.now.points.items mesh.now.faces.items }
+    ensures { IfOk result (λ new. IfSome new (λ m. IsGood request.within mesh.now.points.items mesh.now.faces.items m.points.items m.faces.items)) }
+{
+    let new = find_candidate(alloc, mesh, request)?;
+    tested(alloc, mesh, new, request.within)
+}
+
+/// Returns a closed mesh simplified, or as it is.
+fn simplified(alloc: Global, mesh: Mesh, request: Request) -> Result<Mesh, NoMemory>
+    requires valid { IsMesh mesh.points.items mesh.faces.items }
+    requires closed { IsBalanced mesh.faces.items }
+    ensures { IfOk result (λ new. IsGood request.within mesh.points.items mesh.faces.items new.points.items new.faces.items) }
+{
+    match found(alloc, &mesh, request)? {
+        Some(new) => Ok(new),
+        None => Ok(mesh),
+    }
+}
+
+/// Returns a closed mesh simplified: with fewer faces, down to a number of faces or as few as the search finds, and each corner of the
+/// given mesh within a distance of them. A mesh for which the search finds none that passes all tests stays as it is.
+pub fn simplify_mesh(alloc: Global, mesh: Mesh, request: Request) -> Result<Mesh, SimplifyError>
+    requires { IsMesh mesh.points.items mesh.faces.items }
+    ensures simplified { IfOk result (λ new. IsSimplified request.within mesh.points.items mesh.faces.items new.points.items new.faces.items) }
+    ensures valid { IfOk result (λ new. IsMesh new.points.items new.faces.items) }
+    ensures boxed { All (IsWithin BOX_LIMIT) mesh.points.items → IfOk result (λ new. All (IsWithin BOX_LIMIT) new.points.items) }
+    ensures why { IfErr result (λ error. ExplainsSimplify mesh.faces.items error) }
+{
+    match first_unbalanced(alloc, &mesh) {
+        Ok(None) => {}
+        Ok(Some(edge)) => return Err(SimplifyError::NotClosed(edge)),
+        Err(_) => return Err(SimplifyError::NoMemory),
+    }
+    match simplified(alloc, mesh, request) {
+        Ok(new) => Ok(new),
+        Err(_) => Err(SimplifyError::NoMemory),
+    }
+}

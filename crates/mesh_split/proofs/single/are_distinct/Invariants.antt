@@ -1,5 +1,0 @@
-use Rattle.std.proofs.Common.{ℕ, ◌+◌, ◌<◌, get_or}
-use Rattle.mesh_split.proofs.single.are_distinct.Given as goal
-
-abbrev pub invariant-loop-at : goal.invariant-loop-at
-invariant-loop-at l = (j : ℕ) → j + 1 < l.at → get_or l.keys j 0 < get_or l.keys (j + 1) 0

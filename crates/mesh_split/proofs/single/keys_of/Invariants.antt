@@ -1,6 +1,0 @@
-use Rattle.std.proofs.Common.{take}
-use Rattle.mesh_split.specs.Splits.{CountsKeys}
-use Rattle.mesh_split.proofs.single.keys_of.Given as goal
-
-abbrev pub invariant-loop-face : goal.invariant-loop-face
-invariant-loop-face l = CountsKeys (take l.face-index l.faces) l.keys.items

@@ -1,0 +1,3 @@
+pub mod ScanRows
+pub mod Shown
+pub mod Views

@@ -1,0 +1,1 @@
+"""Measurements of programs and of meshes."""

@@ -1,0 +1,179 @@
+"""Measures how fast scans are read from files of each kind, and prints a table for docs/explain/performance.md.
+
+usage: dev/bench reading FOLDER [rows=N] [runs=N] [only=PART]
+
+  FOLDER       where the files are made; one that is there is not made again
+  rows=N       the rows of each file (default: 2000000)
+  runs=N       runs of each; the fastest counts (default: 3)
+  only=PART    only the kinds with PART in their name
+  one=WHAT     reads or converts the file FOLDER once (read, convert), and prints seconds and MB, as the table needs them
+
+Each file has the same points, with colors and intensity where the format has them. *Read* is `recon.tables.read_table`, by which recon-surface reads:
+positions, colors and scanners as arrays. *Converted* is recon-scan, which writes a text of decimals. Speeds are rows in a second of processor time.
+"""
+from __future__ import annotations
+
+import os
+import resource
+import subprocess
+import sys
+import time
+from pathlib import Path
+from typing import Any, Callable, Dict, Iterator, List, Sequence
+
+import numpy as np
+
+from bench.runs import printed_head, printed_row
+from samples import las_head, physical
+from recon import scan
+from recon.tables import read_table
+from recon.toolbox.tool import Options
+
+NAMES, OPTIONS = 1, ('rows', 'runs', 'only', 'one')
+CHUNK = 100_000
+IDENTITY = ('1 0 0 0', '0 1 0 0', '0 0 1 0', '0 0 0 1')
+TURNED = ('0.6 0.8 0 0', '-0.8 0.6 0 0', '0 0 1 0', '448262.512345 5411932.75 118.25 1')
+STATION = '1,2,3'
+
+
+def parts(rows: int) -> Iterator[tuple[np.ndarray, np.ndarray, np.ndarray]]:
+    """Yields points (n, 3), intensities and colors, some at a time: points as a scanner sees a room, in tenths of a millimeter."""
+    draw = np.random.default_rng(1)
+    for start in range(0, rows, CHUNK):
+        count = min(CHUNK, rows - start)
+        yield np.round(draw.normal(size=(count, 3)) * (12, 9, 2), 4), np.round(draw.random(count), 6), draw.integers(0, 256, (count, 3))
+
+
+def text_file(path: Path, rows: int, form: str, pick: Callable[..., np.ndarray], begin: str = '') -> None:
+    with open(path, 'w', encoding='ascii') as file:
+        file.write(begin)
+        for points, intensities, colors in parts(rows):
+            values = pick(points, intensities, colors)
+            file.write(form * len(values) % tuple(values.ravel().tolist()))
+
+
+def xyz(points: np.ndarray, _: np.ndarray, __: np.ndarray) -> np.ndarray:
+    return points
+
+
+def xyz_color(points: np.ndarray, _: np.ndarray, colors: np.ndarray) -> np.ndarray:
+    return np.c_[points, colors]
+
+
+def xyz_all(points: np.ndarray, intensities: np.ndarray, colors: np.ndarray) -> np.ndarray:
+    return np.c_[points, intensities, colors]
+
+
+def ptx_head(rows: int, matrix: Sequence[str]) -> str:
+    return '\n'.join([str(rows), '1', ' '.join(matrix[3].split()[:3]), '1 0 0', '0 1 0', '0 0 1', *matrix, ''])
+
+
+def ply_head(kind: str, rows: int) -> str:
+    columns = [f'property double {axis}' for axis in 'xyz'] + [f'property uchar {name}' for name in ('red', 'green', 'blue')]
+    return '\n'.join(['ply', f'format {kind} 1.0', f'element vertex {rows}', *columns, 'end_header', ''])
+
+
+def binary_file(path: Path, rows: int, begin: bytes, kind: Any, scale: float = 1.0) -> None:
+    """Writes records of points and colors, in fields `p` and `c`."""
+    with open(path, 'wb') as file:
+        file.write(begin)
+        for points, _, colors in parts(rows):
+            records = np.zeros(len(points), kind)
+            records['p'] = np.rint(points * scale) if scale != 1 else points
+            records['c'] = colors
+            file.write(records.tobytes())
+
+
+def packed_bits(values: np.ndarray, bits: int) -> bytes:
+    """Whole numbers packed by bits, as E57 has them."""
+    return np.packbits((values[:, None].astype(np.uint64) >> np.arange(bits, dtype=np.uint64) & np.uint64(1)).astype(np.uint8).ravel(), bitorder='little').tobytes()
+
+
+def e57_file(path: Path, rows: int) -> None:
+    """Writes one station of scaled whole numbers, as scanners' programs do: 20 bits a coordinate, a state, 12 bits of intensity, and colors."""
+    half, columns = 1 << 19, [20, 20, 20, 2, 12, 8, 8, 8]
+    packets: List[bytes] = []
+    rest = [b''] * 8
+    for points, intensities, colors in parts(rows):
+        for start in range(0, len(points), 4000):
+            cut = slice(start, start + 4000)
+            whole = np.clip(np.rint(points[cut] * 10_000 / 2), -half, half - 1).astype(np.int64) + half
+            values = [*whole.T, np.zeros(len(whole), np.int64), np.rint(intensities[cut] * 4095), *colors[cut].T]
+            body = [before + packed_bits(value, bits) for before, value, bits in zip(rest, values, columns)]
+            block = np.array(list(map(len, body)), '<u2').tobytes() + b''.join(body)
+            block += bytes(-(6 + len(block)) % 4)
+            packets.append(b'\1\0' + (len(block) + 5).to_bytes(2, 'little') + (8).to_bytes(2, 'little') + block)
+    section = b''.join(packets)
+    head = b'\1' + bytes(7) + np.array([32 + len(section), physical(48 + 32), 0], '<u8').tobytes()
+    fields = [f'<cartesian{axis} type="ScaledInteger" minimum="{-half}" maximum="{half - 1}" scale="0.0002"/>' for axis in 'XYZ']
+    fields += ['<cartesianInvalidState type="Integer" minimum="0" maximum="2"/>', '<intensity type="ScaledInteger" minimum="0" maximum="4095" scale="0.0002"/>']
+    fields += [f'<color{name} type="Integer" minimum="0" maximum="255"/>' for name in ('Red', 'Green', 'Blue')]
+    text = ('<e57Root type="Structure" xmlns="http://www.astm.org/COMMIT/E57/2010-e57-v1.0"><data3D type="Vector"><vectorChild type="Structure">'
+            f'<points type="CompressedVector" fileOffset="{physical(48)}" recordCount="{rows}"><prototype type="Structure">{"".join(fields)}</prototype>'
+            '<codecs type="Vector"/></points></vectorChild></data3D></e57Root>').encode('ascii')
+    at = 48 + len(head) + len(section)
+    length = (at + len(text) + 1019) // 1020 * 1024
+    data = b'ASTM-E57' + np.array([1, 0], '<u4').tobytes() + np.array([length, physical(at), len(text), 1024], '<u8').tobytes() + head + section + text
+    data += bytes(-len(data) % 1020)
+    pages = np.zeros((len(data) // 1020, 1024), np.uint8)
+    pages[:, :1020] = np.frombuffer(data, np.uint8).reshape(-1, 1020)
+    path.write_bytes(pages.tobytes())
+
+
+# each kind: its file, how it is made, and how it is given
+KINDS: Dict[str, tuple[str, Callable[[Path, int], None], str]] = {
+    'text, `X Y Z`': ('xyz.txt', lambda path, rows: text_file(path, rows, '%.4f %.4f %.4f\n', xyz), '=' + STATION),
+    'text, `X Y Z R G B`': ('color.txt', lambda path, rows: text_file(path, rows, '%.4f %.4f %.4f %d %d %d\n', xyz_color), '=' + STATION),
+    'CSV with a heading': ('color.csv', lambda path, rows: text_file(path, rows, '%.4f,%.4f,%.4f,%d,%d,%d\n', xyz_color, 'x,y,z,r,g,b\n'), '=' + STATION),
+    'text, 17 digits': ('long.txt', lambda path, rows: text_file(path, rows, '%.15f %.15f %.15f\n', lambda p, *_: p * np.pi), '=' + STATION),
+    'PTS': ('all.pts', lambda path, rows: text_file(path, rows, '%.4f %.4f %.4f %.6f %d %d %d\n', xyz_all, f'{rows}\n'), '=' + STATION),
+    'PTX': ('plain.ptx', lambda path, rows: text_file(path, rows, '%.4f %.4f %.4f %.6f %d %d %d\n', xyz_all, ptx_head(rows, IDENTITY)), ''),
+    'PTX with a matrix': ('turned.ptx', lambda path, rows: text_file(path, rows, '%.4f %.4f %.4f %.6f %d %d %d\n', xyz_all, ptx_head(rows, TURNED)), ''),
+    'PLY, text': ('text.ply', lambda path, rows: text_file(path, rows, '%.4f %.4f %.4f %d %d %d\n', xyz_color, ply_head('ascii', rows)), '=' + STATION),
+    'PLY, binary': ('binary.ply', lambda path, rows: binary_file(path, rows, ply_head('binary_little_endian', rows).encode('ascii'),
+                                                                 [('p', '<f8', 3), ('c', 'u1', 3)]), '=' + STATION),
+    'LAS': ('points.las', lambda path, rows: binary_file(path, rows, las_head(2, 2, 26, rows, (1e-4,) * 3, (0, 0, 0)), [('p', '<i4', 3), ('more', 'V8'), ('c', '<u2', 3)], 10_000), '=' + STATION),
+    'E57': ('points.e57', e57_file, '')}
+
+
+def measured(words: Sequence[str]) -> tuple[float, int]:
+    """Runs this program with other arguments, and returns the seconds and the peak of memory in MB that it prints."""
+    done = subprocess.run([sys.executable, os.path.dirname(os.path.abspath(__file__)), 'reading', *words], stdout=subprocess.PIPE, text=True, check=True)
+    seconds, peak = done.stdout.split()[-2:]
+    return float(seconds), int(peak)
+
+
+def one(what: str, name: str) -> str:
+    """Reads or converts a file, and prints seconds and MB."""
+    start = time.process_time()
+    if what == 'read':
+        table, _ = read_table([name])
+        table.colors()
+    elif what == 'convert':
+        scan.work([name, os.path.join(os.path.dirname(name), 'converted.ply')], Options(scan.KEYS))
+    return f'{time.process_time() - start} {resource.getrusage(resource.RUSAGE_SELF).ru_maxrss // 1024}'
+
+
+def speed(rows: int, seconds: float) -> str:
+    return f'{rows / seconds / 1e6:.2f}'
+
+
+def work(names: Sequence[str], options: Any) -> str:
+    """Measures all kinds, and prints the table."""
+    if options.one:
+        return one(options.one, names[0])
+    folder, rows, runs = Path(names[0]), int(options.rows or 2_000_000), int(options.runs or 3)
+    folder.mkdir(parents=True, exist_ok=True)
+    printed_head(f'{rows:,} rows of', 'MB', 'read, million rows/s', 'peak MB', 'converted, million rows/s', 'peak MB')
+    count = 0
+    for kind, (file, make, given) in KINDS.items():
+        if options.only and options.only not in kind:
+            continue
+        path = folder / f'{rows}_{file}'
+        if not path.exists():
+            make(path, rows)
+        found = [min(measured([f'{path}{given}', f'one={what}']) for _ in range(runs)) for what in ('read', 'convert')]
+        cells = [cell for seconds, peak in found for cell in (speed(rows, seconds), f'{peak:,}')]
+        printed_row(kind, f'{path.stat().st_size / 1e6:,.0f}', *cells)
+        count += 1
+    return f'{count} kinds'

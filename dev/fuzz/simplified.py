@@ -1,0 +1,117 @@
+"""What is wrong with a simplified mesh, by fractions: an independent judge of `recon-mesh simplify`.
+
+Distances are computed with fractions of the point of a triangle that is nearest, and crossings with determinants (`crossing.py`).
+"""
+from __future__ import annotations
+
+from collections import Counter
+from fractions import Fraction
+from itertools import combinations
+from typing import Sequence
+
+from bench.crossing import cross
+
+Place = Sequence[int]
+Face = Sequence[int]
+Mesh = tuple[Sequence[Place], Sequence[Face]]
+Rational = Sequence['int | Fraction']
+
+
+def less(a: Rational, b: Rational) -> list[int | Fraction]:
+    """Returns the vector from b to a."""
+    return [x - y for x, y in zip(a, b)]
+
+
+def dot(a: Rational, b: Rational) -> int | Fraction:
+    """Returns the scalar product."""
+    return sum((x * y for x, y in zip(a, b)), 0)
+
+
+def square_to_segment(p: Rational, a: Rational, b: Rational) -> int | Fraction:
+    """Returns the square of the distance from a point to a segment."""
+    along, there = less(b, a), less(p, a)
+    length = dot(along, along)
+    part = min(Fraction(1), max(Fraction(0), Fraction(dot(there, along), length))) if length else Fraction(0)
+    gap = [x - part * y for x, y in zip(there, along)]
+    return dot(gap, gap)
+
+
+def square_to_triangle(p: Rational, a: Rational, b: Rational, c: Rational) -> int | Fraction:
+    """Returns the square of the distance from a point to a triangle, which may have no area."""
+    u, v, w = less(b, a), less(c, a), less(p, a)
+    uu, uv, vv, uw, vw = dot(u, u), dot(u, v), dot(v, v), dot(u, w), dot(v, w)
+    area = uu * vv - uv * uv
+    if area:
+        s, t = Fraction(vv * uw - uv * vw, area), Fraction(uu * vw - uv * uw, area)
+        if s >= 0 and t >= 0 and s + t <= 1:
+            gap = [z - s * x - t * y for x, y, z in zip(u, v, w)]
+            return dot(gap, gap)
+    return min(square_to_segment(p, a, b), square_to_segment(p, b, c), square_to_segment(p, c, a))
+
+
+def has_area(a: Place, b: Place, c: Place) -> bool:
+    """Returns whether a triangle has an area."""
+    u, v = less(b, a), less(c, a)
+    return dot(u, u) * dot(v, v) > dot(u, v) * dot(u, v)
+
+
+def edges_of(faces: Sequence[Face]) -> Counter[tuple[int, int]]:
+    """Returns how often each directed edge occurs."""
+    return Counter(pair for a, b, c in faces for pair in ((a, b), (b, c), (c, a)))
+
+
+def repeats(faces: Sequence[Face]) -> bool:
+    """Returns whether two faces have the same vertices."""
+    return len({frozenset(face) for face in faces}) < len(faces)
+
+
+def is_part(new: Sequence[Place], old: Sequence[Place]) -> bool:
+    """Returns whether the points of one list stand in another, in this order."""
+    rest = iter(old)
+    return all(any(tuple(p) == tuple(q) for q in rest) for p in new)
+
+
+def crossings(mesh: Mesh) -> set[frozenset[tuple[Place, ...]]]:
+    """Returns the pairs of faces that cross, by the places of their corners. Faces with the same vertices are no such pair, and faces without
+    area are left out, since the determinants say nothing of them."""
+    places, faces = mesh[0], [face for face in mesh[1] if has_area(*(mesh[0][v] for v in face))]
+    boxes = [[(min(x), max(x)) for x in zip(*(places[v] for v in face))] for face in faces]
+    found = set()
+    for (i, one), (j, other) in combinations(enumerate(faces), 2):
+        if all(low <= high_too and low_too <= high for (low, high), (low_too, high_too) in zip(boxes[i], boxes[j])):
+            if set(one) != set(other) and cross(places, one, other):
+                found.add(frozenset(tuple(sorted(tuple(places[v]) for v in face)) for face in (one, other)))
+    return found
+
+
+def far_corner(old: Mesh, new: Mesh, within: int) -> int | None:
+    """Returns the first corner of the old faces that is farther than a distance from each new face."""
+    places, faces = new
+    triangles = [tuple(places[v] for v in face) for face in faces]
+    at_corner = {tuple(places[v]) for face in faces for v in face}
+    for v in sorted({v for face in old[1] for v in face}):
+        p = old[0][v]
+        if tuple(p) not in at_corner and all(square_to_triangle(p, *t) > within * within for t in triangles):
+            return v
+    return None
+
+
+def faults(old: Mesh, new: Mesh, within: int) -> list[str]:
+    """Returns what is wrong with a simplified mesh."""
+    found = []
+    edges, old_edges = edges_of(new[1]), edges_of(old[1])
+    if any(edges[pair] != edges[pair[::-1]] for pair in list(edges)):
+        found.append('it is not closed')
+    if max(old_edges.values(), default=0) < 2 <= max(edges.values(), default=0):
+        found.append('a directed edge occurs twice')
+    if repeats(new[1]) and not repeats(old[1]):
+        found.append('two faces have the same vertices')
+    if not is_part(new[0], old[0]):
+        found.append('the vertices are not some of the old ones in their order')
+    vertex = far_corner(old, new, within)
+    if vertex is not None:
+        found.append(f'vertex {vertex} is farther than {within}')
+    more = crossings(new) - crossings(old)
+    if more:
+        found.append(f'{len(more)} pairs of faces cross that did not')
+    return found

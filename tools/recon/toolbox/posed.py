@@ -1,0 +1,100 @@
+"""Points of a text in blocks, brought to where they are by a matrix of decimals: exactly, as `exact.Pose` does it row by row.
+
+Sums are taken with 64 bits, and rounded to 53. Where the bits that are left out are so near the middle between two numbers that the error of the sum
+decides, the row is computed exactly. Names: Posed.
+"""
+from __future__ import annotations
+
+from decimal import Decimal
+from typing import Sequence
+
+import numpy as np
+
+from recon.toolbox.blocks import Column, TextColumn
+from recon.toolbox.exact import Pose
+from recon.toolbox.text_columns import IS_LONG, NotPlain, TextRows
+
+# of a sum of three products and a number, each of numbers rounded once: in parts of the sum of their sizes
+ERROR = 6 * 2.0 ** -64
+MANTISSA = (1 << 52) - 1
+
+
+class Posed:
+    """Coordinates of a block, each computed when it is asked for."""
+
+    def __init__(self, text: TextRows, pose: Pose) -> None:
+        if not IS_LONG:
+            raise NotPlain
+        self.text, self.pose = text, pose
+        self.longs: list[np.ndarray] | None = None
+        self.known: tuple[np.ndarray | None, list[list[str]]] | None = None
+
+    def columns(self) -> list[Column]:
+        return [PosedColumn(self, axis) for axis in range(3)]
+
+    def before(self) -> list[np.ndarray]:
+        """Returns the coordinates as they stand in the text, with 64 bits."""
+        if self.longs is None:
+            self.longs = [self.text.longs(column) for column in range(3)]
+        return self.longs
+
+    def floats(self, axis: int) -> np.ndarray:
+        """Returns a coordinate of all points."""
+        factors = [long_of(row[axis]) for row in self.pose.matrix]
+        parts = [column * factor for column, factor in zip(self.before(), factors)]
+        total = parts[0] + parts[1] + parts[2] + factors[3]
+        size = (np.abs(parts[0]) + np.abs(parts[1]) + np.abs(parts[2]) + abs(factors[3])).astype(float)
+        values = total.astype(float)
+        left = np.abs((total - values).astype(float))
+        half = np.spacing(np.abs(values)) / 2
+        is_power = values.view(np.int64) & MANTISSA == 0
+        near = np.flatnonzero((np.abs(left - half) <= ERROR * size) | is_power)
+        if len(near):
+            values[near] = [float(words[axis]) for words in self.rows(near)]
+        return values
+
+    def rows(self, rows: np.ndarray) -> list[list[str]]:
+        """The coordinates of some points as words, exactly."""
+        return list(map(self.pose.transform, zip(*(self.text.words(column, rows) for column in range(3)))))
+
+    def words(self, axis: int, rows: np.ndarray | None) -> list[str]:
+        """The fields of a coordinate of these rows, or of all."""
+        if self.known is None or self.known[0] is not rows:
+            wanted = np.arange(self.text.count) if rows is None else rows
+            self.known = rows, [list(column) for column in zip(*self.rows(wanted))] or [[], [], []]
+        return self.known[1][axis]
+
+
+class PosedColumn(Column):
+    """A coordinate of points that were moved."""
+
+    def __init__(self, posed: Posed, axis: int) -> None:
+        self.posed, self.axis = posed, axis
+        self.values: np.ndarray | None = None
+
+    def floats(self) -> np.ndarray:
+        if self.values is None:
+            self.values = self.posed.floats(self.axis)
+        return self.values
+
+    def words(self, rows: np.ndarray | None = None) -> list[str]:
+        return self.posed.words(self.axis, rows)
+
+
+def long_of(value: Decimal) -> np.longdouble:
+    """Returns the number of 64 bits that is nearest to a decimal."""
+    return np.longdouble(str(value))
+
+
+def point_columns(text: TextRows, pose: Pose | None) -> tuple[Sequence[Column], np.ndarray]:
+    """Returns the coordinates of a block, moved by a matrix if there is one, and which points are 0 0 0 before that."""
+    columns = [TextColumn(text, column) for column in range(3)]
+    if pose is None:
+        return columns, at_zero([column.floats() for column in columns])
+    posed = Posed(text, pose)
+    return posed.columns(), at_zero(posed.before())
+
+
+def at_zero(columns: Sequence[np.ndarray]) -> np.ndarray:
+    """Which rows of columns are 0."""
+    return np.asarray((columns[0] == 0) & (columns[1] == 0) & (columns[2] == 0))
