@@ -3,7 +3,7 @@ from __future__ import annotations
 
 from docs.sources import TOP, Report, committed
 
-MOST = 86_500
+MOST = 85_000
 
 
 def checked() -> Report:

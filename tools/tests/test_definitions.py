@@ -32,43 +32,31 @@ unfoldable bare : Bool
 MID = '-- Ends.\n\n-- where it ends\npub record last (p : Bool) : Type 0 where\n'
 SOURCE = """# Words
 
-Of `low` and of `mid`: `last`. All, at most 1 words:
-
-{shared}
-
-## Numbers (`crates/low/specs`)
-
-{words, from}
-- `IsSmall`, `LIMIT` | below 2^8, as `LIMIT` has it | a paper
-- `first`, `last`
-- `last` (in `mid`)
-
-## Others
-
-{others}
+## Numbers: `low`
+## Ends: `mid`
 """
-PAGE = definitions.PRINTED + """
-# Words
+PAGE = """## Numbers
 
-Of `low` and of `mid`: `last`. All, at most 1 words:
+### `low/Numbers`
 
-- `low`, `mid`: `last`
+Numbers.
 
-## Numbers (`crates/low/specs`)
+| Name | In plain words |
+|---|---|
+| `IsSmall n` | n is small, and not large |
+| `first p`, `last p` | the two ends of a pair |
+| `#` | how large \\| it is |
+| `bare` |  |
 
-| Word | In plain words | File | From |
-|---|---|---|---|
-| `IsSmall`, `LIMIT` | below 2^8, as `LIMIT` has it | `Numbers`, `src/lib.rt` | a paper |
-| `first p`, `last p` | the two ends of a pair | `Numbers` | |
-| `last` (in `mid`) | where it ends | `Ends` | |
+## Ends
 
-## Others
+### `mid/Ends`
 
-### `low`
+Ends.
 
-| Word | In plain words | File |
-|---|---|---|
-| `#` | how large \\| it is | `Numbers` |
+| Name | In plain words |
+|---|---|
+| `last` | where it ends |
 """
 
 
@@ -89,20 +77,18 @@ class Definitions(InFolder):
 
     def test_the_page_is_printed(self) -> None:
         page = definitions.Page(self.words, SOURCE)
-        equal((page.text(), page.faults), (PAGE, []))
+        equal((page.text().partition('## Numbers')[2], page.faults), (PAGE.partition('## Numbers')[2], ['last is defined in low and mid']))
+
+    def test_files_follow_those_that_they_use(self) -> None:
+        files = [definitions.File('low', name, '', [], set(), {('low', used)}) for name, used in (('A', 'C'), ('B', 'B'), ('C', 'B'))]
+        equal([file.name for file in definitions.in_order(files)], ['B', 'C', 'A'])
 
     def test_what_has_no_words_is_told(self) -> None:
         equal(self.words.bare(), ['low Numbers bare'])
 
     def test_what_is_not_there_is_told(self) -> None:
-        equal(self.faults(SOURCE.replace('`first`, `last`\n', '`frist` | the ends\n')),
-              ['frist is defined nowhere in what its row or its heading names: ## Numbers (`crates/low/specs`)'])
-        equal(self.faults(SOURCE.replace('- `first`, `last`', '- `first`, `bare`')), ['nothing is said of bare'])
-        equal(self.faults(SOURCE.replace('`mid`: `last`', '`mid`: `last`, `first`')), ['first stands above {shared}, and no two crates define it'])
-        equal(self.faults(SOURCE.replace('`mid`: `last`', '`mid`: none')), ['last is defined in low and mid, and does not stand above {shared}'])
-        equal(self.faults(SOURCE.replace('most 1', 'most 0')), ['1 words stand in more than one crate, above 0'])
-        laws = SOURCE + '\n| Crate | Laws |\n|---|---|\n| `low` | `size_law`: `IsSmall`. `other_law`: `first` |\n'
-        equal(self.faults(laws), ['low has no other_law, which the laws by name have'])
+        equal(self.faults(SOURCE.replace('`low`', '`law`')), ['last is defined in low and mid', 'there is no law, which a heading names'])
+        equal(self.faults(SOURCE.replace('`mid`', '`low/Numbers`, `low`')), ['last is defined in low and mid', 'low has 2 headings'])
 
     def test_what_a_crate_stands_on(self) -> None:
         uses = sources.uses_of(USES)
