@@ -18,6 +18,7 @@ Parts:
   manual        the manual pages can be printed
   links         links lead somewhere
   words         the documents are not too long
+  facts         no sentence about a crate is on two pages, and no command on many
   phrases       no phrase of a list is used
 Programs: believed, interface, manual, mutants, pages, phrases, printed.
 """
@@ -36,7 +37,7 @@ if not __package__:
 from docs.sources import Report, named  # noqa: E402
 from report import begun, reported  # noqa: E402
 
-PARTS = ('crates', 'definitions', 'believed', 'libraries', 'mutants', 'examples', 'interface', 'errors', 'manual', 'links', 'words', 'phrases')
+PARTS = ('crates', 'definitions', 'believed', 'libraries', 'mutants', 'examples', 'interface', 'errors', 'manual', 'links', 'words', 'facts', 'phrases')
 PROGRAMS = ('believed', 'interface', 'manual', 'mutants', 'pages', 'phrases', 'printed')
 
 
