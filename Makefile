@@ -82,8 +82,6 @@ bench: recon recon-mesh reference
 	$(PYTHON) dev/bench commands ./recon bench_scans
 	@echo "instructions and cache misses by phase, 100,000 points"
 	$(PYTHON) dev/bench phases ./recon bench_scans $(if $(BESIDE),beside=$(BESIDE))
-	@echo "calls of linked cells and walks along lines of sight, 100,000 points"
-	cd crates/cell_bench && rt run -- 100000
 	$(MAKE) --no-print-directory bench-others
 
 # Seconds, memory and distance to the object of other programs on the same scans: CGAL, COLMAP and Open3D, if they are installed (Debian: libcgal-dev,
