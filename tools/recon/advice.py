@@ -14,13 +14,16 @@ from recon.choices import Choices
 from recon.clouds import SAMPLE, Spacing, spacing
 from recon.inputs import Cloud
 from recon.library import Surface, build_files
-from recon.positions import LOOK, LOOK_BLOCKED, WRONG, Verdict, blocked_part, different, likeliest, shape_of, verdict_of
+from recon.positions import (LOOK, LOOK_BLOCKED, NAMED, WRONG, Verdict, blocked_part, blocked_scanners, different, likeliest, shape_of, verdict_of,
+                             words_of)
 from recon.program import Invalid, Refused
 from recon.toolbox.ply_text import Refusal
 from recon.toolbox.progress import step
 from recon.toolbox.tool import number_of
 
-MOST = 300_000
+MOST, FEW_NAMES = 300_000, 3
+
+
 def without_repeats(cloud: Cloud, choices: Choices) -> Cloud:
     """The cloud with each point once, where a part of them occur again with the same scanner."""
     if not cloud.sights.are_single() or len(cloud.points) < 2:
@@ -57,23 +60,48 @@ def quality_by(program: Optional[str], folder: Path) -> Callable[[np.ndarray, np
     return quality
 
 
+def some_of(cloud: Cloud, texture: Spacing) -> tuple[np.ndarray, np.ndarray, Spacing]:
+    """At most 300,000 points, their first scanners, and their spacing."""
+    points, first = cloud.points, cloud.first_scanners()
+    if len(points) <= MOST:
+        return points, first, texture
+    rows = np.sort(np.random.default_rng(3).permutation(len(points))[:MOST])
+    return points[rows], first[rows], Spacing(spacing(points[rows]).distance, texture.noise)
+
+
 def blocked_of(cloud: Cloud, texture: Spacing) -> float:
     """Which part of the lines of sight cross the surface of the points; 0 where positions are synthesised."""
     if cloud.is_made_up:
         return 0.0
-    points, first = cloud.points, cloud.first_scanners()
-    if len(points) > MOST:
-        rows = np.sort(np.random.default_rng(3).permutation(len(points))[:MOST])
-        points, first, texture = points[rows], first[rows], Spacing(spacing(points[rows]).distance, texture.noise)
+    points, first, texture = some_of(cloud, texture)
     return blocked_part(points, cloud.scanners, first, texture)
 
 
-def mistake(cloud: Cloud, args: Any, folder: Path) -> Optional[str]:
-    """Says which mistake explains positions or normals that do not fit; None if none does."""
+def blocked_ones(cloud: Cloud, texture: Spacing) -> np.ndarray:
+    """Which part of the lines of each scanner are blocked, of those with 5 % or more; 0 of the others, and where positions are synthesised."""
+    if cloud.is_made_up:
+        return np.zeros(len(cloud.scanners))
+    points, first, texture = some_of(cloud, texture)
+    part = blocked_scanners(points, cloud.scanners, first, texture)
+    return np.where(part >= NAMED, part, 0.0)
+
+
+def named(parts: np.ndarray, scanners: np.ndarray) -> str:
+    """Names the positions with blocked lines, those with most of them first, unless there is one alone or all have some; else an empty text."""
+    rows = np.flatnonzero(parts)[np.argsort(-parts[parts > 0], kind='stable')]
+    if not 0 < len(rows) < len(scanners):
+        return ''
+    said = [f'{words_of(scanners[row])} ({parts[row]:.0%} of its lines)' for row in rows[:FEW_NAMES].tolist()]
+    return ', '.join(said) + (f' and {len(rows) - FEW_NAMES} more' if len(rows) > FEW_NAMES else '')
+
+
+def mistake(cloud: Cloud, parts: np.ndarray, args: Any, folder: Path) -> Optional[str]:
+    """Says which mistake explains positions or normals that do not fit; None if none does. `parts` are those of the lines of each scanner that are
+    blocked; the positions of scanners without any are taken for right, if there are others."""
     quality, first = quality_by(args.program, folder), cloud.first_scanners()
     if not cloud.is_made_up:
         with step('looking for the mistake of the positions', seconds=10):
-            return likeliest(cloud.points, cloud.scanners, first, quality)
+            return likeliest(cloud.points, cloud.scanners, first, parts > 0 if parts.any() else np.ones(len(parts), bool), quality)
     rows = np.flatnonzero(first >= 0)[:: max(1, len(first) // SAMPLE)]
     points, own = cloud.points[rows], np.arange(len(rows))
     now, other = (quality(points, places, own) for places in (cloud.scanners[first[rows]], 2 * points - cloud.scanners[first[rows]]))
@@ -87,35 +115,43 @@ def because(why: Optional[str], cloud: Cloud) -> str:
     return '' if why is None else ': ' + why
 
 
-def looked_at(surface: Surface, cloud: Cloud, blocked: float, args: Any, folder: Path, choices: Choices) -> Verdict:
-    """Says how far lines of sight fit the surface, and which mistake explains it if they do not."""
-    against = surface.votes_against_per_sight
+def looked_at(surface: Surface, cloud: Cloud, texture: Spacing, args: Any, folder: Path, choices: Choices) -> Verdict:
+    """Says how far lines of sight fit the surface, and which positions or which mistake explain it if they do not."""
+    against, blocked = surface.votes_against_per_sight, blocked_of(cloud, texture)
     choices.tell(f'{against:.3f} contradictions for each line of sight' + ('' if cloud.is_made_up else
                  f', {blocked:.1%} of the lines are blocked'))
     if cloud.is_made_up:
         if against > LOOK:
             choices.warn(f'{against:.2f} contradictions for each line of sight, more than {LOOK}: check the normals'
-                         + because(mistake(cloud, args, folder), cloud))
+                         + because(mistake(cloud, blocked_ones(cloud, texture), args, folder), cloud))
         return Verdict(0.0, against > LOOK, against > WRONG)
     if not (blocked > LOOK_BLOCKED or against > WRONG):
         return verdict_of(against, blocked, False)
-    why = mistake(cloud, args, folder)
+    parts = blocked_ones(cloud, texture)
+    why = mistake(cloud, parts, args, folder)
     verdict = verdict_of(against, blocked, why is not None)
     found = [f'{blocked:.0%} of the lines of sight cross the surface well before their points'] if blocked > LOOK_BLOCKED else []
     found += [f'there are {against:.2f} contradictions for each line of sight'] if against > LOOK else []
-    choices.warn(' and '.join(found) + (f': check the scanner positions{because(why, cloud)}' if verdict.is_suspect else
+    choices.warn(' and '.join(found) + (f': {to_check(parts, cloud)}{because(why, cloud)}' if verdict.is_suspect else
                  '; no mistake of the positions was found that explains them, so noise or outliers may'))
     return verdict
 
 
-def why_empty(cloud: Cloud, args: Any, folder: Path) -> str:
+def to_check(parts: np.ndarray, cloud: Cloud) -> str:
+    """Says which positions to check."""
+    ones = named(parts, cloud.scanners)
+    return f'check the scanner position{"s" if ", " in ones or not ones else ""}' + (f' {ones}' if ones else '')
+
+
+def why_empty(cloud: Cloud, texture: Spacing, args: Any, folder: Path) -> str:
     """Says why there is no surface."""
     shape = shape_of(cloud.points)
     if shape:
         return f'{shape}, so there is no surface'
-    why = because(mistake(cloud, args, folder), cloud)
+    parts = blocked_ones(cloud, texture)
+    why = because(mistake(cloud, parts, args, folder), cloud)
     if why:
-        return f'there is no surface: check the {"normals" if cloud.is_made_up else "scanner positions"}{why}'
+        return f'there is no surface: {"check the normals" if cloud.is_made_up else to_check(parts, cloud)}{why}'
     if args.smooth is not None and args.smooth > 3:
         return f'there is no surface at --smooth {args.smooth}: pass a smaller one'
     if cloud.is_made_up:

@@ -3,8 +3,9 @@
 With right positions nearly no line of sight crosses the surface on which the points lie, well before its own point. Noise, outliers and stereo raise the
 contradictions of a mesh, and leave this number small; a wrong position raises both.
 
-Names: blocked_part (which part of the lines of sight cross the points' surface) · Verdict, verdict_of (whether positions are wrong) ·
-far_positions (other units or another coordinate frame) · likeliest (the mistake that explains the rest best) · shape_of (points at one place, in a line or in a plane).
+Names: blocked_part (which part of the lines of sight cross the points' surface) · blocked_scanners (the same for each scanner) · Verdict, verdict_of
+(whether positions are wrong) · far_positions (other units or another coordinate frame) · likeliest (the mistake that explains the rest best) · shape_of (points
+at one place, in a line or in a plane).
 """
 from __future__ import annotations
 
@@ -19,6 +20,8 @@ from recon.clouds import Spacing, box_of, spacing, tree_of
 # contradictions for each line of sight, and parts of them that are blocked
 LOOK, WRONG, LOOK_BLOCKED, WRONG_BLOCKED = 0.1, 0.25, 0.025, 0.2
 SIGHTS, STEPS, NEAR = 800, 300, 12
+# the part of the lines of one scanner from which on it is named, how many are followed, of one and of all, and the fewest that say something
+NAMED, OF_ONE, OF_ALL, FEWEST = 0.05, 200, 8000, 20
 # a line of sight that meets the surface at a smaller angle may only graze it; the cosine is that to the normal
 GRAZING = 0.35
 FAR, MUCH = 200.0, 100.0
@@ -33,9 +36,8 @@ class Tube(NamedTuple):
     ends: np.ndarray
 
 
-def lines_of_sight(points: np.ndarray, scanners: np.ndarray, first: np.ndarray, margin: float, count: int) -> Tuple[Tube, np.ndarray]:
-    """Returns some lines of sight, which end `margin` before their points, and how far along each the box of the points begins."""
-    rows = np.sort(np.random.default_rng(1).permutation(np.flatnonzero(first >= 0))[:count])
+def lines_of_sight(points: np.ndarray, scanners: np.ndarray, first: np.ndarray, margin: float, rows: np.ndarray) -> Tuple[Tube, np.ndarray]:
+    """Returns the lines of sight to these points, which end `margin` before them, and how far along each the box of the points begins."""
     starts = scanners[first[rows]]
     ways = points[rows] - starts
     long = np.linalg.norm(ways, axis=1)
@@ -63,14 +65,14 @@ def crosses(tree: cKDTree, tube: Tube, at: np.ndarray, near: np.ndarray, rows: n
     return is_met & (tree.query(spots, min(3, len(points)), workers=-1)[0][:, -1] < 1.5 * apart)
 
 
-def blocked_part(points: np.ndarray, scanners: np.ndarray, first: np.ndarray, texture: Spacing, tree: Optional[cKDTree] = None, count: int = SIGHTS) -> float:
-    """Returns which part of the lines of sight cross the surface of the points, six spacings and six times the noise before their own points. `first` is
-    the first scanner of each point. 0.02 at most with right positions."""
+def are_blocked(points: np.ndarray, scanners: np.ndarray, first: np.ndarray, texture: Spacing, tree: Optional[cKDTree], rows: np.ndarray) -> np.ndarray:
+    """Returns which of the lines of sight to these points cross the surface of all points, six spacings and six times the noise before their own points.
+    `first` is the first scanner of each point."""
     apart = texture.distance
-    if not apart or len(points) < NEAR or not (first >= 0).any():
-        return 0.0
+    if not apart or len(points) < NEAR or not len(rows):
+        return np.zeros(len(rows), bool)
     tree = tree_of(points) if tree is None else tree
-    tube, at = lines_of_sight(points, scanners, first, 6 * max(apart, texture.noise), count)
+    tube, at = lines_of_sight(points, scanners, first, 6 * max(apart, texture.noise), rows)
     is_blocked, live = np.zeros(len(at), bool), np.flatnonzero(at < tube.ends)
     for _ in range(STEPS):
         if not len(live):
@@ -82,7 +84,28 @@ def blocked_part(points: np.ndarray, scanners: np.ndarray, first: np.ndarray, te
         # no point is nearer than `far`
         at[live] += np.maximum(0.9 * far, apart / 2)
         live = live[(at[live] < tube.ends[live]) & ~is_blocked[live]]
-    return float(is_blocked.mean())
+    return is_blocked
+
+
+def blocked_part(points: np.ndarray, scanners: np.ndarray, first: np.ndarray, texture: Spacing, tree: Optional[cKDTree] = None, count: int = SIGHTS) -> float:
+    """Returns which part of some lines of sight are blocked: 0.02 at most with right positions."""
+    rows = np.sort(np.random.default_rng(1).permutation(np.flatnonzero(first >= 0))[:count])
+    return float(are_blocked(points, scanners, first, texture, tree, rows).mean()) if len(rows) else 0.0
+
+
+def blocked_scanners(points: np.ndarray, scanners: np.ndarray, first: np.ndarray, texture: Spacing, tree: Optional[cKDTree] = None) -> np.ndarray:
+    """Returns which part of the lines of each scanner (k,) are blocked; 0 of one with under 20 lines, and if there are very many scanners."""
+    part, most = np.zeros(len(scanners)), min(OF_ONE, OF_ALL // max(len(scanners), 1))
+    rows = np.random.default_rng(4).permutation(np.flatnonzero(first >= 0))
+    rows = rows[np.argsort(first[rows], kind='stable')]
+    rank = np.arange(len(rows)) - np.searchsorted(first[rows], first[rows])
+    rows = rows[rank < most]
+    count = np.bincount(first[rows], minlength=len(scanners))
+    is_known = count >= FEWEST
+    rows = rows[is_known[first[rows]]]
+    found = np.bincount(first[rows], are_blocked(points, scanners, first, texture, tree, rows), len(scanners))
+    part[is_known] = found[is_known] / count[is_known]
+    return part
 
 
 class Verdict(NamedTuple):
@@ -152,9 +175,10 @@ def changes() -> Iterator[Change]:
                 yield Change(f'their axes are in another order: their {with_signs} are x, y, z of the points', turned(order, signs))
 
 
-def likeliest(points: np.ndarray, scanners: np.ndarray, first: np.ndarray, quality: Callable[[np.ndarray, np.ndarray, np.ndarray], float]) -> Optional[str]:
-    """Says which mistake explains wrong positions: the simplest with which the lines of sight of a sample fit. `quality` returns the contradictions for
-    each line of sight of a mesh of some points, scanners and first scanners, or 1 if there is none. None if nothing fits."""
+def likeliest(points: np.ndarray, scanners: np.ndarray, first: np.ndarray, is_wrong: np.ndarray,
+              quality: Callable[[np.ndarray, np.ndarray, np.ndarray], float]) -> Optional[str]:
+    """Says which mistake explains the positions `is_wrong` (k,): the simplest with which the lines of sight of a sample fit. `quality` returns the
+    contradictions for each line of sight of a mesh of some points, scanners and first scanners, or 1 if there is none. None if nothing fits."""
     rows = np.sort(np.random.default_rng(2).permutation(np.flatnonzero(first >= 0))[:FEW])
     if len(rows) < NEAR:
         return None
@@ -162,16 +186,22 @@ def likeliest(points: np.ndarray, scanners: np.ndarray, first: np.ndarray, quali
     texture, tree = spacing(some), tree_of(some)
     open_ones: List[Tuple[float, int, Change]] = []
     for number, change in enumerate(changes()):
-        blocked = blocked_part(some, change.mended(scanners), seen, texture, tree, SIGHTS // 8)
+        blocked = blocked_part(some, without(change, scanners, is_wrong), seen, texture, tree, SIGHTS // 8)
         if blocked <= LOOK_BLOCKED:
             open_ones.append((round(blocked, 2), number, change))
     now = quality(some, scanners, seen)
     for _, _, change in sorted(open_ones, key=lambda it: it[:2])[:TRIED]:
-        against = quality(some, change.mended(scanners), seen)
+        right = without(change, scanners, is_wrong)
+        against = quality(some, right, seen)
         if against < LOOK and against < now / 3:
-            example = words_of(change.mended(scanners)[0])
-            return f'the lines of sight fit if {change.what} (for example {example} instead of {words_of(scanners[0])})'
+            row = int(np.argmax(is_wrong))
+            return f'the lines of sight fit if {change.what} (for example {words_of(right[row])} instead of {words_of(scanners[row])})'
     return None
+
+
+def without(change: Change, scanners: np.ndarray, is_wrong: np.ndarray) -> np.ndarray:
+    """The positions without a mistake of these."""
+    return np.where(is_wrong[:, None], change.mended(scanners), scanners)
 
 
 def shape_of(points: np.ndarray) -> str:
@@ -189,4 +219,4 @@ def different(points: np.ndarray) -> np.ndarray:
     return np.asarray(np.sort(np.unique(points, axis=0, return_index=True)[1]))
 
 
-__all__ = ['Verdict', 'blocked_part', 'different', 'far_positions', 'likeliest', 'shape_of', 'verdict_of']
+__all__ = ['NAMED', 'Verdict', 'blocked_part', 'blocked_scanners', 'different', 'far_positions', 'likeliest', 'shape_of', 'verdict_of', 'words_of']

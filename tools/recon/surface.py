@@ -30,7 +30,7 @@ from typing import Any, Sequence
 import numpy as np
 from scipy.spatial import cKDTree
 
-from recon.advice import blocked_of, looked_at, too_few, why_empty, without_repeats
+from recon.advice import looked_at, too_few, why_empty, without_repeats
 from recon.beside import Beside
 from recon.choices import Choices
 from recon.clouds import SAMPLE, Spacing, box_of, curve_of, frame, lone_points, spacing, surrounding, thinned, thinning_side, tree_of
@@ -224,8 +224,8 @@ def built(scan: Scan, args: Any, folder: Path, choices: Choices) -> Surface:
     choices.choose('smooth', surface.smooth, why)
     choices.timed('build')
     if not surface.counts['faces']:
-        raise NoSurface(why_empty(cloud, args, folder))
-    choices.verdict = looked_at(surface, cloud, blocked_of(cloud, scan.texture), args, folder, choices)
+        raise NoSurface(why_empty(cloud, scan.texture, args, folder))
+    choices.verdict = looked_at(surface, cloud, scan.texture, args, folder, choices)
     return surface
 
 

@@ -7,7 +7,7 @@ import numpy as np
 
 from helpers import RECON, InFolder, call, equal
 from recon.clouds import spacing
-from recon.positions import LOOK_BLOCKED, blocked_part, far_positions, shape_of, verdict_of
+from recon.positions import LOOK_BLOCKED, NAMED, blocked_part, blocked_scanners, far_positions, shape_of, verdict_of
 from test_surface import listed
 
 PLACE = np.array([0.0, -3.0, 1.0])
@@ -46,6 +46,17 @@ class Positions(unittest.TestCase):
                                      (scanners[[1, 1, 2, 3, 4, 5, 6, 7]], False), (scanners[:, [0, 2, 1]], False)):
                 part = blocked_part(points, places, seen_by, texture)
                 equal((noise, part > LOOK_BLOCKED), (noise, not is_right))
+
+    def test_the_scanners_with_blocked_lines(self) -> None:
+        points, scanners, seen_by = ring()
+        texture, wrong = spacing(points), scanners.copy()
+        equal((blocked_scanners(points, scanners, seen_by, texture) < NAMED).all(), True)
+        wrong[[3, 6]] *= [1, 1, -1]
+        equal(np.flatnonzero(blocked_scanners(points, wrong, seen_by, texture) >= NAMED).tolist(), [3, 6])
+        # nothing is known of those with few lines
+        few = np.flatnonzero((seen_by != 3) | (np.cumsum(seen_by == 3) < 20))
+        equal(np.flatnonzero(blocked_scanners(points[few], wrong, seen_by[few], texture) >= NAMED).tolist(), [6])
+        equal(blocked_scanners(points, wrong, np.full(len(points), -1), texture).tolist(), [0.0] * 8)
 
     def test_verdicts(self) -> None:
         # contradictions, blocked lines, whether a mistake explains them: right positions with noise, outliers, stereo and exact planes, then wrong ones
@@ -96,6 +107,18 @@ class Messages(InFolder):
         self.says(1, 'as in national coordinates, and the scanner position 0,-3,1 is not', points + [432100, 5412000, 300], *place)
         self.says(4, 'fit if the normals point the other way', np.c_[points, -normals])
         self.says(0, '', np.c_[points, normals])
+
+    def test_the_position_with_blocked_lines_is_named(self) -> None:
+        points, scanners, seen_by = ring(noise=0.005)
+        words = []
+        for number, place in enumerate(scanners.tolist()):
+            listed(f'{number}.xyz', points[seen_by == number])
+            words.append(f'{number}.xyz={place[0]:.3f},{place[1]:.3f},{-0.8 if number in (1, 2) else place[2]:.1f}')
+        # of eight positions the third one is on the wrong side
+        got, _, error = call('surface', *words, '-o', 'out.ply', '--no-check', '--program', RECON)
+        said = next(line for line in error.splitlines() if 'check the' in line)
+        equal((got, ': check the scanner position -0.739,2.388,-0.8 (' in said, '(for example -0.739,2.388,0.8 instead of -0.739,2.388,-0.8)' in said),
+              (4, True, True))
 
     def test_points_that_make_no_surface(self) -> None:
         points = half()[0]
