@@ -4,7 +4,10 @@
 usage: dev/attack.py [CRATE ..]               (at the top of the repository; default: the mutants of all crates)
        dev/attack.py changed [COMMIT]         (those of crates whose clauses or definitions differ from a commit, as the gate does)
 
-The commit is by default the last tag, or the one that the file .ci/base names. If there is none, or no history, nothing is tried.
+The commit is by default the first of these that is in the history: the one that the file .ci/base names; the last tag; the last common one with
+origin/main, if commits came after it; the one before the last. Of changed crates at most MOST mutants are tried, of each crate about as many:
+so the gate ends in time. Which ones depends on their names and on the commit. A run of all mutants that were all refused writes the commit of
+a clean clone into .ci/base.
 
 Copies the repository to a temporary folder, puts the edits of attack/NAME/ in place of crates/NAME/must-fail/, and runs `rt ci` there, for
 the named crates or for all. So what the gate has proved on this machine is not proved again, edits are tried in parallel, and an edit that was
@@ -18,6 +21,7 @@ from __future__ import annotations
 
 import collections
 import concurrent.futures
+import hashlib
 import os
 import pathlib
 import re
@@ -35,6 +39,8 @@ LOG = TOP / 'attack.log'
 # A line of `rt help` that says that `rt ci` takes names of crates.
 TAKES_NAMES = re.compile(r'(?m)^ *rt ci +(\[|NAME)')
 SIDE_BY_SIDE = 4
+# Half an hour on two processors.
+MOST = 100
 # A changed line of a clause in src/, and one of a definition in specs/ (no comment and no import).
 CLAUSE, DEFINITION = re.compile(r'[+-]\s*(requires|ensures|(pub )?ghost (?!use))'), re.compile(r'[+-](?!\s*(--|use |pub mod |$))')
 RESULT = re.compile(r'(?:rt: )?must-fail (\w+/\S+)\.edit: (.*)')
@@ -60,12 +66,30 @@ def changed_in(diff: str) -> set[str]:
     return found
 
 
-def changed_since(commit: str) -> list[str]:
-    """Returns the crates with mutants in attack/ whose clauses or definitions differ from a commit, the last tag, or that of .ci/base."""
+def base_of(commit: str) -> str:
+    """Returns the commit to compare with, or nothing if there is no history."""
     given = TOP / '.ci/base'
-    base = commit or git('describe', '--tags', '--abbrev=0').strip() or (given.read_text().strip() if given.is_file() else '')
-    changed = changed_in(git('diff', '--unified=0', base, '--', 'crates')) if base else set()
-    return [name for name in crates_of([])[0] if name in changed]
+    head = git('rev-parse', 'HEAD').strip()
+    common = git('merge-base', 'HEAD', 'origin/main').strip()
+    names = [commit] if commit else [given.read_text().strip() if given.is_file() else '', git('describe', '--tags', '--abbrev=0').strip(),
+                                     common if common != head else '', 'HEAD^']
+    found = (git('rev-parse', '--verify', '--quiet', name + '^{commit}').strip() for name in names if name)
+    return next((it for it in found if it), '')
+
+
+def edits_of(crate: str) -> list[str]:
+    """Returns the names of a crate's edits in attack/."""
+    return sorted(it.stem for it in (TOP / 'attack' / crate).glob('*.edit'))
+
+
+def chosen(edits: dict[str, list[str]], most: int, salt: str) -> dict[str, list[str]]:
+    """Returns at most so many edits: of each crate the first, then of each the second, and so on, in an order that depends on the salt."""
+    def key(pair: tuple[int, str, str]) -> tuple[int, str]:
+        return pair[0], hashlib.sha256(f'{salt} {pair[1]}/{pair[2]}'.encode()).hexdigest()
+
+    ranked = {crate: sorted(names, key=lambda name: key((0, crate, name))) for crate, names in edits.items()}
+    first = sorted(((rank, crate, name) for crate, names in ranked.items() for rank, name in enumerate(names)), key=key)[:most]
+    return {crate: sorted(name for _, of, name in first if of == crate) for crate in edits if any(of == crate for _, of, _ in first)}
 
 
 def kind_of(said: str) -> str:
@@ -80,12 +104,14 @@ def results_of(text: str) -> dict[str, str]:
     return {found[1]: found[2] for found in map(RESULT.match, text.splitlines()) if found}
 
 
-def copied(to: pathlib.Path, crates: list[str]) -> None:
-    """Copies the repository without what proofs left, with the edits of attack/ of these crates in the place of those of the gate."""
+def copied(to: pathlib.Path, edits: dict[str, list[str]]) -> None:
+    """Copies the repository without what proofs left, with these edits of attack/ in the place of those of the gate."""
     leave = shutil.ignore_patterns('out', '.git', 'must-fail', 'bench_scans', 'target', 'fuzz_failures', '__pycache__', '*.log')
     shutil.copytree(TOP, to, ignore=leave, symlinks=True)
-    for crate in crates:
-        shutil.copytree(TOP / 'attack' / crate, to / 'crates' / crate / 'must-fail')
+    for crate, names in edits.items():
+        (to / 'crates' / crate / 'must-fail').mkdir()
+        for name in names:
+            shutil.copy(TOP / 'attack' / crate / f'{name}.edit', to / 'crates' / crate / 'must-fail')
 
 
 def takes_names(help_text: str) -> bool:
@@ -133,20 +159,33 @@ def line_of(crate: str, said: dict[str, str]) -> str:
             f"{count['bad']} bad")
 
 
-def crates_of(names: list[str]) -> tuple[list[str], list[str]]:
-    """Returns the crates with edits, lowest first, or those that are named; and the names without edits."""
-    with_edits = [it for it in uses_of((TOP / 'crates.txt').read_text()) if any((TOP / 'attack' / it).glob('*.edit'))]
-    return [it for it in with_edits if not names or it in names], [it for it in names if it not in with_edits]
+def edits_with(names: list[str]) -> tuple[dict[str, list[str]], list[str]]:
+    """Returns the edits of all crates that have some, lowest first, or of those that are named; and the names without edits."""
+    edits = {it: edits_of(it) for it in uses_of((TOP / 'crates.txt').read_text()) if edits_of(it)}
+    return {it: of for it, of in edits.items() if not names or it in names}, [it for it in names if it not in edits]
+
+
+def changed_since(base: str) -> dict[str, list[str]]:
+    """Returns the edits that are tried of crates whose clauses or definitions differ from a commit, and says how many there are."""
+    if not base:
+        print('attack: no history is here, so nothing tells which contracts have changed: no more mutants are tried')
+        return {}
+    changed = changed_in(git('diff', '--unified=0', base, '--', 'crates'))
+    edits = {crate: names for crate, names in edits_with([])[0].items() if crate in changed}
+    some = chosen(edits, MOST, base)
+    left, tries = (sum(map(len, it.values())) for it in (edits, some))
+    print(f'attack: contracts of {len(changed)} crates differ from {base[:8]}, which have {left} more mutants; {tries} of these are tried', flush=True)
+    return some
 
 
 def main() -> int:
     names = sys.argv[1:]
     if names[:1] == ['changed']:
-        names = changed_since(''.join(names[1:2]))
-        if not names:
-            print('attack: no contract of a crate with more mutants has changed')
+        edits, unknown = changed_since(base_of(''.join(names[1:2]))), []
+        if not edits:
             return 0
-    crates, unknown = crates_of(names)
+    else:
+        edits, unknown = edits_with(names)
     if unknown:
         print(f"attack: no edits of {' '.join(unknown)} stand in attack/", file=sys.stderr)
         return 2
@@ -154,11 +193,10 @@ def main() -> int:
     counts: collections.Counter[str] = collections.Counter()
     with tempfile.TemporaryDirectory(prefix='attack-') as place:
         room = pathlib.Path(place) / 'copy'
-        copied(room, crates)
-        found = tried(room, names) if takes_names(rt_help()) else tried_side_by_side(room, crates)
-    for crate in crates:
-        edits = sorted(it.stem for it in (TOP / 'attack' / crate).glob('*.edit'))
-        said = {name: found.get(f'{crate}/{name}', f'NOT TRIED: {LOG.name} says why') for name in edits}
+        copied(room, edits)
+        found = tried(room, names and list(edits)) if takes_names(rt_help()) else tried_side_by_side(room, list(edits))
+    for crate, of in edits.items():
+        said = {name: found.get(f'{crate}/{name}', f'NOT TRIED: {LOG.name} says why') for name in of}
         counts.update(kind_of(it) for it in said.values())
         for name, text in said.items():
             if kind_of(text) in ('missed', 'bad'):
@@ -166,6 +204,8 @@ def main() -> int:
         print(line_of(crate, said))
     refused, tries = counts['refused'] + counts['less'], sum(counts.values())
     print(f'attack: {refused} of {tries} refused, {int((time.monotonic() - began) / 60)} min; the full text is in {LOG.name}')
+    if refused == tries and not names and not git('status', '--porcelain'):
+        (TOP / '.ci/base').write_text(git('rev-parse', 'HEAD'))
     return 0 if refused == tries else 1
 
 

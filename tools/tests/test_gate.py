@@ -108,6 +108,35 @@ class Gate(InFolder):
         equal(attack.changed_in(body + clause + comment + other), {'low', 'mid'})
         equal(attack.changed_in('+++ b/dev/a.py\n+    ensures { a }\n'), set())
 
+    def test_of_many_mutants_each_crate_has_some_tried(self) -> None:
+        edits = {'low': ['a', 'b', 'c', 'd'], 'high': ['a']}
+        some = attack.chosen(edits, 3, 'commit')
+        equal((len(some['low']), some['high'], attack.chosen(edits, 9, 'commit')), (2, ['a'], edits))
+
+    def test_what_a_fresh_clone_is_compared_with(self) -> None:
+        def git(folder: str, *words: str) -> str:
+            who = ['-c', 'user.name=a', '-c', 'user.email=a@b', '-c', 'init.defaultBranch=main']
+            return subprocess.run(['git', '-C', folder, *who, *words], capture_output=True, text=True, check=True).stdout.strip()
+
+        os.mkdir('first')
+        git('first', 'init', '-q')
+        commits = [git('first', 'commit', '-q', '--allow-empty', '-m', str(at)) or git('first', 'rev-parse', 'HEAD') for at in range(3)]
+        git('.', 'clone', '-q', 'first', 'fresh')
+        top, attack.TOP = attack.TOP, pathlib.Path('fresh').resolve()
+        try:
+            equal((attack.base_of(''), attack.base_of(commits[0]), attack.base_of('nothing')), (commits[1], commits[0], ''))
+            os.mkdir('fresh/.ci')
+            write('fresh/.ci/base', commits[0].encode())
+            equal(attack.base_of(''), commits[0])
+            git('fresh', 'commit', '-q', '--allow-empty', '-m', 'more')
+            git('fresh', 'commit', '-q', '--allow-empty', '-m', 'still more')
+            write('fresh/.ci/base', b'nothing')
+            equal(attack.base_of(''), commits[2])
+            attack.TOP = pathlib.Path.cwd()
+            equal(attack.base_of(''), '')
+        finally:
+            attack.TOP = top
+
     def test_programs_are_built_of_copies(self) -> None:
         for crate in ('low', 'recon_main', 'other'):
             write_in(f'crates/{crate}/src/lib.rt', crate)
@@ -163,7 +192,7 @@ class Gate(InFolder):
         equal([attack.kind_of(it) for it in results.values()], ['refused', 'less', 'missed', 'bad'])
         equal(list(results)[0], 'low/one')
         equal(attack.line_of('low', results), 'low: 4 tried, 2 refused (1 by a name or a limit alone), 1 not refused, 1 bad')
-        equal(attack.crates_of(['no_crate'])[1], ['no_crate'])
+        equal(attack.edits_with(['no_crate'])[1], ['no_crate'])
         equal(os.path.isdir(os.path.join(ROOT, 'attack')), True)
         equal(attack.takes_names('usage\n  rt ci [NAME..]          the gate\n'), True)
         equal(attack.takes_names('usage\n  rt ci          the gate\n  rt ci NAME..   the same for these crates\n'), True)
