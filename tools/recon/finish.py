@@ -246,11 +246,15 @@ def with_used(faces: np.ndarray, count: int) -> tuple[np.ndarray, np.ndarray]:
     return np.flatnonzero(is_used), (np.cumsum(is_used) - 1)[faces]
 
 
+def is_in_open(mesh: Finished, fill: float = 0.0) -> np.ndarray:
+    """Which faces (m,) the open mesh has: not those that span unseen space, but for those of holes up to `fill` wide."""
+    known = [np.asarray(values, bool) for name, _, values in mesh.face_columns if name == 'unseen']
+    return Mesh(mesh.places, mesh.faces).is_seen(known[0] if known else None, fill)
+
+
 def seen_part(mesh: Finished, fill: float = 0.0) -> Finished:
     """The open mesh without the faces that span unseen space, but with those of holes up to `fill` wide, with the vertices that are left."""
-    known = [np.asarray(values, bool) for name, _, values in mesh.face_columns if name == 'unseen']
-    seen = Mesh(mesh.places, mesh.faces).seen(known[0] if known else None, fill).faces
-    used, faces = with_used(seen, len(mesh.places))
+    used, faces = with_used(mesh.faces[is_in_open(mesh, fill)], len(mesh.places))
     return Finished(mesh.places[used], faces, [(name, kind, values[used]) for name, kind, values in mesh.columns],
                     vertex_of=mesh.vertex_of[used])
 

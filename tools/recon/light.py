@@ -1,7 +1,7 @@
-"""A mesh with fewer faces beside a finished one: `recon-mesh simplify` on its whole coordinates, with its colors, and with the faces that no
-scanner saw.
+"""A mesh with fewer faces beside a finished one: `recon-mesh simplify` on its whole coordinates, with its colors, and without the faces that the open
+mesh of it lacks.
 
-Names: light_path · light_mesh.
+Names: light_path · light_mesh · open_light (without the faces that no scanner saw).
 """
 from __future__ import annotations
 
@@ -12,16 +12,21 @@ from typing import Optional, Sequence
 import numpy as np
 from scipy.spatial import cKDTree
 
+from recon.finish import is_in_open, with_used
 from recon.library import rows_at
 from recon.mesh_program import FINEST, simplify_mesh
+from recon.meshes import longest_edges
 from recon.toolbox.mesh_files import Finished
 from recon.toolbox.output_files import passing_folder
 from recon.toolbox.ply_text import Refusal
 
 # the greatest factor of the grid of a smoothed mesh, and how far its coordinates reach
 MOST_FINE, REACH = 1024, 1 << 22
-# an edge of a face that no scanner saw is over this many times the spacing (as in meshes.py)
-FACTOR, SAMPLE = 8.0, 4000
+# where on a light face it is looked up what the full mesh has there
+SPOTS = np.array([(1, 1, 1), (4, 1, 1), (1, 4, 1), (1, 1, 4), (5, 5, 1), (1, 5, 5), (5, 1, 5)], float)
+SPOTS /= SPOTS.sum(axis=1, keepdims=True)
+# how many places of the full mesh are looked at around a spot, and into how many parts a side of a large face of it is divided at most
+NEAR, PARTS, CHUNK = 8, 8, 1 << 16
 
 
 def light_path(path: str) -> str:
@@ -50,27 +55,62 @@ def mesh_lines(places: np.ndarray, faces: np.ndarray) -> str:
             f'element face {len(faces)}\nproperty list uchar int vertex_indices\nend_header\n' + ''.join(rows))
 
 
-def spans_unseen(full: np.ndarray, places: np.ndarray, faces: np.ndarray) -> np.ndarray:
-    """Returns which faces of a light mesh span space that no scanner saw: the middle of the face or of a side is farther from each vertex of the
-    full mesh than half of `FACTOR` times the spacing there, the mean distance of a vertex to its six nearest, at least half the median."""
-    if not len(faces) or len(full) < 8:
-        return np.zeros(len(faces), bool)
-    tree = cKDTree(full)
-    sample = full[::max(1, len(full) // SAMPLE)]
-    usual = float(np.median(tree.query(sample, 7)[0][:, 1:].mean(axis=1)))
+def normals_of(places: np.ndarray, faces: np.ndarray) -> np.ndarray:
     corners = places[faces]
+    return np.cross(corners[:, 1] - corners[:, 0], corners[:, 2] - corners[:, 0])
+
+
+def spots_of(count: int) -> np.ndarray:
+    """The middles of the `count` * `count` equal parts of a triangle, as shares of its corners (n, 3)."""
+    i, j = np.mgrid[:count, :count]
+    rows = [((i + third) / count, (j + third) / count, i + j < count - k) for k, third in ((0, 1 / 3), (1, 2 / 3))]
+    one, other = (np.concatenate([row[k][row[2]] for row in rows]) for k in (0, 1))
+    return np.stack([1 - one - other, one, other], axis=1)
+
+
+class Covered:
+    """Places on the faces of a full mesh: the middle of each, and more on large ones."""
+
+    def __init__(self, places: np.ndarray, faces: np.ndarray, is_left: np.ndarray) -> None:
+        self.is_left, self.normals = is_left, normals_of(places, faces)
+        longest = longest_edges(places, faces)
+        ratio = longest / max(2 * float(np.median(longest)), 1e-300)
+        parts = np.minimum(2 ** np.ceil(np.log2(np.maximum(ratio, 1))).astype(int), PARTS)
+        spots, owners = [], []
+        for count in np.unique(parts).tolist():
+            rows, shares = np.flatnonzero(parts == count), spots_of(count)
+            spots.append(np.einsum('sk,nkj->nsj', shares, places[faces[rows]]).reshape(-1, 3))
+            owners.append(np.repeat(rows, len(shares)))
+        self.tree, self.owner = cKDTree(np.concatenate(spots)), np.concatenate(owners)
+
+    def lacks(self, spots: np.ndarray, normals: np.ndarray) -> np.ndarray:
+        """Returns at which places the open mesh has no face: by the nearest face that faces the same side."""
+        count = min(NEAR, len(self.owner))
+        near = self.owner[self.tree.query(spots, count, workers=-1)[1].reshape(len(spots), count)]
+        is_alike = np.einsum('nkj,nj->nk', self.normals[near], normals) > 0
+        first = near[np.arange(len(near)), is_alike.argmax(axis=1)]
+        return np.asarray(~self.is_left[first] | ~is_alike.any(axis=1))
+
+
+def spans_unseen(mesh: Finished, fill: float, places: np.ndarray, faces: np.ndarray) -> np.ndarray:
+    """Returns which faces of a light mesh lie for the most part where the open mesh of the full one has none."""
     unseen = np.zeros(len(faces), bool)
-    for middle in (corners.mean(axis=1), *((corners[:, k] + corners[:, (k + 1) % 3]) / 2 for k in range(3))):
-        away, near = tree.query(middle)
-        far = np.flatnonzero(away > FACTOR / 2 * usual / 2)
-        apart = tree.query(full[near[far]], 7)[0][:, 1:].mean(axis=1)
-        unseen[far] |= away[far] > FACTOR / 2 * np.maximum(apart, usual / 2)
+    if not len(faces) or not len(mesh.faces):
+        return unseen
+    full = Covered(mesh.places, mesh.faces, is_in_open(mesh, fill))
+    for start in range(0, len(faces), CHUNK):
+        rows = slice(start, start + CHUNK)
+        corners, normals = places[faces[rows]], normals_of(places, faces[rows])
+        found = sum(full.lacks(np.einsum('k,nkj->nj', part, corners), normals).astype(int) for part in SPOTS)
+        unseen[rows] = 2 * found > len(SPOTS)
     return unseen
 
 
-def light_mesh(mesh: Finished, unit: int, origin: Sequence[float], within: float, faces: int, program: Optional[str] = None) -> Finished:
+def light_mesh(mesh: Finished, unit: int, origin: Sequence[float], within: float, faces: int, fill: float = 0.0,
+               program: Optional[str] = None) -> Finished:
     """Returns a mesh of about `faces` faces from which no vertex of a finished mesh is farther than `within`, a length of the scan. Its vertices are
-    some of those of the finished mesh, with their columns. Raises `Refusal` if `within` is less than one unit of the mesh."""
+    some of those of the finished mesh, with their columns. Faces have the column `unseen`: 1 where the open mesh, whose holes are filled up to `fill`, has
+    none. Raises `Refusal` if `within` is less than one unit of the mesh."""
     whole, fine = whole_places(mesh, unit, origin)
     units = min(int(within * unit * fine), FINEST)
     if units < 1:
@@ -83,5 +123,11 @@ def light_mesh(mesh: Finished, unit: int, origin: Sequence[float], within: float
     row = rows_at(whole, places)
     light = corners.reshape(-1, 3)
     columns = [(name, kind, values[row]) for name, kind, values in mesh.columns]
-    unseen = spans_unseen(mesh.places, mesh.places[row], light)
+    unseen = spans_unseen(mesh, fill, mesh.places[row], light)
     return Finished(mesh.places[row], light, columns, [('unseen', 'uchar', unseen)], mesh.vertex_of[row])
+
+
+def open_light(light: Finished) -> Finished:
+    """Returns a light mesh without its unseen faces, with the vertices that are left."""
+    used, faces = with_used(light.faces[~np.asarray(light.face_columns[0][2], bool)], len(light.places))
+    return Finished(light.places[used], faces, [(name, kind, values[used]) for name, kind, values in light.columns], vertex_of=light.vertex_of[used])

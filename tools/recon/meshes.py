@@ -54,14 +54,18 @@ class Mesh:
         from recon.toolbox.seen import unseen_by_sights
         return unseen_by_sights(self.vertices, self.faces, self.views)
 
+    def is_seen(self, unseen: np.ndarray | None = None, fill: float = 0.0) -> np.ndarray:
+        """Returns which faces (m,) `seen` has."""
+        from recon.toolbox.seen import filled
+        is_left = ~filled(self.vertices, self.faces, self.unseen() if unseen is None else unseen, fill)
+        part = pieces(self.faces[is_left], len(self.vertices))
+        is_left[is_left] = np.bincount(part)[part] >= LEAST_PIECE if len(part) else False
+        return np.asarray(is_left)
+
     def seen(self, unseen: np.ndarray | None = None, fill: float = 0.0) -> Mesh:
         """Returns the open mesh without the faces that span unseen space, and without pieces under 20 faces that are left of it. All
         vertices stay. Holes up to `fill` wide keep their faces. `unseen` is what `unseen` returned, if it is known."""
-        from recon.toolbox.seen import filled
-        left_out = filled(self.vertices, self.faces, self.unseen() if unseen is None else unseen, fill)
-        faces = self.faces[~left_out]
-        part = pieces(faces, len(self.vertices))
-        return Mesh(self.vertices, faces[np.bincount(part)[part] >= LEAST_PIECE] if len(faces) else faces, self.source, self.views)
+        return Mesh(self.vertices, self.faces[self.is_seen(unseen, fill)], self.source, self.views)
 
     def to_open3d(self) -> Any:
         """Returns an `open3d.geometry.TriangleMesh`."""

@@ -20,7 +20,7 @@ from recon.clouds import Spacing
 from recon.finish import FinishReport, coarse, seen_path
 from recon.inputs import MODELS, Cloud
 from recon.library import Surface, rows_at
-from recon.light import light_path
+from recon.light import light_path, open_light
 from recon.meshes import Mesh, areas
 from recon.page import PageMesh, write_page
 from recon.toolbox.mesh_files import Finished, rounding_of, write_mesh
@@ -107,7 +107,8 @@ def write_outputs(made: Made, beside: Beside) -> None:
         choices.warn(coarse(made.out.name, rounding))
     if made.light is not None:
         path = made.folder / ('out-light' + made.out.suffix)
-        write_mesh(os.fspath(path), made.light)
+        light = open_light(made.light) if is_open else made.light
+        write_mesh(os.fspath(path), light)
         files[path] = Path(light_path(os.fspath(made.out)))
     page.result()
     choices.timed('write')

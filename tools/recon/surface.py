@@ -3,7 +3,7 @@
 Chooses the source of the lines of sight, origin, unit, thinning, smoothing and finishing from the data; each choice has an option that
 overrides it. Runs `recon build` and `recon check`, and writes next to the mesh MESH.ply:
 
-  MESH-light.ply   with --faces: a mesh with fewer faces, from which no vertex of the mesh is farther than a distance
+  MESH-light.ply   with --faces: MESH.ply with fewer faces, so that no vertex of it is farther than a distance from the light mesh
   MESH-seen.ply    the mesh without the faces that span space that no scanner saw; it is open. If these faces are over a third of the
                    area, MESH.ply is this mesh, and MESH-closed.ply is the closed one (--closed and --seen choose)
   MESH.html        a page that shows both meshes in a browser, without a network
@@ -307,7 +307,7 @@ def lightened(mesh: Finished, scan: Scan, args: Any, choices: Choices) -> Finish
     reach = args.faces_within or usual
     choices.choose('faces', args.faces, 'given')
     choices.choose('faces-within', f'{reach:g}', 'given' if args.faces_within else 'the noise' if noise > 0.05 * apart else 'half of the spacing')
-    light = light_mesh(mesh, scan.unit, scan.origin.tolist(), reach, args.faces)
+    light = light_mesh(mesh, scan.unit, scan.origin.tolist(), reach, args.faces, args.fill)
     if len(light.faces) > args.faces + 1:
         choices.warn(f'the light mesh has {len(light.faces):,} faces: with fewer a vertex would be farther than {reach:g} from it, or faces would intersect')
     choices.timed('simplify')

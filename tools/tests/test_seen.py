@@ -140,6 +140,12 @@ class Outputs(InFolder):
         equal((chosen(made('in.ply'), 'mesh'), os.path.exists('mesh-closed.ply')), (['closed'], False))
         refused('not allowed with argument', 'in.ply', '-o', 'mesh.ply', '--seen', '--closed', status=2)
 
+    def test_the_light_mesh_lacks_what_the_open_mesh_lacks(self) -> None:
+        self.cap()
+        for words, is_open in (([], True), (['--closed'], False), (['--fill', '100'], False)):
+            made('in.ply', '--faces', '200', *words)
+            equal((words, self.edges_that_are_open('mesh-light.ply') > 0, self.edges_that_are_open('mesh.ply') > 0), (words, is_open, is_open))
+
     def test_holes_of_a_length(self) -> None:
         self.cap()
         made('in.ply')

@@ -11,7 +11,7 @@ import numpy as np
 
 from helpers import RECON_MESH, InFolder, equal, read, write
 from fuzz.simplified import faults, square_to_triangle
-from recon.light import light_mesh, spans_unseen
+from recon.light import light_mesh, open_light
 from recon.toolbox.mesh_files import Finished
 from recon.toolbox.ply_text import Refusal
 from test_finish import ball, mesh_text
@@ -127,8 +127,17 @@ class Simplify(InFolder):
         new = [tuple(places[row]) for row in rows], light.faces.tolist()
         equal(faults((places, cut.tolist()), new, 300), [])
         self.assertRaisesRegex(Refusal, 'less than one unit', light_mesh, mesh, 1000, (5, 6, 7), 0.0000001, 100)
-        flat = np.array([(0.0, 0, 0), (9, 0, 0), (0, 9, 0)])
-        equal(spans_unseen(spots, np.concatenate([spots[:3], flat]), np.array([(0, 1, 2), (3, 4, 5)])).tolist()[1], True)
+
+    def test_the_light_mesh_lacks_what_the_open_mesh_lacks(self) -> None:
+        places, faces = ball(6, 3000, 0.01)
+        spots, corners, rows = np.array(places) / 1000, np.array([turned(face) for face in faces]), np.arange(len(places))
+        # no scanner saw the lower half, or anything
+        for unseen in (spots[corners].mean(axis=1)[:, 2] < 0, np.ones(len(corners), bool)):
+            light = light_mesh(Finished(spots, corners, [], [('unseen', 'uchar', unseen)], rows), 1000, (0, 0, 0), 0.3, 300)
+            is_gone, height = np.asarray(light.face_columns[0][2]), light.places[light.faces].mean(axis=1)[:, 2]
+            equal((is_gone[height < -1].all(), is_gone[height > 1].all(), is_gone[height > 1].any()), (True, unseen.all(), unseen.all()))
+            left = open_light(light)
+            equal((len(left.faces), len(np.unique(left.faces))), (int((~is_gone).sum()), len(left.places)))
 
     def test_simplified_meshes_are_finished_and_finished_ones_simplified(self) -> None:
         places, faces = ball(6, 3000, 0.1)
