@@ -60,7 +60,9 @@ try:
 	@command -v cargo >/dev/null || { echo "make try needs cargo (Debian: apt-get install cargo)"; exit 1; }
 	@echo "This builds the unverified reference program, which writes the same mesh as recon. make run proves and builds recon itself."
 	@$(MAKE) --no-print-directory reference
-	$(PYTHON) dev/try.py $(REFERENCE)
+	$(REFERENCE) build examples/figurine.ply try_mesh.ply try.cert unit=10000 smooth=3
+	$(REFERENCE) check examples/figurine.ply try_mesh.ply try.cert unit=10000 smooth=3
+	@echo "recon writes the same bytes, and accepts both files: recon check examples/figurine.ply try_mesh.ply try.cert unit=10000 smooth=3"
 
 # Prints the pages that are not committed (all definitions, what the libraries guarantee), and builds the documents as a site in site/, where
 # there is mkdocs (a few seconds).

@@ -83,7 +83,7 @@ def edits_of(crate: str) -> list[str]:
 
 
 def chosen(edits: dict[str, list[str]], most: int, salt: str) -> dict[str, list[str]]:
-    """Returns at most so many edits: of each crate the first, then of each the second, and so on, in an order that depends on the salt."""
+    """Returns some edits, at most a number of them: of each crate the first, then of each the second, and so on, in an order that depends on the salt."""
     def key(pair: tuple[int, str, str]) -> tuple[int, str]:
         return pair[0], hashlib.sha256(f'{salt} {pair[1]}/{pair[2]}'.encode()).hexdigest()
 

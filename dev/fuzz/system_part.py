@@ -4,6 +4,7 @@ After status 4 the first output that is not whole is as it was or a prefix of it
 line is printed only if all are whole; after 1, 2, 3 and 5 all files are as they were; inputs never change (docs/verification/guarantees.md)."""
 from __future__ import annotations
 
+import itertools
 import os
 import random
 import re
@@ -32,6 +33,36 @@ ERRORS = {'openat': ['ENOENT', 'EACCES', 'EMFILE', 'ENFILE', 'EIO', 'ENOMEM', 'E
 NOTHING_TO_PUT = ('EINVAL', 'ENOSYS', 'EOPNOTSUPP')
 OUTPUTS = ['x1', 'x2', 'x3']
 STRACE = shutil.which('strace') or ''
+# A library that counts the allocations that the program itself asks for, lets the one of the number in FAIL_ALLOC fail, and makes the file
+# FAIL_TOLD then.
+SHIM = r"""
+#define _GNU_SOURCE
+#include <fcntl.h>
+#include <link.h>
+#include <stdlib.h>
+extern void *__libc_malloc(size_t), *__libc_realloc(void *, size_t);
+static unsigned long low = -1ul, high, left;
+static int place(struct dl_phdr_info *info, size_t size, void *data) {
+    for (int k = 0; k < info->dlpi_phnum; k++) {
+        unsigned long from = info->dlpi_addr + info->dlpi_phdr[k].p_vaddr, to = from + info->dlpi_phdr[k].p_memsz;
+        if (info->dlpi_phdr[k].p_type != PT_LOAD) continue;
+        if (from < low) low = from;
+        if (to > high) high = to;
+    }
+    return 1;
+}
+__attribute__((constructor)) static void start(void) {
+    dl_iterate_phdr(place, 0);
+    left = strtoul(getenv("FAIL_ALLOC"), 0, 10);
+}
+static int fails(void *caller) {
+    unsigned long at = (unsigned long)caller;
+    if (at < low || at >= high || !left || --left) return 0;
+    return creat(getenv("FAIL_TOLD"), 0600) >= 0;
+}
+void *malloc(size_t size) { return fails(__builtin_return_address(0)) ? 0 : __libc_malloc(size); }
+void *realloc(void *old, size_t size) { return fails(__builtin_return_address(0)) ? 0 : __libc_realloc(old, size); }
+"""
 
 
 class Command:
@@ -188,6 +219,26 @@ class Part:
             self.judge('a call fails', command, before, self.folder.run([*how, *command.argv], 60), statuses, how)
             tried += 1
         self.tally.note(f'{100 * tried // max(1, len(todo))} % of the calls')
+
+    # Allocations that fail.
+
+    def allocations(self, until: float) -> None:
+        """Each allocation of each command fails: status 5, or 4 where a call of the system had no memory, or the command found another way."""
+        shim, told = os.path.join(self.place, 'shim.so'), os.path.join(self.place, 'told')
+        compiled = shutil.which('cc') and subprocess.run(['cc', '-O2', '-shared', '-fPIC', '-x', 'c', '-', '-o', shim], input=SHIM.encode(), capture_output=True)
+        if not compiled or compiled.returncode != 0:
+            self.tally.note('no C compiler: allocations do not fail')
+            return
+        for command in self.context.share(self.small):
+            for number in itertools.count(1):
+                how = ['env', f'FAIL_ALLOC={number}', f'FAIL_TOLD={told}', f'LD_PRELOAD={shim}']
+                before = command.before(self.draw)
+                self.folder.put(before)
+                done, after = self.folder.run(['/usr/bin/env', *how[1:], *command.argv]), self.folder.look()
+                if not os.path.exists(told) or time.monotonic() > until:
+                    break
+                os.unlink(told)
+                self.judge('an allocation fails', command, before, done, (5, 4, command.good.status), how, after)
 
     # Limits.
 
@@ -420,7 +471,7 @@ class Part:
 
     def run(self) -> None:
         self.two_names()
-        trials = [(self.sixty_four, 0.05), (self.calls, 0.4), (self.places, 0.35), (self.file_sizes, 0.3), (self.memory, 0.35), (self.descriptors, 0.2),
+        trials = [(self.sixty_four, 0.05), (self.calls, 0.35), (self.allocations, 0.15), (self.places, 0.3), (self.file_sizes, 0.3), (self.memory, 0.35), (self.descriptors, 0.2),
                   (self.disks, 0.4), (self.stops, 1.0)]
         for trial, share in trials:
             trial(self.context.until(share))

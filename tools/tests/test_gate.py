@@ -65,8 +65,7 @@ def said(text: str, in_turn: bool) -> list[str]:
 class Gate(InFolder):
     def test_each_program_has_a_head_that_may_be_cut(self) -> None:
         for name in ('attack.py', 'bench', *(f'bench {table}' for table in TABLES), 'docs', 'docs believed', 'docs interface', 'docs manual', 'docs mutants', 'docs pages', 'docs phrases',
-                     'docs printed', 'fail_alloc.py', 'lint.py', 'make_example.py', 'minutes.py', 'pictures.py',
-                     'programs.py', 'progress.py', 'try.py'):
+                     'docs printed', 'lint.py', 'minutes.py', 'pictures.py', 'programs.py', 'progress.py'):
             line = f'{sys.executable} {os.path.join(DEV, name)} --help | head -c 1'
             done = subprocess.run(line, shell=True, capture_output=True, text=True)
             equal((name, len(done.stdout), done.stderr), (name, 1, ''))
