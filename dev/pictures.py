@@ -34,9 +34,7 @@ from PIL import Image  # noqa: E402
 
 import render  # noqa: E402
 from tools_path import PACKAGE  # noqa: E402
-from bench import objects, unseen  # noqa: E402
-from recon.meshes import Mesh  # noqa: E402
-from recon.toolbox.seen import unseen_by_sights  # noqa: E402
+from bench import objects, sites, unseen  # noqa: E402
 
 DEV = os.path.dirname(os.path.abspath(__file__))
 CGAL = '/usr/share/doc/libcgal-dev/data.tar.gz'
@@ -335,22 +333,37 @@ def figurine(folder: str, recon: str, work: str) -> None:
 
 
 def seen(folder: str, recon: str, work: str) -> None:
-    """The closed mesh of a yard and of a flat, and the open one without the faces that no scanner saw. Of the flat, faces are drawn from the
-    front only, so that one looks through ceilings."""
+    """The closed mesh of a yard and of a flat, and the open one, which gets the name that was asked for. Of the flat, faces are drawn from the front
+    only, so that one looks through ceilings."""
     os.environ['RECON'] = recon
     for name, toward, centre, reach in (('court', (0.5, 1, -0.75), (2, 0, 1), 24), ('flat', (0.35, 1, -1.1), (4.5, 3.5, 0.6), 9)):
-        trial = unseen.tried(name)
-        gone = unseen_by_sights(trial.mesh.places, trial.mesh.faces, trial.views)
-        save_seen(trial.mesh.places, trial.mesh.faces, gone, render.View(toward, centre, reach, 840), folder, 'seen_' + name)
+        path = unseen.written(os.path.join(work, name + '.scan.ply'), sites.scan_of(name, unseen.SCALES.get(name, 1.0)))
+        tool('surface', path, '-o', os.path.join(work, name + '.ply'), '--no-check', '-q')
+        view, images = render.View(toward, centre, reach, 840), []
+        for part in (name + '-closed', name):
+            places, faces, colors = colored_mesh(os.path.join(work, part + '.ply'))
+            corners = places[faces]
+            is_front = np.cross(corners[:, 1] - corners[:, 0], corners[:, 2] - corners[:, 0]) @ view.toward < 0
+            images.append(half(render.mesh_image(view, places, faces[is_front | (part != 'flat')], is_flat=True, colors=colors)))
+        side_by_side(images, [name + '-closed.glb', name + '.glb'], folder, 'seen_' + name)
 
 
-def save_seen(places: np.ndarray, faces: np.ndarray, gone: np.ndarray, view: render.View, folder: str, name: str) -> None:
-    """Saves a mesh with and without some of its faces."""
-    left = Mesh(places, faces).seen(gone).faces
-    corners = places[left]
-    is_front = np.cross(corners[:, 1] - corners[:, 0], corners[:, 2] - corners[:, 0]) @ view.toward < 0
-    images = [half(render.mesh_image(view, places, part, is_flat=True)) for part in (faces, left[is_front])]
-    side_by_side(images, ['closed', 'without unseen faces'], folder, name)
+def colored_mesh(path: str) -> tuple[np.ndarray, np.ndarray, np.ndarray]:
+    """Places, faces and colors of a mesh of recon-surface."""
+    with open(path, 'rb') as file:
+        head, body = file.read().split(b'end_header\n', 1)
+    kinds = {'double': '<f8', 'float': '<f4', 'uchar': 'u1'}
+    counts, columns = [], []
+    for line in head.decode('ascii').splitlines():
+        kind, *words = line.split()
+        if kind == 'element':
+            counts.append(int(words[1]))
+        if kind == 'property' and len(counts) == 1:
+            columns.append((words[1], kinds[words[0]]))
+    rows = np.frombuffer(body, columns, counts[0])
+    face = [('count', 'u1'), ('corners', '<i4', 3)] + ([('unseen', 'u1')] if b'unseen' in head else [])
+    faces = np.frombuffer(body, face, counts[1], rows.nbytes)['corners']
+    return np.stack([rows[axis] for axis in 'xyz'], axis=1), faces, np.stack([rows[hue] for hue in ('red', 'green', 'blue')], axis=1)
 
 
 PICTURES = {'inside': inside, 'sight': sight, 'room': room, 'smooth': smooth, 'unit': unit,

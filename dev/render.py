@@ -64,29 +64,32 @@ def corner_normals(places: np.ndarray, faces: np.ndarray) -> np.ndarray:
 
 
 def mesh_image(view: View, places: np.ndarray, faces: np.ndarray, keep: Callable[[np.ndarray], np.ndarray] | None = None,
-               is_flat: bool = False) -> np.ndarray:
-    """Returns a mesh, its front sides warm and its back sides cold. `keep` tells by the middle of a face whether it is drawn. Flat, each
-    face has the shade of its own direction, as printers, and viewers at their defaults, show it."""
+               is_flat: bool = False, colors: np.ndarray | None = None) -> np.ndarray:
+    """Returns a mesh, its front sides warm, or in the colors of its vertices (n, 3), and its back sides cold. `keep` tells by the middle of a face whether
+    it is drawn. Flat, each face has the shade of its own direction, as printers, and viewers at their defaults, show it."""
+    tints = np.broadcast_to(FRONT, (len(faces), 3)) if colors is None else colors[faces].mean(axis=1) / 255
     if is_flat:
         places, faces = places[faces].reshape(-1, 3), np.arange(faces.size).reshape(-1, 3)
     image, deepest = np.ones((view.size, view.size, 3)), np.full((view.size, view.size), np.inf)
     normals = corner_normals(places, faces)
     if keep is not None:
-        faces = faces[keep(places[faces].mean(axis=1))]
+        is_kept = keep(places[faces].mean(axis=1))
+        faces, tints = faces[is_kept], tints[is_kept]
     column, row, depth = view.pixels(places)
     corners = np.stack([column[faces], row[faces], depth[faces], (normals @ view.light)[faces]])
     width = np.maximum(np.ptp(corners[0], axis=1), np.ptp(corners[1], axis=1))
     least = 0.0
     for side in 2 ** np.arange(1, 12):
-        group = corners[:, (width >= least) & (width < side - 1)]
-        for start in range(0, group.shape[1], max(1, 4000000 // side ** 2)):
-            draw_faces(image, deepest, group[:, start:start + max(1, 4000000 // side ** 2)], side)
+        group, step = np.flatnonzero((width >= least) & (width < side - 1)), max(1, 4000000 // side ** 2)
+        for start in range(0, len(group), step):
+            rows = group[start:start + step]
+            draw_faces(image, deepest, corners[:, rows], tints[rows], side)
         least = side - 1
     return image
 
 
-def draw_faces(image: np.ndarray, deepest: np.ndarray, corners: np.ndarray, side: int) -> None:
-    """Draws triangles that each fit in a square of a given number of pixels. Of all that meet a pixel the nearest is kept."""
+def draw_faces(image: np.ndarray, deepest: np.ndarray, corners: np.ndarray, tints: np.ndarray, side: int) -> None:
+    """Draws triangles in their tints that each fit in a square of a given number of pixels. Of all that meet a pixel the nearest is kept."""
     x, y, z, light = (corners[k][:, :, None] for k in range(4))
     offset = np.arange(side * side)
     px = np.floor(x.min(axis=1)) + offset % side + 0.5
@@ -102,7 +105,7 @@ def draw_faces(image: np.ndarray, deepest: np.ndarray, corners: np.ndarray, side
     shade = light[:, 0] + u * (light[:, 1] - light[:, 0]) + v * (light[:, 2] - light[:, 0])
     is_front = np.broadcast_to(area < 0, met.shape)[met]
     shade = np.clip(np.where(is_front, shade[met], -shade[met]), 0, 1)
-    colours = (0.25 + 0.75 * shade)[:, None] * np.where(is_front[:, None], FRONT, BACK)
+    colours = (0.25 + 0.75 * shade)[:, None] * np.where(is_front[:, None], tints[np.nonzero(met)[0]], BACK)
     place, far = py[met].astype(int) * size + px[met].astype(int), far[met]
     order = np.lexsort((far, place))
     first = order[np.unique(place[order], return_index=True)[1]]

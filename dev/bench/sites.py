@@ -23,6 +23,8 @@ SHAPES = ('room', 'statue')
 WIDE = 0.6
 # the beam's width in radians, and the least sine of the angle at which it comes back
 BEAM, GRAZING = 0.0003, 0.06
+PALETTE = np.array([[125, 140, 90], [200, 170, 140], [190, 140, 110], [80, 115, 60], [205, 205, 210], [120, 95, 85], [70, 90, 130], [230, 220, 200], [165, 165, 155],
+                    [150, 110, 80]])
 
 
 @dataclass
@@ -41,13 +43,14 @@ class Site:
 
 @dataclass
 class Scan:
-    """Points (n, 3), the station of each (n,), the stations (k, 3) as they are stated, the site's parts joined, and the standard deviation of the
-    points from the site, of those that are neither mixed nor of what passed by."""
+    """Points (n, 3), the station of each (n,), the stations (k, 3) as they are stated, the site's parts joined, the standard deviation of the
+    points from the site, of those that are neither mixed nor of what passed by, and colors (n, 3) as bytes, one for each part."""
     points: np.ndarray
     station: np.ndarray
     stations: np.ndarray
     site: Part
     deviation: float
+    colors: np.ndarray
 
 
 def box(low: Sequence[float], high: Sequence[float]) -> Part:
@@ -277,23 +280,31 @@ def scan_of(name: str, scale: float = 1.0, seed: int = 5) -> Scan:
     draw = np.random.default_rng(seed)
     site = SITES[name](draw)
     rays, whole = directions(site.step / scale, site.lowest), joined(site.parts)
-    points, station, square, count = [], [], 0.0, 0
+    points, station, colors, square, count = [], [], [], 0.0, 0
     for k, place in enumerate(site.stations):
         passing = site.passing[k] if k < len(site.passing) else []
-        here, is_plain, off = one_station(draw, site, place, rays, joined([*site.parts, *passing]), len(whole[1]))
+        parts = [*site.parts, *passing]
+        here, hit, is_plain, off = one_station(draw, site, place, rays, joined(parts), len(whole[1]))
         # each station is placed by itself, with an error
         way, turn = draw.normal(size=3) * site.misplaced, np.radians(draw.normal() * 0.01) * (site.misplaced > 0)
         turned = here + np.stack([-here[:, 1], here[:, 0], 0 * here[:, 0]], axis=1) * turn
         points.append(turned + place + way)
         station.append(np.full(len(here), k))
+        colors.append(colors_of(here + place, np.searchsorted(np.cumsum([len(faces) for _, faces in parts]), hit, 'right')))
         square, count = square + float((off[is_plain] ** 2).sum()), count + int(is_plain.sum())
     deviation = float(np.hypot((square / max(count, 1)) ** 0.5, site.misplaced))
-    return Scan(np.concatenate(points), np.concatenate(station), site.stations, whole, deviation)
+    return Scan(np.concatenate(points), np.concatenate(station), site.stations, whole, deviation, np.concatenate(colors))
+
+
+def colors_of(points: np.ndarray, part: np.ndarray) -> np.ndarray:
+    """Colors of points by the part that they are of, darker in every other cube of half a meter."""
+    is_dark = np.floor(2 * points).astype(int).sum(axis=1) % 2 == 1
+    return np.asarray(PALETTE[part % len(PALETTE)] * np.where(is_dark, 0.85, 1.0)[:, None], np.uint8)
 
 
 def one_station(draw: np.random.Generator, site: Site, place: np.ndarray, rays: np.ndarray, parts: Part,
-                staying: int) -> Tuple[np.ndarray, np.ndarray, np.ndarray]:
-    """Returns the points of a station relative to it, which of them are of one part of the site, and how far they are off its faces."""
+                staying: int) -> Tuple[np.ndarray, np.ndarray, np.ndarray, np.ndarray]:
+    """Returns the points of a station relative to it, their faces, which of them are of one part of the site, and how far they are off its faces."""
     far, hit = cast(place, rays, parts)
     corners = parts[0][parts[1]]
     normals = np.cross(corners[:, 1] - corners[:, 0], corners[:, 2] - corners[:, 0])
@@ -310,7 +321,7 @@ def one_station(draw: np.random.Generator, site: Site, place: np.ndarray, rays: 
     is_back = np.flatnonzero((hit >= 0) & (shown > 0.5) & (shown < site.farthest) & (slope > GRAZING) & (draw.random(len(rays)) > 0.01))
     error = draw.normal(size=len(is_back)) * site.noise * (1 + shown[is_back] / 40) / np.sqrt(np.maximum(slope[is_back], 0.15))
     points = rays[is_back] * (shown[is_back] + error)[:, None]
-    return points, ~is_mixed[is_back] & (hit[is_back] < staying), error * slope[is_back]
+    return points, hit[is_back], ~is_mixed[is_back] & (hit[is_back] < staying), error * slope[is_back]
 
 
 def ball_around(place: Sequence[float], radius: float, others: Sequence[Tuple[Sequence[float], float]]) -> Part:
@@ -330,4 +341,6 @@ def shape_scan(name: str, count: int = 60_000, noise: float = 0.0015, seed: int 
     else:
         walls, faces = box(*make_scan.ROOM)
         parts = [(walls, faces[:, ::-1]), *(box(low, high) for low, high in make_scan.FURNITURE)]
-    return Scan(np.array([point for point, _ in rows]), np.array([station for _, station in rows]), np.array(shape.scanners, float), joined(parts), noise)
+    points = np.array([point for point, _ in rows])
+    return Scan(points, np.array([station for _, station in rows]), np.array(shape.scanners, float), joined(parts), noise,
+                colors_of(points, np.zeros(len(points), int)))

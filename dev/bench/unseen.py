@@ -50,9 +50,9 @@ class Trial:
 def written(path: str, scan: sites.Scan) -> str:
     """Writes a scan as recon-surface reads it, and returns its path."""
     lines = ['ply', 'format binary_little_endian 1.0', f'element vertex {len(scan.points)}', *(f'property double {axis}' for axis in 'xyz'),
-             'property ushort scanner', f'element scanner {len(scan.stations)}', *(f'property double {axis}' for axis in 'xyz'), 'end_header', '']
-    rows = np.zeros(len(scan.points), [('place', '<f8', 3), ('scanner', '<u2')])
-    rows['place'], rows['scanner'] = scan.points, scan.station
+             *(f'property uchar {hue}' for hue in ('red', 'green', 'blue')), 'property ushort scanner', f'element scanner {len(scan.stations)}', *(f'property double {axis}' for axis in 'xyz'), 'end_header', '']
+    rows = np.zeros(len(scan.points), [('place', '<f8', 3), ('color', 'u1', 3), ('scanner', '<u2')])
+    rows['place'], rows['color'], rows['scanner'] = scan.points, scan.colors, scan.station
     with open(path, 'wb') as file:
         file.write('\n'.join(lines).encode('ascii') + rows.tobytes() + scan.stations.astype('<f8').tobytes())
     return path

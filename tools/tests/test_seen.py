@@ -83,6 +83,20 @@ class Sights(unittest.TestCase):
         raised = vertices + np.where(np.arange(961)[:, None] == middle, [0, 0, 3.0], 0)
         equal(unseen_rows(raised, np.r_[faces, cap], seen)[0] >= len(faces), True)
 
+    def test_the_silhouette_of_a_round_object(self) -> None:
+        # a cylinder 60 steps around, that is seen from far along x: its upper side up to one step past the silhouette, or farther
+        def faces_of(steps: int) -> np.ndarray:
+            return np.array([face for k in range(steps) for j in range(20) for face in
+                             ((30 * j + k, 30 * j + k + 31, 30 * j + k + 1), (30 * j + k, 30 * j + k + 30, 30 * j + k + 31))])
+        turn, along = np.meshgrid(np.arange(30) * 2 * np.pi / 60, np.arange(21) * 0.1)
+        vertices = np.stack([np.cos(turn), along, np.sin(turn)], axis=2).reshape(-1, 3)
+        seen = views(vertices, (1000, 1, 0))
+        equal(unseen_rows(vertices, faces_of(16), seen), [])
+        equal(len(unseen_rows(vertices, faces_of(20), seen)), 160)
+        # the flat base that closes it there is no part of it
+        lid = np.array([[30 * j + 16, 30 * j, 30 * j + 46] for j in range(20)])
+        equal(unseen_rows(vertices, np.r_[faces_of(16), lid], seen), list(range(640, 660)))
+
     def test_the_nearest_scanner_of_a_point(self) -> None:
         points, places = np.zeros((3, 3)), np.array([[5.0, 0, 0], [1, 0, 0], [9, 0, 0]])
         many = views_of(points, places, np.array([2, 0, 1]), np.array([0, 1, 2]), 1)

@@ -7,6 +7,9 @@ A face counts as seen if at least two of its corners were seen from its front si
 - it lies in a gap that continues a flat surface on all sides, such as the ground under a scanner: the normals at all three corners are within 11
   degrees, and so for nearly all of the gap.
 
+At the silhouette of an object faces are seen edge-on. One that is up to 7 degrees past it counts as seen if it continues the surface: two normals at
+its corners are within 25 degrees, and a curved triangle with the normals at the corners is off its middle by at most a tenth of the usual width.
+
 The usual width at a vertex is the geometric mean of the lengths of its edges across its line of sight, but at most 4 times what is usual for its
 scanner. The normal at a vertex is the mean of those of the faces around it, each the more the more squarely it is seen. So a face along the lines of
 sight, from the edge of one object to another one behind it, is left out, and ground that is seen at the same small angle stays.
@@ -30,6 +33,8 @@ SQUARE_WIDTHS, SMOOTH_WIDTHS, MOST_WIDTHS, USUAL = 3.0, 8.0, 12.0, 4.0
 NORMAL_WIDTHS = 6.0
 # the least cosines between the normal of a face and its lines of sight: of one that is seen from the front, and of one that is seen squarely
 FRONT, SQUARE = 0.03, 0.2
+# the same of one at a silhouette, between that and FRONT; the least cosine to the normals at its corners, and how far off it the surface is at most
+EDGE_ON, BENT, OFF = -0.12, 0.9, 0.1
 # the least cosines between the normal of a face and those at its corners: where it is seen squarely, where it continues them, and in a flat gap
 ALIKE, SMOOTH, FLAT = 0.7, 0.97, 0.98
 # the part of a gap's area that has to be flat
@@ -180,8 +185,31 @@ def unseen_by_sights(vertices: np.ndarray, faces: np.ndarray, views: Views) -> n
     is_added = views.added[faces].any(axis=1)
     is_possible = two_of(is_front) & ~is_added
     unseen = ~(is_possible & is_seen)
+    edge_on = np.flatnonzero(unseen & ~is_added & ~two_of(is_front) & two_of(cosine > EDGE_ON))
+    unseen[edge_on[silhouettes(mesh, at, usual, edge_on, normal[:, edge_on])]] = False
     unseen &= ~flat_gaps(vertices, faces, unseen, is_possible & (agree >= FLAT).all(axis=0))
     return filled(vertices, faces, unseen, SMALL * usual_side(vertices, faces)) | is_added
+
+
+def silhouettes(mesh: Faces, at: np.ndarray, usual: np.ndarray, rows: np.ndarray, normal: np.ndarray) -> np.ndarray:
+    """Which of the faces `rows`, which are seen edge-on, continue the surface: by the normals at their corners, and then by those of the first ones at corners
+    that have none."""
+    corners, kept = mesh.faces[rows], np.zeros(len(rows), bool)
+    for _ in range(2):
+        agree = np.einsum('ai,aik->ki', normal, at[:, corners])
+        kept |= two_of(agree > BENT) & (bulges(mesh, at, rows) <= OFF * np.median(usual[corners], axis=1))
+        found = normals_at(corners, mesh.count, np.broadcast_to(kept, (3, len(rows))), normal)
+        at = np.where((at == 0).all(axis=0), found, at)
+    return kept
+
+
+def bulges(mesh: Faces, normals: np.ndarray, rows: np.ndarray) -> np.ndarray:
+    """How far the middle of some faces is from that of the curved triangle with these normals (3, n) at its corners (the PN triangle of Vlachos et al.)."""
+    corners = mesh.faces[rows]
+    places = np.stack([place[corners] for place in mesh.places])
+    at = normals[:, corners]
+    deep = ((places.mean(axis=2, keepdims=True) - places) * at).sum(axis=0)
+    return np.asarray(np.linalg.norm((deep * at).sum(axis=2), axis=0) / 6)
 
 
 def two_of(corners: np.ndarray) -> np.ndarray:
