@@ -1,6 +1,6 @@
 //! Checks that labels are the minimum cut of a network with the smallest inside, by a flow whose value is their cost.
 //!
-//! Verified: `check_flow` returns the first fault, or none; each network has one least-inside cut (`exactly_one_is_least_inside`).
+//! Verified: `check_flow` returns the first fault, or none; each network has one smallest minimum cut (`exactly_one_is_least_inside`).
 //!
 //! Nothing is known of labels and flow but that there is one label and one amount a node and one amount an arc. A valid
 //! flow whose value is the cost of admissible labels shows that no labels cost less (Ford and Fulkerson 1956). The first
