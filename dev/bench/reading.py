@@ -7,6 +7,7 @@ usage: dev/bench reading FOLDER [rows=N] [runs=N] [only=PART]
   runs=N       runs of each; the fastest counts (default: 3)
   only=PART    only the kinds with PART in their name
   one=WHAT     reads or converts the file FOLDER once (read, convert), and prints seconds and MB, as the table needs them
+  option=WORD  an option of recon-scan for that
 
 Each file has the same points, with colors and intensity where the format has them. *Read* is `recon.tables.read_table`, by which recon-surface reads:
 positions, colors and scanners as arrays. *Converted* is recon-scan, which writes a text of decimals. Speeds are rows in a second of processor time.
@@ -29,11 +30,11 @@ from recon import scan
 from recon.tables import read_table
 from recon.toolbox.tool import Options
 
-NAMES, OPTIONS = 1, ('rows', 'runs', 'only', 'one')
+NAMES, OPTIONS = 1, ('rows', 'runs', 'only', 'one', 'option')
 CHUNK = 100_000
 IDENTITY = ('1 0 0 0', '0 1 0 0', '0 0 1 0', '0 0 0 1')
 TURNED = ('0.6 0.8 0 0', '-0.8 0.6 0 0', '0 0 1 0', '448262.512345 5411932.75 118.25 1')
-STATION = '1,2,3'
+STATION, IMAGES = '1,2,3', 9
 
 
 def parts(rows: int) -> Iterator[tuple[np.ndarray, np.ndarray, np.ndarray]]:
@@ -120,8 +121,58 @@ def e57_file(path: Path, rows: int) -> None:
     path.write_bytes(pages.tobytes())
 
 
+def normals_of(points: np.ndarray) -> np.ndarray:
+    """Returns directions from the middle, with three digits."""
+    return np.round(points / np.maximum(np.linalg.norm(points, axis=1, keepdims=True), 1e-9), 3)
+
+
+def images_file(path: Path) -> None:
+    """Writes nine pictures for COLMAP's points."""
+    path.write_bytes(np.uint64(IMAGES).tobytes() + b''.join(
+        np.uint32(k + 1).tobytes() + np.array([1, 0, 0, 0, k, 0, 0], '<f8').tobytes() + np.uint32(1).tobytes() + b'a\0' + bytes(8) for k in range(IMAGES)))
+
+
+def dense_file(path: Path, rows: int) -> None:
+    """Writes fused.ply and the five pictures of each of its points."""
+    columns = ''.join(f'property float {name}\n' for name in ('nx', 'ny', 'nz'))
+    begin = ply_head('binary_little_endian', rows).replace('double', 'float').replace('property uchar red', columns + 'property uchar red')
+    with open(path, 'wb') as file, open(f'{path}.vis', 'wb') as lists:
+        file.write(begin.encode('ascii'))
+        lists.write(np.uint64(rows).tobytes())
+        for points, _, colors in parts(rows):
+            records = np.zeros(len(points), [('p', '<f4', 3), ('n', '<f4', 3), ('c', 'u1', 3)])
+            records['p'], records['n'], records['c'] = points, normals_of(points), colors
+            file.write(records.tobytes())
+            lists.write(np.c_[np.full(len(points), 5), colors.sum(axis=1)[:, None] % 5 + np.arange(5)].astype('<u4').tobytes())
+    images_file(path.with_name('images.bin'))
+
+
+def sparse_file(path: Path, rows: int) -> None:
+    """Writes points3D.bin, each point with a track of five pictures."""
+    kind = [('id', '<u8'), ('p', '<f8', 3), ('c', 'u1', 3), ('error', '<f8'), ('count', '<u8'), ('track', '<u4', (5, 2))]
+    with open(path, 'wb') as file:
+        file.write(np.uint64(rows).tobytes())
+        for points, _, colors in parts(rows):
+            records = np.zeros(len(points), kind)
+            records['p'], records['c'], records['count'] = points, colors, 5
+            records['track'][:, :, 0] = colors.sum(axis=1)[:, None] % 5 + np.arange(1, 6)
+            file.write(records.tobytes())
+    images_file(path.with_name('images.bin'))
+
+
+def flight_file(path: Path, rows: int) -> None:
+    """Writes a LAS with times, and the table of its flight."""
+    with open(path, 'wb') as file:
+        file.write(las_head(2, 1, 28, rows, (1e-4,) * 3, (0, 0, 0)))
+        for points, intensities, _ in parts(rows):
+            records = np.zeros(len(points), [('p', '<i4', 3), ('more', 'V8'), ('t', '<f8')])
+            records['p'], records['t'] = np.rint(points * 10_000), intensities * 1000
+            file.write(records.tobytes())
+    path.with_name('flight.txt').write_text(''.join(f'{second} {second} 0 500\n' for second in range(1001)), encoding='ascii')
+
+
 # each kind: its file, how it is made, and how it is given
-KINDS: Dict[str, tuple[str, Callable[[Path, int], None], str]] = {
+KINDS: Dict[str, tuple[Any, ...]] = {
     'text, `X Y Z`': ('xyz.txt', lambda path, rows: text_file(path, rows, '%.4f %.4f %.4f\n', xyz), '=' + STATION),
     'text, `X Y Z R G B`': ('color.txt', lambda path, rows: text_file(path, rows, '%.4f %.4f %.4f %d %d %d\n', xyz_color), '=' + STATION),
     'CSV with a heading': ('color.csv', lambda path, rows: text_file(path, rows, '%.4f,%.4f,%.4f,%d,%d,%d\n', xyz_color, 'x,y,z,r,g,b\n'), '=' + STATION),
@@ -133,7 +184,11 @@ KINDS: Dict[str, tuple[str, Callable[[Path, int], None], str]] = {
     'PLY, binary': ('binary.ply', lambda path, rows: binary_file(path, rows, ply_head('binary_little_endian', rows).encode('ascii'),
                                                                  [('p', '<f8', 3), ('c', 'u1', 3)]), '=' + STATION),
     'LAS': ('points.las', lambda path, rows: binary_file(path, rows, las_head(2, 2, 26, rows, (1e-4,) * 3, (0, 0, 0)), [('p', '<i4', 3), ('more', 'V8'), ('c', '<u2', 3)], 10_000), '=' + STATION),
-    'E57': ('points.e57', e57_file, '')}
+    'E57': ('points.e57', e57_file, ''),
+    'text with normals': ('normals.txt', lambda path, rows: text_file(path, rows, '%.4f %.4f %.4f %.3f %.3f %.3f\n', lambda p, *_: np.c_[p, normals_of(p)]), '', 'normals=yes'),
+    'LAS and its flight': ('flight.las', flight_file, '', 'flight=flight.txt'),
+    'COLMAP, `fused.ply`': ('fused.ply', dense_file, '', 'images=images.bin'),
+    'COLMAP, `points3D.bin`': ('points3D.bin', sparse_file, '', 'images=images.bin')}
 
 
 def measured(words: Sequence[str]) -> tuple[float, int]:
@@ -143,14 +198,19 @@ def measured(words: Sequence[str]) -> tuple[float, int]:
     return float(seconds), int(peak)
 
 
-def one(what: str, name: str) -> str:
+def one(what: str, name: str, given: str) -> str:
     """Reads or converts a file, and prints seconds and MB."""
+    folder = os.path.dirname(name)
+    key, _, value = given.partition('=')
+    more = {key: value if value == 'yes' else os.path.join(folder, value)} if key else {}
     start = time.process_time()
     if what == 'read':
-        table, _ = read_table([name])
+        table, _ = read_table([name], **more)
         table.colors()
     elif what == 'convert':
-        scan.work([name, os.path.join(os.path.dirname(name), 'converted.ply')], Options(scan.KEYS))
+        options: Any = Options(scan.KEYS)
+        vars(options).update(more)
+        scan.work([name, os.path.join(folder, 'converted.ply')], options)
     return f'{time.process_time() - start} {resource.getrusage(resource.RUSAGE_SELF).ru_maxrss // 1024}'
 
 
@@ -161,18 +221,18 @@ def speed(rows: int, seconds: float) -> str:
 def work(names: Sequence[str], options: Any) -> str:
     """Measures all kinds, and prints the table."""
     if options.one:
-        return one(options.one, names[0])
+        return one(options.one, names[0], options.option or '')
     folder, rows, runs = Path(names[0]), int(options.rows or 2_000_000), int(options.runs or 3)
     folder.mkdir(parents=True, exist_ok=True)
     printed_head(f'{rows:,} rows of', 'MB', 'read, million rows/s', 'peak MB', 'converted, million rows/s', 'peak MB')
     count = 0
-    for kind, (file, make, given) in KINDS.items():
+    for kind, (file, make, given, *more) in KINDS.items():
         if options.only and options.only not in kind:
             continue
         path = folder / f'{rows}_{file}'
         if not path.exists():
             make(path, rows)
-        found = [min(measured([f'{path}{given}', f'one={what}']) for _ in range(runs)) for what in ('read', 'convert')]
+        found = [min(measured([f'{path}{given}', f'one={what}', *(f'option={word}' for word in more)]) for _ in range(runs)) for what in ('read', 'convert')]
         cells = [cell for seconds, peak in found for cell in (speed(rows, seconds), f'{peak:,}')]
         printed_row(kind, f'{path.stat().st_size / 1e6:,.0f}', *cells)
         count += 1

@@ -186,8 +186,8 @@ class Conversion:
     def run_blocks(self) -> None:
         """Passes on the points in blocks. Raises `NotPlain`, also after some, where only row by row is read."""
         try:
-            for block in self.source.blocks():
-                self.write(block, self.sieve.kept(self.source, block))
+            for block, rows in self.source.kept_blocks(self.sieve):
+                self.write(block, rows)
         finally:
             self.source.close()
 

@@ -9,7 +9,7 @@ from typing import Any, Callable, Dict, List, NamedTuple, Sequence
 import numpy as np
 
 from recon.library import Sights
-from recon.toolbox.blocks import Block, Column, number_of_word
+from recon.toolbox.blocks import Block, Column, Lists, number_of_word
 from recon.toolbox.ply_text import Refusal
 from recon.toolbox.scan_source import source_of
 from recon.toolbox.sieve import Passage, Sieve
@@ -113,8 +113,8 @@ class Gathering:
     def run_blocks(self) -> None:
         """Takes the points in blocks. Raises `NotPlain`, also after some, where only row by row is read."""
         try:
-            for block in self.source.blocks():
-                self.add(block, self.sieve.kept(self.source, block))
+            for block, rows in self.source.kept_blocks(self.sieve):
+                self.add(block, rows)
                 self.told(self.count)
         finally:
             self.source.close()
@@ -126,9 +126,18 @@ class Gathering:
             self.parts[axis].append(block.columns[k].floats()[some])
         for name, k in self.places.items():
             self.parts[name].append(narrow(block.columns[k].floats()[some], name))
-        if self.source.scanner is not None and not self.source.has_lists:
-            self.numbers.append(block.columns[self.source.scanner].floats()[some].astype(np.int32))
+        if self.source.scanner is not None:
+            self.add_sights(block.columns[self.source.scanner], some)
         self.count += len(rows)
+
+    def add_sights(self, column: Column, some: Any) -> None:
+        """Takes the scanners of these rows."""
+        if isinstance(column, Lists):
+            lists = column.taken(np.arange(len(column.counts))[some])
+            self.counts.append(lists.counts)
+            self.numbers.append(lists.numbers.astype(np.int32))
+        else:
+            self.numbers.append(column.floats()[some].astype(np.int32))
 
     def run(self) -> None:
         """Takes the points row by row."""
@@ -147,11 +156,10 @@ class Gathering:
         if not self.rows:
             return
         words = list(zip(*self.rows))
-        columns = [WordColumn(column, names.get(k, 'a value'), self.count) for k, column in enumerate(words)]
+        columns: List[Column] = [WordColumn(column, names.get(k, 'a value'), self.count) for k, column in enumerate(words)]
         if source.has_lists and source.scanner is not None:
             lists = [word.split()[1:] for word in words[source.scanner]]
-            self.counts.append(np.array(list(map(len, lists)), np.int64))
-            self.numbers.append(np.array([int(word) for numbers in lists for word in numbers], np.int32))
+            columns[source.scanner] = Lists(np.array(list(map(len, lists)), np.int64), np.array([int(word) for numbers in lists for word in numbers], np.int32))
         self.add(Block(columns, len(self.rows)), np.arange(len(self.rows)))
         self.rows = []
 

@@ -60,15 +60,20 @@ def converted(names: list[str], given: dict[str, str], in_blocks: bool) -> Outco
 
 
 def gathered(names: list[str], in_blocks: bool) -> Any:
+    """The same without options."""
+    return gathered_with(names, {}, in_blocks)
+
+
+def gathered_with(names: list[str], given: dict[str, str], in_blocks: bool) -> Any:
     """The table of a scan as lists; None where it is an error."""
     try:
-        gathering = tables.Gathering(names, Options(tables.KEYS), tables.silent)
+        gathering = tables.Gathering(names, options_of(given), tables.silent)
         gathering.run_blocks() if in_blocks else gathering.run()
     except (NotPlain, Refusal, ArithmeticError):
         return None
     table = gathering.table()
     colors = table.colors()
-    return ({name: column.tolist() for name, column in sorted(table.columns.items())}, None if table.sights is None else table.sights.scanners.tolist(),
+    return ({name: column.tolist() for name, column in sorted(table.columns.items())}, None if table.sights is None else [column.tolist() for column in table.sights],
             None if table.scanners is None else table.scanners.tolist(), None if colors is None else colors.tolist(), gathering.said())
 
 

@@ -1,7 +1,7 @@
 """Points in blocks: some thousand rows at a time, as columns of numbers. All fast readers pass these on, to `recon-scan` and to `recon-surface`.
 
 A column has its values twice, each when it is asked for: as numbers, and as words, which keep the digits of a text. Names: Column · Numbers (an array) ·
-TextColumn (words of a text) · Bytes, Finite (colors, other values) · Scaled (whole numbers over a power of ten) · Block.
+TextColumn (words of a text) · Bytes, Finite (colors, other values) · Scaled (whole numbers over a power of ten) · Lists (of scanners) · Block.
 """
 from __future__ import annotations
 
@@ -150,6 +150,30 @@ class Scaled(Column):
 
     def decimals(self) -> tuple[np.ndarray, int]:
         return self.whole, self.places
+
+
+class Lists(Column):
+    """A list of scanners for each row: how many they are, and the numbers of all lists, one after another. As a number, the last one of the list."""
+
+    def __init__(self, counts: np.ndarray, numbers: np.ndarray) -> None:
+        self.counts, self.numbers, self.ends = counts, numbers, np.cumsum(counts)
+
+    def floats(self) -> np.ndarray:
+        return np.where(self.counts > 0, np.append(self.numbers, 0)[self.ends - 1], 0).astype(float)
+
+    def words(self, rows: np.ndarray | None = None) -> list[str]:
+        lists, words = self if rows is None else self.taken(rows), []
+        numbers, start = list(map(str, lists.numbers.tolist())), 0
+        for count, end in zip(lists.counts.tolist(), lists.ends.tolist()):
+            words.append(' '.join([str(count), *numbers[start:end]]))
+            start = end
+        return words
+
+    def taken(self, rows: np.ndarray) -> Lists:
+        """Returns the lists of these rows."""
+        counts = self.counts[rows]
+        ends = np.cumsum(counts)
+        return Lists(counts, self.numbers[np.repeat(self.ends[rows] - ends, counts) + np.arange(int(counts.sum()))])
 
 
 class Block:

@@ -13,15 +13,22 @@ from itertools import islice
 from math import isfinite
 from typing import Any, BinaryIO, Callable, Iterator, List, Sequence, Tuple
 
+import numpy as np
+
+from recon.toolbox.blocks import Block, Lists, Numbers
 from recon.toolbox.ply_text import IS_NUMBER, ROW_LIMIT, SCANNER_LIMIT, Property, Reader, Refusal, count_in, decimals
-from recon.toolbox.sieve import Passage
+from recon.toolbox.row_columns import columns_of
+from recon.toolbox.sieve import Mover, Passage
 from recon.toolbox.sources import Source, refuse_others
+from recon.toolbox.text_columns import NotPlain
 from recon.toolbox.text_lines import LONGEST
 from recon.toolbox.tool import number_of, yes
 from recon.toolbox.vectors import turn_of
 
 
 Picture = Tuple[int, List[float]]
+# numbers of fused.ply.vis that are read at a time; a list of pictures has no more
+LISTS = 1 << 17
 
 
 def place_of(turn: Sequence[float], shift: Sequence[float]) -> list[float]:
@@ -102,6 +109,47 @@ def seen_by(file: BinaryIO, count: int, limit: int) -> Iterator[tuple[int, ...]]
         yield numbers
 
 
+class ListReader:
+    """The lists of fused.ply.vis after its count, some thousand at a time."""
+
+    def __init__(self, file: BinaryIO, count: int, limit: int) -> None:
+        head = file.read(8)
+        if len(head) < 8 or struct.unpack('<Q', head)[0] != count:
+            raise NotPlain
+        self.file, self.limit, self.tail = file, limit, np.zeros(0, np.uint32)
+
+    def next_lists(self, count: int) -> Lists:
+        """Returns the next lists, as many as are given."""
+        sizes, numbers = [np.zeros(0, np.int64)], [np.zeros(0, np.int64)]
+        while count:
+            data = b'' if len(self.tail) > LISTS else self.file.read(4 * LISTS)
+            words = np.concatenate([self.tail, np.frombuffer(data, '<u4', len(data) // 4)]).astype(np.uint32)
+            starts, end = list_starts(words, count)
+            if not starts:
+                raise NotPlain
+            is_number = np.ones(end, bool)
+            is_number[starts] = False
+            sizes.append(words[starts].astype(np.int64))
+            numbers.append(words[:end][is_number].astype(np.int64))
+            if int(numbers[-1].max(initial=0)) >= self.limit:
+                raise NotPlain
+            self.tail, count = words[end:], count - len(starts)
+        return Lists(np.concatenate(sizes), np.concatenate(numbers))
+
+
+def list_starts(words: np.ndarray, most: int) -> tuple[list[int], int]:
+    """Returns where the first lists begin that are whole, at most so many, and where the last one ends. Each is its length and as many numbers."""
+    starts: list[int] = []
+    at, end, sizes = 0, len(words), words.data
+    while at < end and len(starts) < most:
+        after = at + 1 + sizes[at]
+        if after > end:
+            break
+        starts.append(at)
+        at = after
+    return starts, at
+
+
 class Colmap(Source):
     """fused.ply of `colmap stereo_fusion`, with fused.ply.vis beside it. All properties are kept."""
     has_lists = True
@@ -124,6 +172,25 @@ class Colmap(Source):
     def remark(self) -> str:
         return f'; {number_of(self.sights, "sight")}'
 
+    def blocks(self) -> Iterator[Block]:
+        try:
+            with open(self.path + '.vis', 'rb') as vis:
+                lists = ListReader(vis, self.count, len(self.places))
+                for block in columns_of(self.reader, self.vertex):
+                    block.columns.append(lists.next_lists(block.count))
+                    yield block
+            self.reader.finish()
+        finally:
+            self.reader.close()
+
+    def kept_blocks(self, mover: Mover) -> Iterator[tuple[Block, np.ndarray]]:
+        for block, rows in super().kept_blocks(mover):
+            self.sights += sights_of(block, rows)
+            yield block, rows
+
+    def close(self) -> None:
+        self.reader.close()
+
     def run(self, receiver: Passage) -> None:
         x, y, z = self.point
         row = 0
@@ -145,8 +212,16 @@ class Colmap(Source):
             self.reader.close()
 
 
+def sights_of(block: Block, rows: np.ndarray) -> int:
+    """Returns how many lines of sight these rows of a block have, whose last column are lists."""
+    lists = block.columns[-1]
+    return int(lists.counts[rows].sum()) if isinstance(lists, Lists) else 0
+
+
 MODEL = ('points3D.bin', 'points3D.txt')
 TRACK_LIMIT = 1 << 20
+# a point of points3D.bin before its track, packed
+POINT = np.dtype([('id', '<u8'), ('place', '<f8', 3), ('color', 'u1', 3), ('error', '<f8'), ('count', '<u8')])
 Track = Tuple[List[str], List[int]]
 
 
@@ -170,6 +245,41 @@ def binary_tracks(file: BinaryIO) -> Iterator[Track]:
         raise Refusal(f'truncated: the file of points ends in point {row}') from None
     if file.read(1):
         raise Refusal('unexpected data after the last point')
+
+
+def track_starts(data: bytes, most: int) -> tuple[list[int], int]:
+    """Returns where the first points of points3D.bin begin that are whole, at most so many, and where the last one ends."""
+    starts: list[int] = []
+    at, count_at = 0, struct.Struct('<Q').unpack_from
+    while at + POINT.itemsize <= len(data) and len(starts) < most:
+        size, = count_at(data, at + POINT.itemsize - 8)
+        if size > TRACK_LIMIT:
+            raise NotPlain
+        if at + POINT.itemsize + 8 * size > len(data):
+            break
+        starts.append(at)
+        at += POINT.itemsize + 8 * size
+    return starts, at
+
+
+def track_parts(file: BinaryIO) -> Iterator[tuple[np.ndarray, np.ndarray]]:
+    """Yields the points of points3D.bin in blocks (n,), and the numbers of the pictures of all their tracks."""
+    head = file.read(8)
+    count, tail = struct.unpack('<Q', head)[0] if len(head) == 8 else 1, b''
+    while count:
+        more = file.read(8 * LISTS)
+        data = tail + more
+        starts, end = track_starts(data, count)
+        if not starts and not more:
+            raise NotPlain
+        letters = np.frombuffer(data, np.uint8, end)
+        places = np.array(starts, np.int64)[:, None] + np.arange(POINT.itemsize)
+        is_track = np.ones(end, bool)
+        is_track[places] = False
+        yield letters[places].view(POINT).ravel(), np.frombuffer(letters[is_track].tobytes(), '<u4')[::2]
+        tail, count = data[end:], count - len(starts)
+    if tail or file.read(1):
+        raise NotPlain
 
 
 def text_tracks(file: BinaryIO) -> Iterator[Track]:
@@ -213,6 +323,32 @@ class Sparse(Source):
             return sorted({self.number[identity] for identity in track})
         except KeyError as missing:
             raise Refusal(f'point {self.count - 1} is seen by image {missing}, which is not in {self.images}') from None
+
+    def blocks(self) -> Iterator[Block]:
+        if not self.path.endswith('.bin'):
+            raise NotPlain
+        with open(self.path, 'rb') as file:
+            for points, pictures in track_parts(file):
+                lists = self.lists_of(points['count'].astype(np.int64), pictures)
+                block = Block([*map(Numbers, points['place'].T), *map(Numbers, points['color'].T), lists], len(points), lists.counts == 0)
+                self.count += len(points)
+                self.counts['seen by no image'] += int(np.count_nonzero((lists.counts == 0) & np.isfinite(points['place']).all(axis=1)))
+                yield block
+
+    def kept_blocks(self, mover: Mover) -> Iterator[tuple[Block, np.ndarray]]:
+        for block, rows in super().kept_blocks(mover):
+            self.sights += sights_of(block, rows)
+            yield block, rows
+
+    def lists_of(self, counts: np.ndarray, pictures: np.ndarray) -> Lists:
+        """Returns the rows of the pictures of tracks, each once."""
+        known = np.array(sorted(self.number), np.int64)
+        rows = np.array([self.number[identity] for identity in known.tolist()], np.int64)
+        at = np.minimum(np.searchsorted(known, pictures), len(known) - 1)
+        if (known[at] != pictures).any():
+            raise NotPlain
+        pairs = np.unique(np.repeat(np.arange(len(counts)), counts) * SCANNER_LIMIT + rows[at])
+        return Lists(np.bincount(pairs // SCANNER_LIMIT, minlength=len(counts)), pairs % SCANNER_LIMIT)
 
     def run(self, receiver: Passage) -> None:
         def place() -> str:

@@ -8,6 +8,8 @@ from __future__ import annotations
 from bisect import bisect_right
 from math import isfinite
 
+import numpy as np
+
 from recon.toolbox.ply_text import IS_NUMBER, SCANNER_LIMIT, Refusal
 from recon.toolbox.sieve import Box
 
@@ -53,7 +55,23 @@ class Flight:
         if not self.times[0] <= time <= self.times[-1]:
             return None
         row = min(bisect_right(self.times, time) - 1, len(self.times) - 2)
-        part = round((time - self.times[row]) / (self.times[row + 1] - self.times[row]) * self.parts)
+        return self.number_on(row, round((time - self.times[row]) / (self.times[row + 1] - self.times[row]) * self.parts))
+
+    def all_numbers(self, times: np.ndarray) -> np.ndarray:
+        """Returns the same for times (n,): -1 where the flight was not on."""
+        known = np.flatnonzero((times >= self.times[0]) & (times <= self.times[-1]))
+        numbers, lines = np.full(len(times), -1), np.array(self.times)
+        rows = np.minimum(np.searchsorted(lines, times[known], 'right') - 1, len(lines) - 2)
+        parts = np.rint((times[known] - lines[rows]) / (lines[rows + 1] - lines[rows]) * self.parts).astype(np.int64)
+        _, first, places = np.unique(rows * self.parts + parts, return_index=True, return_inverse=True)
+        found = np.zeros(len(first), np.int64)
+        for k in np.argsort(first).tolist():
+            found[k] = int(self.number_on(int(rows[first[k]]), int(parts[first[k]])))
+        numbers[known] = found[places]
+        return numbers
+
+    def number_on(self, row: int, part: int) -> str:
+        """Returns the number of the position after so many parts of the way from a line to the next."""
         key = row * self.parts + part
         if key not in self.numbers:
             self.numbers[key] = str(len(self.positions))

@@ -8,15 +8,18 @@ would stand in one cube and whose normals point the same way share one (recon.si
 from __future__ import annotations
 
 from array import array
-from math import hypot, isfinite
+from math import isfinite, sqrt
 from typing import Any, Iterator, Sequence
 
 import numpy as np
 
+from recon.toolbox.blocks import Block, Numbers
 from recon.toolbox.ply_text import IS_NOT_FINITE, IS_NUMBER, Property, Refusal
 from recon.toolbox.point_files import has_rows, open_points
+from recon.toolbox.row_columns import columns_of, text_block
 from recon.toolbox.sieve import Mover, Passage, length_of
 from recon.toolbox.sources import Source, refuse_others
+from recon.toolbox.text_columns import LineParts, TextRows
 from recon.toolbox.text_lines import Lines
 from recon.toolbox.tool import number_of, yes
 
@@ -52,6 +55,16 @@ class NumberList:
             lines.close()
 
 
+    def blocks(self) -> Iterator[Block]:
+        """Yields the rows in blocks."""
+        with open(self.path, 'rb') as file:
+            lines = LineParts(file, self.open_end)
+            part = lines.part()
+            while part:
+                yield text_block(TextRows(part, self.width))
+                part = lines.part()
+
+
 class Points:
     """A file of rows, as PLY or PCD, whose points have normals."""
 
@@ -83,6 +96,21 @@ class Points:
             reader.close()
 
 
+    def blocks(self) -> Iterator[Block]:
+        """Yields the rows in blocks."""
+        reader = open_points(self.path, self.open_end)
+        try:
+            for element in reader.elements:
+                if element.name == 'vertex':
+                    yield from columns_of(reader, element)
+                else:
+                    for _ in reader.rows(element):
+                        pass
+            reader.finish()
+        finally:
+            reader.close()
+
+
 def numbers_of(row: int, words: Sequence[str]) -> list[float] | None:
     """Returns the six numbers of a row, or None where one is not finite."""
     for word in words:
@@ -94,29 +122,50 @@ def numbers_of(row: int, words: Sequence[str]) -> list[float] | None:
     return values if all(map(isfinite, values)) else None
 
 
+def direction_of(x: float, y: float, z: float) -> list[float] | None:
+    """Returns a normal at length 1. Returns None for 0 0 0, and for a length that leaves the range of floating point."""
+    most = max(abs(x), abs(y), abs(z))
+    if not most:
+        return None
+    a, b, c = x / most, y / most, z / most
+    long = sqrt(a * a + b * b + c * c)
+    return [a / long, b / long, c / long] if isfinite(most * long) else None
+
+
+def directions(normals: np.ndarray) -> tuple[np.ndarray, np.ndarray]:
+    """Returns the same of normals (n, 3), and which have one."""
+    most = np.abs(normals).max(axis=1, initial=0)
+    with np.errstate(all='ignore'):
+        a, b, c = (normals / most[:, None]).T
+        long = np.sqrt(a * a + b * b + c * c)
+        is_one = (most > 0) & np.isfinite(most * long)
+        return np.stack([a / long, b / long, c / long], axis=1), is_one
+
+
 class Cloud:
     """The points that have a normal: their places, and their directions at length 1."""
 
-    def __init__(self, source: NumberList | Points, mover: Mover) -> None:
+    def __init__(self) -> None:
         self.places, self.directions = [array('d') for _ in range(3)], [array('d') for _ in range(3)]
         self.is_kept, self.counts = bytearray(), {'not finite': 0, 'without a normal': 0}
-        for row, words in enumerate(source.rows()):
-            self.add(numbers_of(row, [words[k] for k in source.columns]), mover)
 
     def add(self, values: list[float] | None, mover: Mover) -> None:
-        long = 0.0 if values is None else hypot(*values[3:])
-        # a normal whose length, or whose part of it, leaves the range of floating point is none
-        if values is None or not isfinite(long) or not any(x / long for x in values[3:] if long):
+        """Takes the place and the normal of a point; nothing for one that has numbers that are not finite."""
+        way = None if values is None else direction_of(*values[3:])
+        if values is None or way is None:
             self.counts['not finite' if values is None else 'without a normal'] += 1
             self.is_kept.append(0)
             return
         self.is_kept.append(mover.takes(*values[:3]))
-        if not self.is_kept[-1]:
-            return
-        for column, value in zip(self.places, values):
-            column.append(value)
-        for column, value in zip(self.directions, values[3:]):
-            column.append(value / long)
+        if self.is_kept[-1]:
+            for column, value in zip([*self.places, *self.directions], [*values[:3], *way]):
+                column.append(value)
+
+    def add_rows(self, values: np.ndarray) -> None:
+        """Takes places and normals (n, 6) of points that are kept."""
+        ways, _ = directions(values[:, 3:])
+        for column, part in zip([*self.places, *self.directions], [*values[:, :3].T, *ways.T]):
+            column.frombytes(np.ascontiguousarray(part).tobytes())
 
     def scanners(self, word: str | None) -> tuple[float, np.ndarray, np.ndarray]:
         """Returns how far off scanners stand, where, and the number of the scanner of each point."""
@@ -143,17 +192,47 @@ class Normals(Source):
         self.far, self.unit = 0.0, 1
 
     def run(self, receiver: Passage) -> None:
-        cloud = Cloud(self.file, receiver.mover)
+        cloud = Cloud()
+        for row, words in enumerate(self.file.rows()):
+            cloud.add(numbers_of(row, [words[k] for k in self.file.columns]), receiver.mover)
         self.count, self.counts = len(cloud.is_kept), cloud.counts
-        if not cloud.places[0]:
-            raise Refusal('no point has a finite normal other than 0 0 0')
-        self.far, scanners, numbers = cloud.scanners(self.word)
-        indices = iter(numbers.tolist())
+        indices = iter(self.placed(cloud, receiver.mover).tolist())
         for words, kept in zip(self.file.rows(), cloud.is_kept):
             if kept:
                 receiver.put(words + [str(next(indices))])
+
+    def kept_blocks(self, mover: Mover) -> Iterator[tuple[Block, np.ndarray]]:
+        cloud, kept = Cloud(), []
+        self.counts = cloud.counts
+        for block in self.file.blocks():
+            self.count += block.count
+            values = np.stack([block.columns[k].floats() for k in self.file.columns], axis=1)
+            kept.append(self.with_normals(block, values, mover))
+            cloud.add_rows(values[kept[-1]])
+        numbers = self.placed(cloud, mover)
+        for block, rows in zip(self.file.blocks(), kept):
+            scanners = np.zeros(block.count, np.int64)
+            scanners[rows], numbers = numbers[:len(rows)], numbers[len(rows):]
+            block.columns.append(Numbers(scanners))
+            yield block, rows
+
+    def with_normals(self, block: Block, values: np.ndarray, mover: Mover) -> np.ndarray:
+        """Returns the rows of a block that are kept, all with a normal. `values` are their places and normals."""
+        are_places, are_normals = (np.isfinite(part).all(axis=1) for part in (values[:, :3], values[:, 3:]))
+        has_normal = are_normals & directions(values[:, 3:])[1]
+        block.left_out = ~has_normal
+        self.counts['not finite'] += int(np.count_nonzero(are_places & ~are_normals))
+        self.counts['without a normal'] += int(np.count_nonzero(are_places & are_normals & ~has_normal))
+        return mover.kept(self, block)
+
+    def placed(self, cloud: Cloud, mover: Mover) -> np.ndarray:
+        """Chooses where the scanners stand, and returns the number of that of each point that is kept."""
+        if not cloud.places[0]:
+            raise Refusal('no point has a finite normal other than 0 0 0')
+        self.far, scanners, numbers = cloud.scanners(self.word)
         self.positions = [list(map(repr, scanner)) for scanner in scanners.tolist()]
-        self.unit = self.unit_for(np.concatenate([np.stack(list(map(np.frombuffer, cloud.places)), axis=1), scanners]), receiver.mover)
+        self.unit = self.unit_for(np.concatenate([np.stack(list(map(np.frombuffer, cloud.places)), axis=1), scanners]), mover)
+        return numbers
 
     def unit_for(self, places: np.ndarray, mover: Mover) -> int:
         """Returns the power of ten with 100 to 1000 units to the way of a scanner, less where all would be out of range."""

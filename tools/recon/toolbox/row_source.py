@@ -8,7 +8,7 @@ from typing import Any, Callable, Iterator, Sequence
 
 import numpy as np
 
-from recon.toolbox.blocks import Block, Numbers, constant, finite_points
+from recon.toolbox.blocks import Block, Column, Numbers, constant, finite_points
 from recon.toolbox.flight import TIMES, Above, Flight
 from recon.toolbox.ply_text import (ARE_THREE, FORMATS, IS_NUMBER, IS_WHOLE, SCANNER_LIMIT, Element, Property, Refusal, decimals, index_text,
                               read_positions)
@@ -293,15 +293,25 @@ class Airborne(OfReader):
         self.counts['before or after the flight'] = unknown
 
     def blocks(self) -> Iterator[Block]:
-        if self.flight:
-            raise NotPlain
         self.counts['before or after the flight'] = 0
         for block in self.element_blocks():
             self.check_weights(block)
-            self.above.box.show_all(finite_points(block, self.point))
-            block.columns.append(constant(0, block.count))
+            if self.flight:
+                block.columns.append(self.numbers_of(block, self.flight))
+            else:
+                self.above.box.show_all(finite_points(block, self.point))
+                block.columns.append(constant(0, block.count))
             yield block
-        self.positions = [self.above.position()]
+        self.positions = list(self.flight.positions) if self.flight else [self.above.position()]
+
+    def numbers_of(self, block: Block, flight: Flight) -> Column:
+        """Returns the positions of the points of a block, and leaves out those that were not seen on the flight."""
+        rows = np.flatnonzero(np.logical_and.reduce([np.isfinite(block.columns[k].floats()) for k in self.point]))
+        numbers = np.full(block.count, -1)
+        numbers[rows] = flight.all_numbers(block.columns[self.time or 0].floats()[rows])
+        block.left_out = numbers < 0
+        self.counts['before or after the flight'] += int(np.count_nonzero(block.left_out[rows]))
+        return Numbers(numbers)
 
     def remark(self) -> str:
         return '' if self.flight else self.above.remark()

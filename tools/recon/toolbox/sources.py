@@ -7,13 +7,15 @@ from __future__ import annotations
 
 from typing import TYPE_CHECKING, Any, Iterator, Sequence
 
+import numpy as np
+
 from recon.toolbox.ply_text import Property, Refusal
 from recon.toolbox.text_columns import NotPlain
 from recon.toolbox.tool import number_of
 
 if TYPE_CHECKING:
     from recon.toolbox.blocks import Block
-    from recon.toolbox.sieve import Passage
+    from recon.toolbox.sieve import Mover, Passage
 
 READING = ('scanner', 'table', 'index', 'positions', 'position', 'images', 'normals', 'far', 'above', 'flight', 'open_end')
 
@@ -47,6 +49,11 @@ class Source:
         """Yields all rows in blocks, which is faster than `run`. Raises `NotPlain`, also after some blocks, where only that reads them; errors without
         their place are of this kind too."""
         raise NotPlain
+
+    def kept_blocks(self, mover: Mover) -> Iterator[tuple[Block, np.ndarray]]:
+        """Yields the same, each with the numbers of the rows that are kept."""
+        for block in self.blocks():
+            yield block, mover.kept(self, block)
 
     def close(self) -> None:
         """Closes the files of a source that is not read to its end."""
