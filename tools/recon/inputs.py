@@ -22,6 +22,8 @@ from recon.toolbox.point_files import has_rows
 from recon.toolbox.ply_text import Refusal
 from recon.toolbox.seen import Views, views_of
 from recon.toolbox.sieve import InBox
+from recon.toolbox.text_layout import NORMALS
+from recon.toolbox.text_points import start_of_list
 from recon.toolbox.tool import field, number_of
 
 FAR, SAMPLE = 1e150, 40_000
@@ -184,8 +186,12 @@ def with_normals(inputs: Inputs) -> Table:
     """The points of one file with their normals."""
     if len(inputs.names) != 1:
         raise Refusal('--normals requires a single file')
-    if has_rows(inputs.names[0]):
+    name = inputs.names[0]
+    if has_rows(name):
         return inputs.scanned(inputs.names)
+    start = start_of_list(name, False)
+    if start is not None and start.layout.has(NORMALS):
+        return inputs.scanned([name + '=0,0,0'])
     return inputs.scanned(inputs.names, normals='yes', far='1')
 
 

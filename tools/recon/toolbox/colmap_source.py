@@ -14,6 +14,7 @@ from math import isfinite
 from typing import Any, BinaryIO, Callable, Iterator, List, Sequence, Tuple
 
 import numpy as np
+from numpy.lib.stride_tricks import sliding_window_view
 
 from recon.toolbox.blocks import Block, Lists, Numbers
 from recon.toolbox.ply_text import IS_NUMBER, ROW_LIMIT, SCANNER_LIMIT, Property, Reader, Refusal, count_in, decimals
@@ -138,7 +139,7 @@ class ListReader:
 
 
 def list_starts(words: np.ndarray, most: int) -> tuple[list[int], int]:
-    """Returns where the first lists begin that are whole, at most so many, and where the last one ends. Each is its length and as many numbers."""
+    """Returns where the first whole lists begin, at most `most`, and where the last one ends. Each is its length, and then its numbers."""
     starts: list[int] = []
     at, end, sizes = 0, len(words), words.data
     while at < end and len(starts) < most:
@@ -248,7 +249,7 @@ def binary_tracks(file: BinaryIO) -> Iterator[Track]:
 
 
 def track_starts(data: bytes, most: int) -> tuple[list[int], int]:
-    """Returns where the first points of points3D.bin begin that are whole, at most so many, and where the last one ends."""
+    """Returns where the first whole points of points3D.bin begin, at most `most`, and where the last one ends."""
     starts: list[int] = []
     at, count_at = 0, struct.Struct('<Q').unpack_from
     while at + POINT.itemsize <= len(data) and len(starts) < most:
@@ -272,11 +273,12 @@ def track_parts(file: BinaryIO) -> Iterator[tuple[np.ndarray, np.ndarray]]:
         starts, end = track_starts(data, count)
         if not starts and not more:
             raise NotPlain
-        letters = np.frombuffer(data, np.uint8, end)
-        places = np.array(starts, np.int64)[:, None] + np.arange(POINT.itemsize)
-        is_track = np.ones(end, bool)
-        is_track[places] = False
-        yield letters[places].view(POINT).ravel(), np.frombuffer(letters[is_track].tobytes(), '<u4')[::2]
+        first = np.array(starts, np.int64)
+        points = sliding_window_view(np.frombuffer(data, np.uint8, end), POINT.itemsize)[first].view(POINT).ravel() if starts else np.zeros(0, POINT)
+        sizes = points['count'].astype(np.int64)
+        offsets = np.repeat(first + POINT.itemsize - 8 * (np.cumsum(sizes) - sizes), sizes) + 8 * np.arange(int(sizes.sum()))
+        pictures: np.ndarray = np.ndarray(max(end - 3, 0), '<u4', data, 0, (1,))
+        yield points, pictures[offsets]
         tail, count = data[end:], count - len(starts)
     if tail or file.read(1):
         raise NotPlain
@@ -347,7 +349,9 @@ class Sparse(Source):
         at = np.minimum(np.searchsorted(known, pictures), len(known) - 1)
         if (known[at] != pictures).any():
             raise NotPlain
-        pairs = np.unique(np.repeat(np.arange(len(counts)), counts) * SCANNER_LIMIT + rows[at])
+        pairs = np.repeat(np.arange(len(counts)), counts) * SCANNER_LIMIT + rows[at]
+        if not (pairs[1:] > pairs[:-1]).all():
+            pairs = np.unique(pairs)
         return Lists(np.bincount(pairs // SCANNER_LIMIT, minlength=len(counts)), pairs % SCANNER_LIMIT)
 
     def run(self, receiver: Passage) -> None:

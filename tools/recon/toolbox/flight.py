@@ -33,6 +33,7 @@ class Flight:
         self.times, self.places = self.times[::step], self.places[::step]
         self.parts = min(FINEST, max(1, SCANNER_LIMIT // len(self.times)))
         self.numbers: dict[int, str] = {}
+        self.table = np.full(len(self.times) * self.parts + 1, -1)
         self.positions: list[list[str]] = []
 
     def read(self, path: str) -> None:
@@ -63,15 +64,15 @@ class Flight:
         numbers, lines = np.full(len(times), -1), np.array(self.times)
         rows = np.minimum(np.searchsorted(lines, times[known], 'right') - 1, len(lines) - 2)
         parts = np.rint((times[known] - lines[rows]) / (lines[rows + 1] - lines[rows]) * self.parts).astype(np.int64)
-        _, first, places = np.unique(rows * self.parts + parts, return_index=True, return_inverse=True)
-        found = np.zeros(len(first), np.int64)
-        for k in np.argsort(first).tolist():
-            found[k] = int(self.number_on(int(rows[first[k]]), int(parts[first[k]])))
-        numbers[known] = found[places]
+        keys = rows * self.parts + parts
+        new = np.flatnonzero(self.table[keys] < 0)
+        for k in new[np.sort(np.unique(keys[new], return_index=True)[1])].tolist():
+            self.table[keys[k]] = int(self.number_on(int(rows[k]), int(parts[k])))
+        numbers[known] = self.table[keys]
         return numbers
 
     def number_on(self, row: int, part: int) -> str:
-        """Returns the number of the position after so many parts of the way from a line to the next."""
+        """Returns the number of the position after `part` parts of the way from a line to the next."""
         key = row * self.parts + part
         if key not in self.numbers:
             self.numbers[key] = str(len(self.positions))
