@@ -1,8 +1,12 @@
-"""Files as other programs write them, for tests, for fuzzing, for the commands of pages and for measurements: PLY, LAS, E57, COLMAP."""
+"""Samples for tests, for fuzzing and for measurements: files as other programs write them (PLY, LAS, E57, COLMAP), and small meshes."""
 from __future__ import annotations
 
+import itertools
 import struct
+from collections import Counter
 from collections.abc import Iterable, Sequence
+from random import Random
+from typing import Any
 
 CODES = {'float': 'f', 'double': 'd', 'uchar': 'B', 'short': 'h', 'int': 'i'}
 PAGE, CHECKSUM = 1020, b'\0\0\0\0'
@@ -80,3 +84,43 @@ def images_bin(pictures: Iterable[tuple[int, Sequence[float], str, bytes]]) -> b
     rows = [struct.pack('<I7dI', number, *pose, 1) + name.encode() + b'\0' + struct.pack('<Q', len(points) // 24) + points
             for number, pose, name, points in pictures]
     return struct.pack('<Q', len(rows)) + b''.join(rows)
+
+
+def mesh_text(points: Sequence[Any], faces: Sequence[Any]) -> str:
+    """Returns a mesh as `recon build` writes it, the smallest index of each face first."""
+    lines = ['ply', 'format ascii 1.0', f'element vertex {len(points)}', 'property int x', 'property int y', 'property int z',
+             f'element face {len(faces)}', 'property list uchar int vertex_indices', 'end_header']
+    rows = [min((*face[k:], *face[:k]) for k in range(3)) for face in faces]
+    return '\n'.join([*lines, *(' '.join(map(str, point)) for point in points), *('3 ' + ' '.join(map(str, row)) for row in rows), ''])
+
+
+def mesh_of(text: str) -> tuple[list[tuple[int, ...]], list[tuple[int, ...]]]:
+    """Returns the points and faces of a mesh's text."""
+    head, body = text.split('end_header\n')
+    rows = [tuple(map(int, line.split())) for line in body.splitlines()]
+    count = int(head.split('element vertex ')[1].split()[0])
+    return rows[:count], [row[1:] for row in rows[count:]]
+
+
+def edges_of(faces: Sequence[Any]) -> Counter[tuple[int, int]]:
+    """Returns how often each directed edge occurs."""
+    return Counter(pair for a, b, c in faces for pair in ((a, b), (b, c), (c, a)))
+
+
+def ball(count: int, size: int, roughness: float = 0, draw: Random | None = None) -> Any:
+    """Returns a closed mesh of a cube's sides cut into squares of two triangles each, drawn out to a ball, or not if `roughness` is below 0."""
+    draw, number, faces = draw or Random(1), dict[tuple[int, ...], int](), []
+    for axis, end, i, j in itertools.product(range(3), (0, count), range(count), range(count)):
+        corners = []
+        for u, v in ((0, 0), (1, 0), (1, 1), (0, 1)):
+            place = [0, 0, 0]
+            place[axis], place[(axis + 1) % 3], place[(axis + 2) % 3] = end, i + u, j + v
+            corners.append(number.setdefault(tuple(place), len(number)))
+        a, b, c, d = corners if end else corners[::-1]
+        faces += [(a, b, c), (a, c, d)] if draw.random() < 0.5 else [(b, c, d), (b, d, a)]
+    points = []
+    for key in number:
+        far = [2 * x / count - 1 for x in key]
+        long = 1 if roughness < 0 else sum(x * x for x in far) ** 0.5 / (1 + draw.uniform(-roughness, roughness))
+        points.append(tuple(round(x / long * size) for x in far))
+    return points, faces

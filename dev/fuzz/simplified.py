@@ -4,12 +4,12 @@ Distances are computed with fractions of the point of a triangle that is nearest
 """
 from __future__ import annotations
 
-from collections import Counter
 from fractions import Fraction
 from itertools import combinations
 from typing import Sequence
 
 from bench.crossing import cross
+from samples import edges_of
 
 Place = Sequence[int]
 Face = Sequence[int]
@@ -53,11 +53,6 @@ def has_area(a: Place, b: Place, c: Place) -> bool:
     """Returns whether a triangle has an area."""
     u, v = less(b, a), less(c, a)
     return dot(u, u) * dot(v, v) > dot(u, v) * dot(u, v)
-
-
-def edges_of(faces: Sequence[Face]) -> Counter[tuple[int, int]]:
-    """Returns how often each directed edge occurs."""
-    return Counter(pair for a, b, c in faces for pair in ((a, b), (b, c), (c, a)))
 
 
 def repeats(faces: Sequence[Face]) -> bool:

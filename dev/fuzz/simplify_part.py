@@ -2,60 +2,18 @@
 faces' planes, flat regions, slivers, meshes with faces that cross, and pieces inside one another."""
 from __future__ import annotations
 
-import os
 from itertools import product
 from random import Random
 from typing import Sequence
 
+from samples import ball, mesh_of, mesh_text
+
+from .meshes_part import mesh_program
 from .runs import Folder
 from .simplified import Face, Mesh, Place, faults
 from .tally import Context, Tally
 
-TOP = os.path.dirname(os.path.dirname(os.path.dirname(os.path.abspath(__file__))))
-PLACES = [os.path.join(TOP, 'recon-mesh'), os.path.join(TOP, 'crates/mesh_main/out/mesh_main')]
 LIMIT = 8388608
-
-
-def program() -> str | None:
-    """Returns the program, if it is built."""
-    return next((path for path in [os.environ.get('RECON_MESH', ''), *PLACES] if os.access(path, os.X_OK)), None)
-
-
-def text_of(mesh: Mesh) -> bytes:
-    """Returns a mesh as `recon build` writes it."""
-    places, faces = mesh
-    head = ['ply', 'format ascii 1.0', f'element vertex {len(places)}', 'property int x', 'property int y', 'property int z',
-            f'element face {len(faces)}', 'property list uchar int vertex_indices', 'end_header']
-    turned = [min((tuple(face[k:]) + tuple(face[:k]) for k in range(3))) for face in faces]
-    return '\n'.join(head + [' '.join(map(str, p)) for p in places] + ['3 ' + ' '.join(map(str, f)) for f in turned] + ['']).encode()
-
-
-def mesh_of(text: bytes) -> Mesh:
-    """Returns the mesh that a text is."""
-    head, body = text.decode().split('end_header\n')
-    rows = [tuple(map(int, line.split())) for line in body.splitlines()]
-    count = int(head.split('element vertex ')[1].split()[0])
-    return rows[:count], [row[1:] for row in rows[count:]]
-
-
-def ball(draw: Random, count: int, size: int, roughness: float) -> Mesh:
-    """Returns a closed mesh of a cube's sides cut into squares of two triangles each, drawn out to a ball."""
-    number: dict[tuple[int, ...], int] = {}
-    faces: list[Face] = []
-    for axis, end, i, j in product(range(3), (0, count), range(count), range(count)):
-        corners = []
-        for u, v in ((0, 0), (1, 0), (1, 1), (0, 1)):
-            place = [0, 0, 0]
-            place[axis], place[(axis + 1) % 3], place[(axis + 2) % 3] = end, i + u, j + v
-            corners.append(number.setdefault(tuple(place), len(number)))
-        a, b, c, d = corners if end else corners[::-1]
-        faces += [(a, b, c), (a, c, d)] if draw.random() < 0.5 else [(b, c, d), (b, d, a)]
-    places = []
-    for key in number:
-        far = [2 * x / count - 1 for x in key]
-        long = 1 if roughness < 0 else sum(x * x for x in far) ** 0.5 / (1 + draw.uniform(-roughness, roughness))
-        places.append(tuple(round(x / long * size) for x in far))
-    return places, faces
 
 
 def boxes(draw: Random, size: int) -> Mesh:
@@ -103,12 +61,13 @@ def drawn(draw: Random) -> Mesh:
     if kind == 0:
         return moved(boxes(draw, size), draw, draw.choice((0, 0, size // 4)))
     if kind == 1:
-        return joined([ball(draw, draw.randint(1, 4), size, 0.1), ball(draw, draw.randint(1, 3), size // 2, 0.2)])
+        return joined([ball(draw.randint(1, 4), size, 0.1, draw), ball(draw.randint(1, 3), size // 2, 0.2, draw)])
     if kind == 2:
-        return moved(ball(draw, draw.randint(1, 5), size, draw.choice((-1, 0.0))), draw, draw.choice((0, 1, size // 3)))
+        return moved(ball(draw.randint(1, 5), size, draw.choice((-1, 0.0)), draw), draw, draw.choice((0, 1, size // 3)))
     if kind == 3:
-        return ball(draw, draw.randint(2, 6), size, -1)
-    return ball(draw, draw.randint(2, 6), size, draw.choice((0.0, 0.05, 0.3, 0.9)))
+        return ball(draw.randint(2, 6), size, -1, draw)
+    mesh: Mesh = ball(draw.randint(2, 6), size, draw.choice((0.0, 0.05, 0.3, 0.9)), draw)
+    return mesh
 
 
 def tried(context: Context, tally: Tally, folder: Folder, path: str) -> None:
@@ -118,7 +77,7 @@ def tried(context: Context, tally: Tally, folder: Folder, path: str) -> None:
     reach = max(max(map(abs, p)) for p in old[0]) or 1
     within = min(LIMIT, max(1, int(reach * draw.choice((0.0, 0.01, 0.1, 0.5, 2.0)))))
     options = [f'within={within}', *([f'faces={draw.randint(1, len(old[1]))}'] if draw.random() < 0.5 else [])]
-    files = {'in': text_of(old)}
+    files = {'in': mesh_text(*old).encode()}
     folder.put(files)
     done = folder.run([path, 'simplify', 'in', 'out', *options], 60)
     tally.runs += 1
@@ -127,7 +86,7 @@ def tried(context: Context, tally: Tally, folder: Folder, path: str) -> None:
     if done.status != 0 or written is None:
         tally.fail('a closed mesh is not simplified', command, files, str(done))
         return
-    new = mesh_of(written)
+    new = mesh_of(written.decode())
     line = f'simplified points {len(new[0])} faces {len(new[1])}\n'.encode()
     least = int(options[1][6:]) if len(options) > 1 else 0
     wrong = faults(old, new, within) + ([] if done.out == line else ['the line is wrong'])
@@ -141,8 +100,8 @@ def tried(context: Context, tally: Tally, folder: Folder, path: str) -> None:
 
 def run(context: Context, tally: Tally) -> None:
     """Simplifies meshes until the time is over."""
-    path = program()
-    if path is None:
+    path = mesh_program(context.recon)
+    if not path:
         tally.note('recon-mesh is not built')
         return
     folder = Folder()

@@ -19,43 +19,9 @@ from helpers import PACKAGE, RECON, RECON_MESH, InFolder, call, equal, head, ref
 from bench.crossing import cross, orient
 from recon.toolbox.vectors import axes, normal
 from bench.triangles import crossing
-
-
-def mesh_text(places: Sequence[Any], faces: Sequence[Any]) -> str:
-    """Returns a mesh as `recon build` writes it, the smallest index of each face first."""
-    lines = ['ply', 'format ascii 1.0', f'element vertex {len(places)}', 'property int x', 'property int y', 'property int z',
-             f'element face {len(faces)}', 'property list uchar int vertex_indices', 'end_header']
-    first = [min(range(3), key=lambda k: face[k]) for face in faces]
-    rows = [(*face[k:], *face[:k]) for face, k in zip(faces, first)]
-    lines += [' '.join(map(str, place)) for place in places] + ['3 ' + ' '.join(map(str, row)) for row in rows]
-    return '\n'.join(lines + [''])
-
+from samples import ball, mesh_text
 
 TETRAHEDRON = [(0, 2, 1), (0, 1, 3), (0, 3, 2), (1, 2, 3)]
-
-
-def ball(count: int, size: int, roughness: float = 0, seed: int = 1) -> Any:
-    """Returns a closed mesh of a cube's sides cut into squares of two triangles each, drawn out to a ball."""
-    draw, places, faces = random.Random(seed), {}, []
-
-    def number(place: Sequence[Any]) -> int:
-        return places.setdefault(place, len(places))
-
-    for axis, end, i, j in itertools.product(range(3), (0, count), range(count), range(count)):
-        corners = []
-        for u, v in ((0, 0), (1, 0), (1, 1), (0, 1)):
-            place = [0, 0, 0]
-            place[axis], place[(axis + 1) % 3], place[(axis + 2) % 3] = end, i + u, j + v
-            corners.append(number(tuple(place)))
-        corners = corners if end else corners[::-1]
-        a, b, c, d = corners if draw.random() < 0.5 else corners[1:] + corners[:1]
-        faces += [(a, b, c), (a, c, d)]
-    spots = []
-    for place in places:
-        far = [2 * x / count - 1 for x in place]
-        long = sum(x * x for x in far) ** 0.5 / (1 + draw.uniform(-roughness, roughness))
-        spots.append(tuple(round(x / long * size) for x in far))
-    return spots, faces
 
 
 def flat(faces: Sequence[Any]) -> list[int]:

@@ -6,7 +6,7 @@ import unittest
 from typing import Any, Sequence
 
 from helpers import InFolder, call, equal, read, write
-from test_finish import ball, mesh_text
+from samples import ball, mesh_text
 
 try:
     import numpy as np

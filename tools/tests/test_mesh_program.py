@@ -15,7 +15,8 @@ from typing import Any, Sequence
 import numpy as np
 
 from helpers import RECON_MESH, InFolder, equal, read, write
-from test_finish import ball, crossing_pairs, flat, mesh_text, total_angle
+from samples import ball, edges_of, mesh_of, mesh_text
+from test_finish import crossing_pairs, flat, total_angle
 
 Place = tuple[int, int, int]
 Solid = tuple[list[Place], list[tuple[int, ...]]]
@@ -121,19 +122,6 @@ def mesh_program(*words: str) -> Any:
     """Status, standard output and standard error of a run."""
     done = subprocess.run([RECON_MESH, *words], capture_output=True, text=True, timeout=60)
     return done.returncode, done.stdout, done.stderr
-
-
-def rows_of(text: str) -> tuple[list[tuple[int, ...]], list[tuple[int, ...]]]:
-    """Returns the points and faces of a mesh's text."""
-    lines = text.split('end_header\n')[1].splitlines()
-    rows = [tuple(map(int, line.split())) for line in lines]
-    count = int(text.split('element vertex ')[1].split()[0])
-    return rows[:count], [row[1:] for row in rows[count:]]
-
-
-def edges_of(faces: Sequence[Any]) -> Counter[tuple[int, int]]:
-    """Returns how often each directed edge occurs."""
-    return Counter(pair for a, b, c in faces for pair in ((a, b), (b, c), (c, a)))
 
 
 @unittest.skipUnless(RECON_MESH, 'recon-mesh is not built here')
@@ -267,7 +255,7 @@ class MeshProgram(InFolder):
             faces = [turned(face) for face in faces]
             write('mesh.ply', mesh_text(places, faces))
             equal(mesh_program('finish', 'mesh.ply', 'out.ply'), (0, f'finished points {len(places)} faces {len(faces)}\n', ''))
-            points, finished = rows_of(read('out.ply'))
+            points, finished = mesh_of(read('out.ply'))
             equal(points, [tuple(place) for place in places])
             equal(edges_of(finished), Counter((b, a) for a, b in edges_of(finished).elements()))
             equal(set(edges_of(finished).values()), {1})
@@ -289,12 +277,12 @@ class MeshProgram(InFolder):
             for options in (('smooth=3', f'within={within}'), (f'within={within}', 'flips=no', 'smooth=1')):
                 line = f'finished points {len(places)} faces {len(faces)} fine {fine}\n'
                 equal(mesh_program('finish', 'mesh.ply', 'out.ply', *options), (0, line, ''))
-                points, finished = rows_of(read('out.ply'))
+                points, finished = mesh_of(read('out.ply'))
                 home = [tuple(fine * x for x in place) for place in places]
                 equal(max(sum(x * x for x in difference(p, q)) for p, q in zip(home, points)) <= (fine * within) ** 2, True)
                 equal(edges_of(finished), Counter((b, a) for a, b in edges_of(finished).elements()))
                 equal(set(edges_of(finished).values()), {1})
-                start = faces if 'flips=no' in options else rows_of(read('flat.ply'))[1]
+                start = faces if 'flips=no' in options else mesh_of(read('flat.ply'))[1]
                 equal(finished == faces, 'flips=no' in options)
                 before, after = np.array(flat(start)), np.array(flat(finished))
                 equal(len(crossing_pairs(points, after)) <= len(crossing_pairs(home, before)), True)
@@ -307,7 +295,7 @@ class MeshProgram(InFolder):
             write('mesh.ply', mesh_text(points, faces))
             line = f'finished points {len(points)} faces {len(faces)} fine {fine}\n'
             equal(mesh_program('finish', 'mesh.ply', 'out.ply', f'within={within}', 'manifold=yes', 'smooth=100'), (0, line, ''))
-            moves = [difference([fine * x for x in p], q) for p, q in zip(points, rows_of(read('out.ply'))[0])]
+            moves = [difference([fine * x for x in p], q) for p, q in zip(points, mesh_of(read('out.ply'))[0])]
             equal(all(sum(x * x for x in move) <= (fine * within) ** 2 for move in moves), True)
 
     def test_a_mesh_that_is_not_closed(self) -> None:
@@ -366,7 +354,7 @@ class MeshProgram(InFolder):
         write('mesh.ply', mesh_text(points, [turned(face) for face in faces]))
         status, _, error = mesh_program('finish', 'mesh.ply', 'out.ply', *options)
         equal((status, error), (0, ''))
-        kept, new = rows_of(read('out.ply'))
+        kept, new = mesh_of(read('out.ply'))
         return [(x, y, z) for x, y, z in kept], new
 
 

@@ -14,8 +14,8 @@ from fuzz.simplified import faults, square_to_triangle
 from recon.light import light_mesh, open_light
 from recon.toolbox.mesh_files import Finished
 from recon.toolbox.ply_text import Refusal
-from test_finish import ball, mesh_text
-from test_mesh_program import FACES, POINTS, mesh_program, moved, rows_of, turned, two_cubes
+from samples import ball, mesh_of, mesh_text
+from test_mesh_program import FACES, POINTS, mesh_program, moved, turned, two_cubes
 
 INVALID = [(), ('within=0',), ('within=8388609',), ('within=1.5',), ('within=',), ('within=1', 'within=1'), ('within=1', 'faces=0'),
            ('within=1', 'faces=4294967296'), ('within=1', 'faces=1', 'faces=1'), ('faces=4',), ('comments=no',), ('within=1', 'smooth=1'),
@@ -52,7 +52,7 @@ class Simplify(InFolder):
         for within, least, most in ((60, 0, 330), (300, 100, 101), (300, 0, 100), (8388608, 0, 60)):
             words = [f'within={within}', *([f'faces={least}'] if least else [])]
             status, line, error = mesh_program('simplify', 'mesh.ply', 'out.ply', *words)
-            new = rows_of(read('out.ply'))
+            new = mesh_of(read('out.ply'))
             equal((status, line, error), (0, f'simplified points {len(new[0])} faces {len(new[1])}\n', ''))
             equal(faults(old, new, within), [])
             assert least <= len(new[1]) <= most, len(new[1])
@@ -76,7 +76,7 @@ class Simplify(InFolder):
             write('mesh.ply', text)
             status, line, error = mesh_program('simplify', 'mesh.ply', 'out.ply', 'within=1', 'faces=4294967295')
             equal((status, error), (0, ''))
-            equal(faults((points, faces), rows_of(read('out.ply')), 1), [])
+            equal(faults((points, faces), mesh_of(read('out.ply')), 1), [])
             equal(mesh_program('check', 'mesh.ply', 'out.ply')[0], 0)
 
     def test_open_and_invalid_meshes(self) -> None:
