@@ -1,0 +1,149 @@
+//! The first face of a mesh that is not shown to be near another mesh.
+
+ghost use Rattle.std.specs.Prelude.{◌≡◌, ◌<◌, IfOk, IfNone, All, length};
+ghost use Rattle.std.specs.Bool.{OnTrue};
+ghost use Rattle.mesh.specs.Meshes.{IsFace, IsMesh, point_at};
+ghost use Rattle.mesh_cover.specs.Covers.{IsCovered, IsFaceCovered, IsTriangleCovered};
+
+use crate::NoMemory;
+use crate::cover::is_covered;
+use crate::near::{corners_of, is_part_near};
+use crate::part::Part;
+use crate::place::Place;
+use geo_sign::Point;
+use hull_tree::{Hull, HullTree, Span};
+use mesh::Mesh;
+use mesh_flips::{hull_of, tree_of};
+use std::alloc::Global;
+
+/// How often parts are cut in four.
+const DEPTH: u32 = 8;
+
+/// What helps to find faces.
+#[derive(Drop)]
+struct Search {
+    tree: HullTree,
+    found: Vec<usize>,
+}
+
+/// Returns a span with a distance added on both sides.
+fn widened_span(s: Span, by: i32) -> Span {
+    Span {
+        low: s.low.saturating_sub(by),
+        high: s.high.saturating_add(by),
+    }
+}
+
+/// Returns a box with a distance added on all sides.
+fn widened(hull: Hull, within: u32) -> Hull {
+    let by = within.min(i32::MAX as u32) as i32;
+    Hull {
+        x: widened_span(hull.x, by),
+        y: widened_span(hull.y, by),
+        z: widened_span(hull.z, by),
+    }
+}
+
+/// Returns the whole of a face with these corners.
+fn whole(points: &[Point], a: u32, b: u32, c: u32) -> Part
+    requires a { a < length points.now }
+    requires b { b < length points.now }
+    requires c { c < length points.now }
+    ensures a { result.a ≡ point_at points.now a }
+    ensures b { result.b ≡ point_at points.now b }
+    ensures c { result.c ≡ point_at points.now c }
+    ensures scale { result.scale ≡ 1 }
+{
+    Part {
+        a: Place::of(points[a as usize]),
+        b: Place::of(points[b as usize]),
+        c: Place::of(points[c as usize]),
+        scale: 1,
+        spots: corners_of(points, [a, b, c]),
+    }
+}
+
+/// Returns whether all of a part is shown to be within reach of the hinted face of a vertex.
+fn is_near_hint(onto: &Mesh, part: &Part, within: u32, hints: &[u32], v: u32) -> bool
+    requires { All (IsFace (length onto.now.points.items)) onto.now.faces.items }
+    ensures { OnTrue result (IsTriangleCovered within onto.now.points.items onto.now.faces.items part.now.scale part.now.a part.now.b part.now.c) }
+{
+    match hints.get(v as usize) {
+        Some(i) => is_part_near(onto, *i as usize, part, within),
+        None => false,
+    }
+}
+
+/// Returns whether each point of a face is shown to be within reach of a face of a mesh: the hinted one of a corner, or others.
+fn is_face_covered(
+    points: &[Point],
+    face: [u32; 3],
+    onto: &Mesh,
+    hints: &[u32],
+    within: u32,
+    search: &mut Search,
+) -> Result<bool, NoMemory>
+    requires face { IsFace (length points.now) face }
+    requires each { All (IsFace (length onto.now.points.items)) onto.now.faces.items }
+    ensures { IfOk result (λ yes. OnTrue yes (IsFaceCovered within points.now onto.now.points.items onto.now.faces.items face)) }
+{
+    let [a, b, c] = face;
+    let part = whole(points, a, b, c);
+    if is_near_hint(onto, &part, within, hints, a) {
+        return Ok(true);
+    }
+    if is_near_hint(onto, &part, within, hints, b) {
+        return Ok(true);
+    }
+    if is_near_hint(onto, &part, within, hints, c) {
+        return Ok(true);
+    }
+    search.found.clear();
+    let hull = widened(hull_of(points, face), within);
+    search.tree.near(hull, &mut search.found)?;
+    let covered = is_covered(onto, &part, within, &mut search.found, 0, DEPTH)?;
+    Ok(covered)
+}
+
+/// Returns the number of the first face that is not shown to be covered.
+fn first_of_faces(
+    points: &[Point],
+    faces: &[[u32; 3]],
+    onto: &Mesh,
+    hints: &[u32],
+    within: u32,
+    search: &mut Search,
+) -> Result<Option<usize>, NoMemory>
+    requires home { All (IsFace (length points.now)) faces.now }
+    requires each { All (IsFace (length onto.now.points.items)) onto.now.faces.items }
+    ensures { IfOk result (λ i. IfNone i (IsCovered within points.now faces.now onto.now.points.items onto.now.faces.items)) }
+{
+    for i in 0..faces.len() {
+        if !is_face_covered(points, faces[i], onto, hints, within, search)? {
+            return Ok(Some(i));
+        }
+    }
+    Ok(None)
+}
+
+/// Returns the number of the first face of a mesh that has a point not shown to be within reach of a face of another mesh. `None` only if
+/// each point of each face is at most the distance from a point of a face of the other.
+///
+/// `hints[v]` is a face of the other mesh that vertex `v` may be near. The time is linear if the hints are right and the faces small.
+pub fn find_uncovered(
+    alloc: Global,
+    home: &Mesh,
+    onto: &Mesh,
+    hints: &[u32],
+    within: u32,
+) -> Result<Option<usize>, NoMemory>
+    requires home { IsMesh home.now.points.items home.now.faces.items }
+    requires onto { IsMesh onto.now.points.items onto.now.faces.items }
+    ensures { IfOk result (λ i. IfNone i (IsCovered within home.now.points.items home.now.faces.items onto.now.points.items onto.now.faces.items)) }
+{
+    let mut search = Search {
+        tree: tree_of(alloc, &onto.points, &onto.faces)?,
+        found: Vec::new(alloc),
+    };
+    first_of_faces(&home.points, &home.faces, onto, hints, within, &mut search)
+}
