@@ -11,10 +11,10 @@ from typing import Any, Callable, Optional
 import numpy as np
 
 from recon.choices import Choices
-from recon.clouds import SAMPLE, Spacing, spacing
+from recon.clouds import SAMPLE, Spacing, spacing, tree_of
 from recon.inputs import Cloud
 from recon.library import Surface, build_files
-from recon.positions import (LOOK, LOOK_BLOCKED, NAMED, WRONG, Verdict, blocked_part, blocked_scanners, different, likeliest, shape_of, verdict_of,
+from recon.positions import (LOOK, NAMED, ONE_BY_ONE, WRONG, Verdict, blocked_part, blocked_scanners, different, likeliest, shape_of, verdict_of,
                              words_of)
 from recon.program import Invalid, Refused
 from recon.toolbox.ply_text import Refusal
@@ -60,30 +60,17 @@ def quality_by(program: Optional[str], folder: Path) -> Callable[[np.ndarray, np
     return quality
 
 
-def some_of(cloud: Cloud, texture: Spacing) -> tuple[np.ndarray, np.ndarray, Spacing]:
-    """At most 300,000 points, their first scanners, and their spacing."""
+def blocked_of(cloud: Cloud, texture: Spacing) -> tuple[float, np.ndarray]:
+    """Which part of the lines of sight cross the surface of the points, and which of those of each scanner, if 5 % or more do; 0 where positions are
+    synthesised."""
+    if cloud.is_made_up:
+        return 0.0, np.zeros(len(cloud.scanners))
     points, first = cloud.points, cloud.first_scanners()
-    if len(points) <= MOST:
-        return points, first, texture
-    rows = np.sort(np.random.default_rng(3).permutation(len(points))[:MOST])
-    return points[rows], first[rows], Spacing(spacing(points[rows]).distance, texture.noise)
-
-
-def blocked_of(cloud: Cloud, texture: Spacing) -> float:
-    """Which part of the lines of sight cross the surface of the points; 0 where positions are synthesised."""
-    if cloud.is_made_up:
-        return 0.0
-    points, first, texture = some_of(cloud, texture)
-    return blocked_part(points, cloud.scanners, first, texture)
-
-
-def blocked_ones(cloud: Cloud, texture: Spacing) -> np.ndarray:
-    """Which part of the lines of each scanner are blocked, of those with 5 % or more; 0 of the others, and where positions are synthesised."""
-    if cloud.is_made_up:
-        return np.zeros(len(cloud.scanners))
-    points, first, texture = some_of(cloud, texture)
-    part = blocked_scanners(points, cloud.scanners, first, texture)
-    return np.where(part >= NAMED, part, 0.0)
+    if len(points) > MOST:
+        rows = np.sort(np.random.default_rng(3).permutation(len(points))[:MOST])
+        points, first, texture = points[rows], first[rows], Spacing(spacing(points[rows]).distance, texture.noise)
+    tree = tree_of(points)
+    return (blocked_part(points, cloud.scanners, first, texture, tree), blocked_scanners(points, cloud.scanners, first, texture, tree))
 
 
 def named(parts: np.ndarray, scanners: np.ndarray) -> str:
@@ -117,20 +104,20 @@ def because(why: Optional[str], cloud: Cloud) -> str:
 
 def looked_at(surface: Surface, cloud: Cloud, texture: Spacing, args: Any, folder: Path, choices: Choices) -> Verdict:
     """Says how far lines of sight fit the surface, and which positions or which mistake explain it if they do not."""
-    against, blocked = surface.votes_against_per_sight, blocked_of(cloud, texture)
+    against, (blocked, parts) = surface.votes_against_per_sight, blocked_of(cloud, texture)
     choices.tell(f'{against:.3f} contradictions for each line of sight' + ('' if cloud.is_made_up else
                  f', {blocked:.1%} of the lines are blocked'))
     if cloud.is_made_up:
         if against > LOOK:
             choices.warn(f'{against:.2f} contradictions for each line of sight, more than {LOOK}: check the normals'
-                         + because(mistake(cloud, blocked_ones(cloud, texture), args, folder), cloud))
+                         + because(mistake(cloud, parts, args, folder), cloud))
         return Verdict(0.0, against > LOOK, against > WRONG)
-    if not (blocked > LOOK_BLOCKED or against > WRONG):
-        return verdict_of(against, blocked, False)
-    parts = blocked_ones(cloud, texture)
+    has_named = bool(parts.any()) or blocked > NAMED and len(parts) > ONE_BY_ONE
+    if not (has_named or against > WRONG):
+        return verdict_of(against, blocked, False, False)
     why = mistake(cloud, parts, args, folder)
-    verdict = verdict_of(against, blocked, why is not None)
-    found = [f'{blocked:.0%} of the lines of sight cross the surface well before their points'] if blocked > LOOK_BLOCKED else []
+    verdict = verdict_of(against, blocked, has_named, why is not None)
+    found = [f'{blocked:.0%} of the lines of sight cross the surface well before their points'] if has_named else []
     found += [f'there are {against:.2f} contradictions for each line of sight'] if against > LOOK else []
     choices.warn(' and '.join(found) + (f': {to_check(parts, cloud)}{because(why, cloud)}' if verdict.is_suspect else
                  '; no mistake of the positions was found that explains them, so noise or outliers may'))
@@ -148,7 +135,7 @@ def why_empty(cloud: Cloud, texture: Spacing, args: Any, folder: Path) -> str:
     shape = shape_of(cloud.points)
     if shape:
         return f'{shape}, so there is no surface'
-    parts = blocked_ones(cloud, texture)
+    _, parts = blocked_of(cloud, texture)
     why = because(mistake(cloud, parts, args, folder), cloud)
     if why:
         return f'there is no surface: {"check the normals" if cloud.is_made_up else to_check(parts, cloud)}{why}'

@@ -20,8 +20,9 @@ from recon.clouds import Spacing, box_of, spacing, tree_of
 # contradictions for each line of sight, and parts of them that are blocked
 LOOK, WRONG, LOOK_BLOCKED, WRONG_BLOCKED = 0.1, 0.25, 0.025, 0.2
 SIGHTS, STEPS, NEAR = 800, 300, 12
-# the part of the lines of one scanner from which on it is named, how many are followed, of one and of all, and the fewest that say something
-NAMED, OF_ONE, OF_ALL, FEWEST = 0.05, 200, 8000, 20
+# the part of the lines of one scanner from which on it is named; how many are followed of all scanners, of one at first and of one again, and the fewest
+# that say something; and how many scanners are looked at one by one
+NAMED, OF_ALL, OF_ONE, AGAIN, FEWEST, ONE_BY_ONE = 0.05, 1600, 40, 1000, 20, 100
 # a line of sight that meets the surface at a smaller angle may only graze it; the cosine is that to the normal
 GRAZING = 0.35
 FAR, MUCH = 200.0, 100.0
@@ -93,19 +94,29 @@ def blocked_part(points: np.ndarray, scanners: np.ndarray, first: np.ndarray, te
     return float(are_blocked(points, scanners, first, texture, tree, rows).mean()) if len(rows) else 0.0
 
 
-def blocked_scanners(points: np.ndarray, scanners: np.ndarray, first: np.ndarray, texture: Spacing, tree: Optional[cKDTree] = None) -> np.ndarray:
-    """Returns which part of the lines of each scanner (k,) are blocked; 0 of one with under 20 lines, and if there are very many scanners."""
-    part, most = np.zeros(len(scanners)), min(OF_ONE, OF_ALL // max(len(scanners), 1))
-    rows = np.random.default_rng(4).permutation(np.flatnonzero(first >= 0))
+def part_of_each(points: np.ndarray, scanners: np.ndarray, first: np.ndarray, texture: Spacing, tree: cKDTree, most: int, seed: int) -> np.ndarray:
+    """Returns which part of at most some lines of each scanner (k,) are blocked; 0 of one with under 20 lines."""
+    part, rows = np.zeros(len(scanners)), np.random.default_rng(seed).permutation(np.flatnonzero(first >= 0))
     rows = rows[np.argsort(first[rows], kind='stable')]
-    rank = np.arange(len(rows)) - np.searchsorted(first[rows], first[rows])
-    rows = rows[rank < most]
+    rows = rows[np.arange(len(rows)) - np.searchsorted(first[rows], first[rows]) < most]
     count = np.bincount(first[rows], minlength=len(scanners))
     is_known = count >= FEWEST
     rows = rows[is_known[first[rows]]]
     found = np.bincount(first[rows], are_blocked(points, scanners, first, texture, tree, rows), len(scanners))
     part[is_known] = found[is_known] / count[is_known]
     return part
+
+
+def blocked_scanners(points: np.ndarray, scanners: np.ndarray, first: np.ndarray, texture: Spacing, tree: Optional[cKDTree] = None) -> np.ndarray:
+    """Returns which part of the lines of each scanner (k,) are blocked, of those with 5 % or more, also of other lines than those that were followed first; 0 of
+    the others, and if there are over 100 scanners."""
+    if len(scanners) > ONE_BY_ONE or len(points) < NEAR or not texture.distance:
+        return np.zeros(len(scanners))
+    tree = tree_of(points) if tree is None else tree
+    part = part_of_each(points, scanners, first, texture, tree, max(OF_ONE, OF_ALL // max(len(scanners), 1)), 4)
+    named = np.where((first >= 0) & (part[first] >= NAMED), first, -1)
+    part = part_of_each(points, scanners, named, texture, tree, AGAIN, 5)
+    return np.where(part >= NAMED, part, 0.0)
 
 
 class Verdict(NamedTuple):
@@ -116,11 +127,11 @@ class Verdict(NamedTuple):
     is_wrong: bool = False
 
 
-def verdict_of(against: float, blocked: float, is_explained: bool) -> Verdict:
-    """Judges positions by the contradictions for each line of sight, the part of the lines that are blocked, and whether a mistake explains them. Noise,
-    outliers and walls that are exact planes raise contradictions alone."""
+def verdict_of(against: float, blocked: float, has_named: bool, is_explained: bool) -> Verdict:
+    """Judges positions by the contradictions for each line of sight, the part of the lines that are blocked, whether many of those of one position are,
+    and whether a mistake explains them. Noise, outliers and walls that are exact planes raise contradictions alone."""
     is_wrong = is_explained or against > 2 * WRONG or blocked > (LOOK_BLOCKED if against > WRONG else WRONG_BLOCKED)
-    return Verdict(blocked, is_wrong or blocked > LOOK_BLOCKED, is_wrong)
+    return Verdict(blocked, is_wrong or has_named, is_wrong)
 
 
 def words_of(place: np.ndarray) -> str:
@@ -219,4 +230,4 @@ def different(points: np.ndarray) -> np.ndarray:
     return np.asarray(np.sort(np.unique(points, axis=0, return_index=True)[1]))
 
 
-__all__ = ['NAMED', 'Verdict', 'blocked_part', 'blocked_scanners', 'different', 'far_positions', 'likeliest', 'shape_of', 'verdict_of', 'words_of']
+__all__ = ['NAMED', 'ONE_BY_ONE', 'Verdict', 'blocked_part', 'blocked_scanners', 'different', 'far_positions', 'likeliest', 'shape_of', 'verdict_of', 'words_of']

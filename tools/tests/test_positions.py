@@ -7,7 +7,7 @@ import numpy as np
 
 from helpers import RECON, InFolder, call, equal
 from recon.clouds import spacing
-from recon.positions import LOOK_BLOCKED, NAMED, blocked_part, blocked_scanners, far_positions, shape_of, verdict_of
+from recon.positions import LOOK_BLOCKED, blocked_part, blocked_scanners, far_positions, shape_of, verdict_of
 from test_surface import listed
 
 PLACE = np.array([0.0, -3.0, 1.0])
@@ -50,20 +50,23 @@ class Positions(unittest.TestCase):
     def test_the_scanners_with_blocked_lines(self) -> None:
         points, scanners, seen_by = ring()
         texture, wrong = spacing(points), scanners.copy()
-        equal((blocked_scanners(points, scanners, seen_by, texture) < NAMED).all(), True)
+        equal(blocked_scanners(points, scanners, seen_by, texture).any(), False)
         wrong[[3, 6]] *= [1, 1, -1]
-        equal(np.flatnonzero(blocked_scanners(points, wrong, seen_by, texture) >= NAMED).tolist(), [3, 6])
-        # nothing is known of those with few lines
+        equal(np.flatnonzero(blocked_scanners(points, wrong, seen_by, texture)).tolist(), [3, 6])
+        # nothing is known of those with few lines, and of very many
         few = np.flatnonzero((seen_by != 3) | (np.cumsum(seen_by == 3) < 20))
-        equal(np.flatnonzero(blocked_scanners(points[few], wrong, seen_by[few], texture) >= NAMED).tolist(), [6])
+        equal(np.flatnonzero(blocked_scanners(points[few], wrong, seen_by[few], texture)).tolist(), [6])
+        equal(blocked_scanners(points, wrong.repeat(13, axis=0), 13 * seen_by, texture).any(), False)
         equal(blocked_scanners(points, wrong, np.full(len(points), -1), texture).tolist(), [0.0] * 8)
 
     def test_verdicts(self) -> None:
-        # contradictions, blocked lines, whether a mistake explains them: right positions with noise, outliers, stereo and exact planes, then wrong ones
-        for against, blocked, is_explained, is_suspect, is_wrong in ((0.343, 0.005, False, False, False), (0.203, 0.018, False, False, False),
-                (0.1, 0.0, False, False, False), (0.087, 0.139, False, True, False), (0.19, 0.594, False, True, True), (0.3, 0.127, False, True, True),
-                (0.264, 0.011, True, True, True), (0.997, 0.0, False, True, True)):
-            equal((against, verdict_of(against, blocked, is_explained)), (against, (blocked, is_suspect, is_wrong)))
+        # contradictions, blocked lines, whether one position has many of them and a mistake explains them: right positions with noise, outliers, stereo
+        # and exact planes, then wrong ones
+        for against, blocked, has_named, is_explained, is_suspect, is_wrong in ((0.343, 0.005, False, False, False, False), (0.203, 0.018, False, False, False, False),
+                (0.1, 0.0, False, False, False, False), (0.086, 0.039, False, False, False, False), (0.087, 0.139, True, False, True, False),
+                (0.1, 0.02, True, False, True, False), (0.19, 0.594, True, False, True, True), (0.3, 0.127, True, False, True, True),
+                (0.264, 0.011, False, True, True, True), (0.997, 0.0, False, False, True, True)):
+            equal((against, verdict_of(against, blocked, has_named, is_explained)), (against, (blocked, is_suspect, is_wrong)))
 
     def test_few_points_and_none_seen(self) -> None:
         points = half(50)[0]

@@ -49,6 +49,17 @@ class Stations(InFolder):
             holds('out.ply', head(3, SCAN + ', uchar red, uchar green, uchar blue, double intensity', 2)
                   + '0.75 2.5 3.125 0 255 0 0 0.5\n1 3 3 0 0 0 0 0.5\n7.1234567890123456789012345678 8 9 1 0 0 0 0.1\n1 2 3\n0 0 5\n')
 
+    def test_columns_that_not_all_files_have_are_named(self) -> None:
+        write('hue.xyz', '1 2 3 9 8 7\n2 3 4 9 8 8\n')
+        write('bare.xyz', '1 2 3\n')
+        write('gray.xyz', '5 6 7 0.5\n')
+        wrote = 'left out nothing; wrote {} points and 2 scanners to out.ply'
+        says('scan', 'read 3 points of 2 files; ' + wrote.format(3) + '; colors left out, since bare.xyz has none',
+             'hue.xyz=0,0,5', 'bare.xyz=0,0,6', 'out.ply')
+        says('scan', 'read 3 points of 2 files; ' + wrote.format(3) + '; colors left out, since gray.xyz has none; intensity left out, since '
+             'hue.xyz has none', 'hue.xyz=0,0,5', 'gray.xyz=0,0,6', 'out.ply')
+        says('scan', 'read 4 points of 2 files; ' + wrote.format(4), 'hue.xyz=0,0,5', 'hue.xyz=0,0,6', 'out.ply')
+
     def test_products_of_a_ptx_are_exact(self) -> None:
         # 0.6, 0.8 is a turn; products by hand: 1.000001 * 0.6 = 0.6000006, 1.000001 * 0.8 = 0.8000008
         station = '1\n1\n0 0 0\n1 0 0\n0 1 0\n0 0 1\n0.6 0.8 0 0\n-0.8 0.6 0 0\n0 0 1 0\n1000.5 0 1e-3 1\n1.000001 0 2 0.5\n'
@@ -103,7 +114,8 @@ class Stations(InFolder):
         write('d=e.xyz', '// a remark\r\n7\t8\t9e-1\r\n')
         write('f.ply', binary('>', '\n', [(0.5, 2, 3, 4)]))
         write('g.txt', b'\xef\xbb\xbf"X","Y","H\xf6he"\n1.0,2.0,3.0\n')
-        line = 'read 7 points of 5 files; left out 1 not finite, 2 heading; wrote 6 points and 5 scanners to out.ply'
+        line = ('read 7 points of 5 files; left out 1 not finite, 2 heading; wrote 6 points and 5 scanners to out.ply'
+                '; colors left out, since a b.csv has none; intensity left out, since d=e.xyz has none')
         rows = '1 2.50 3 0\n1 2 3 1\n+4. 5 6 1\n7 8 9e-1 2\n0.5 2.0 3.0 3\n1.0 2.0 3.0 4\n0 0 0\n-1 2 3\n1 1 1e1\n2 2 2\n3 3 3.50\n'
         says('scan', line, 'a b.csv=0,0,0', 'c.pts=-1,2,3', 'd=e.xyz=1,1,1e1', 'f.ply=2,2,2', 'g.txt=3,3,3.50', 'out.ply')
         holds('out.ply', head(6, SCAN, 5) + rows)

@@ -1,10 +1,11 @@
 """What files of stations have beyond coordinates that is passed on: colors, intensity and normals, where all files have them.
 
-Names: FileExtras, extras_of (what a file has) · common_extras (the columns that all have) · extra_words (those of a row
-of a text).
+Names: FileExtras, extras_of (what a file has) · common_extras (the columns that all have) · lost_extras (what some have alone, in words) · extra_words
+(those of a row of a text).
 """
 from __future__ import annotations
 
+import os
 from typing import Dict, List, NamedTuple, Optional, Sequence, Tuple
 
 from recon.toolbox.blocks import byte_word, finite_word
@@ -69,6 +70,16 @@ def common_extras(files: Sequence[FileExtras]) -> List[Property]:
                 kinds = {file.columns[name][1] for file in files}
                 found.append(Property(name, kinds.pop() if len(kinds) == 1 else 'int' if name in COLORS else 'double'))
     return found
+
+
+def lost_extras(files: Sequence[FileExtras], paths: Sequence[str]) -> str:
+    """Says that colors or intensities are not passed on because a file has none; else an empty text."""
+    said = ''
+    for group, what in ((COLORS, 'colors'), ((INTENSITY,), 'intensity')):
+        without = [path for file, path in zip(files, paths) if not all(name in file.columns for name in group)]
+        if 0 < len(without) < len(paths):
+            said += f'; {what} left out, since {os.path.basename(without[0])} has none'
+    return said
 
 
 def extra_words(words: Sequence[str], extras: FileExtras, names: Sequence[str]) -> list[str]:

@@ -11,7 +11,7 @@ import os
 from typing import Any, Callable, Iterator, List, Optional, Sequence, Tuple
 
 from recon.toolbox.blocks import Block, TextColumn, constant, finite_points
-from recon.toolbox.extras import FileExtras, common_extras, extra_words, extras_of
+from recon.toolbox.extras import FileExtras, common_extras, extra_words, extras_of, lost_extras
 from recon.toolbox.flight import Above
 from recon.toolbox.ply_text import ARE_THREE, IS_NOT_FINITE, IS_NUMBER, SCANNER_LIMIT, Refusal, decimals, read_positions
 from recon.toolbox.point_files import PcdReader, has_rows, open_points
@@ -250,6 +250,9 @@ class Stations(Source):
             block.columns.insert(3, constant(index, block.count))
             yield block
 
+    def remark(self) -> str:
+        return lost_extras(self.extras, [path for path, _ in self.files])
+
     def number_of_view(self, place: Sequence[str]) -> str:
         """Returns the number of a place that points of any file were seen from."""
         number = self.numbers.setdefault(tuple(place), str(len(self.positions)))
@@ -322,4 +325,4 @@ class Overhead(Stations):
         self.positions = [self.above.position()]
 
     def remark(self) -> str:
-        return self.above.remark()
+        return self.above.remark() + super().remark()
