@@ -20,6 +20,8 @@ Options with all formats:
   origin=X,Y,Z          subtract this offset from all points and scanners. Other options are in the original coordinates
   divide=N              divide all coordinates by N, a power of ten (1000 for micrometers), after subtracting the origin
   unit=U                multiply all coordinates by U after that, and round them to integers, as `recon` does with unit=U
+  printed=U             the same in the printed form, which docs/verification/audit.md defines: integers alone, no other
+                        properties and no comments
   surround=D            add eight points around a scan made from inside, such as a room, so that its walls become solid: the
                         corners of a box at distance D from the points, each seen by a scanner at distance D from the box
   open_end=yes          accept a missing final newline of a text file (default: treated as truncated)
@@ -67,13 +69,14 @@ import numpy as np
 from recon.toolbox.blocks import Block
 from recon.toolbox.output_files import whole_file
 from recon.toolbox.ply_text import SCANNER_LIMIT, Refusal, Writer
+from recon.toolbox.printed_form import PrintedWriter
 from recon.toolbox.scan_source import source_of
 from recon.toolbox.sieve import SIEVING, Passage, Sieve
 from recon.toolbox.sources import READING, Source
 from recon.toolbox.text_columns import NotPlain
 from recon.toolbox.tool import NotUnderstood, Report, left_out, number_of, run
 
-KEYS = READING + SIEVING + ('origin', 'divide', 'unit')
+KEYS = READING + SIEVING + ('origin', 'divide', 'unit', 'printed')
 FEW, MANY = 20, 1000
 ROOM = 0.8
 
@@ -170,12 +173,21 @@ class ScanReport(Report):
         return line + ': no point is left' if self.is_empty else line
 
 
+def writer_of(source: Source, options: Any, file: TextIO) -> Writer:
+    """Returns what writes the points of a source in the form that the options ask for."""
+    if not options.printed:
+        return Writer(file, source.columns, 'scan')
+    if not source.has_scanners or source.scanner is None:
+        raise Refusal('no scanner positions in the file: pass positions=')
+    return PrintedWriter(file, source.columns, source.point, source.scanner, source.has_lists)
+
+
 class Conversion:
     """A scan on its way from files into a text PLY."""
 
     def __init__(self, names: Sequence[str], options: Any, file: TextIO) -> None:
         self.sieve, self.source = Sieve(options), source_of(names, options)
-        self.writer, self.part = Writer(file, self.source.columns, 'scan'), 0.0
+        self.writer, self.part = writer_of(self.source, options, file), 0.0
         self.writer.begin(self.source.has_scanners)
         self.sample = Sample(self.source, self.writer.row)
 
@@ -216,8 +228,9 @@ class Conversion:
 
 def work(names: Sequence[str], options: Any) -> ScanReport:
     """Writes the scan of some files, the last name being its own."""
-    if not names:
+    if not names or options.printed and options.unit:
         raise NotUnderstood
+    options.unit = options.printed or options.unit
     with whole_file(names[-1]) as file:
         conversion = Conversion(names[:-1], options, file)
         try:
