@@ -25,7 +25,7 @@ from typing import Any, Callable, Dict, Iterator, List, Sequence
 import numpy as np
 
 from bench.runs import printed_head, printed_row
-from samples import las_head, physical
+from samples import E57_END, E57_ROOT, e57, las_head, packet, physical, section, station_xml
 from recon import scan
 from recon.tables import read_table
 from recon.toolbox.tool import Options
@@ -94,31 +94,16 @@ def e57_file(path: Path, rows: int) -> None:
     """Writes one station of scaled whole numbers, as scanners' programs do: 20 bits a coordinate, a state, 12 bits of intensity, and colors."""
     half, columns = 1 << 19, [20, 20, 20, 2, 12, 8, 8, 8]
     packets: List[bytes] = []
-    rest = [b''] * 8
     for points, intensities, colors in parts(rows):
         for start in range(0, len(points), 4000):
             cut = slice(start, start + 4000)
             whole = np.clip(np.rint(points[cut] * 10_000 / 2), -half, half - 1).astype(np.int64) + half
             values = [*whole.T, np.zeros(len(whole), np.int64), np.rint(intensities[cut] * 4095), *colors[cut].T]
-            body = [before + packed_bits(value, bits) for before, value, bits in zip(rest, values, columns)]
-            block = np.array(list(map(len, body)), '<u2').tobytes() + b''.join(body)
-            block += bytes(-(6 + len(block)) % 4)
-            packets.append(b'\1\0' + (len(block) + 5).to_bytes(2, 'little') + (8).to_bytes(2, 'little') + block)
-    section = b''.join(packets)
-    head = b'\1' + bytes(7) + np.array([32 + len(section), physical(48 + 32), 0], '<u8').tobytes()
+            packets.append(packet([packed_bits(value, bits) for value, bits in zip(values, columns)]))
     fields = [f'<cartesian{axis} type="ScaledInteger" minimum="{-half}" maximum="{half - 1}" scale="0.0002"/>' for axis in 'XYZ']
     fields += ['<cartesianInvalidState type="Integer" minimum="0" maximum="2"/>', '<intensity type="ScaledInteger" minimum="0" maximum="4095" scale="0.0002"/>']
     fields += [f'<color{name} type="Integer" minimum="0" maximum="255"/>' for name in ('Red', 'Green', 'Blue')]
-    text = ('<e57Root type="Structure" xmlns="http://www.astm.org/COMMIT/E57/2010-e57-v1.0"><data3D type="Vector"><vectorChild type="Structure">'
-            f'<points type="CompressedVector" fileOffset="{physical(48)}" recordCount="{rows}"><prototype type="Structure">{"".join(fields)}</prototype>'
-            '<codecs type="Vector"/></points></vectorChild></data3D></e57Root>').encode('ascii')
-    at = 48 + len(head) + len(section)
-    length = (at + len(text) + 1019) // 1020 * 1024
-    data = b'ASTM-E57' + np.array([1, 0], '<u4').tobytes() + np.array([length, physical(at), len(text), 1024], '<u8').tobytes() + head + section + text
-    data += bytes(-len(data) % 1020)
-    pages = np.zeros((len(data) // 1020, 1024), np.uint8)
-    pages[:, :1020] = np.frombuffer(data, np.uint8).reshape(-1, 1020)
-    path.write_bytes(pages.tobytes())
+    path.write_bytes(e57(section(b''.join(packets)), E57_ROOT + station_xml(physical(48), rows, '', ''.join(fields)) + E57_END))
 
 
 def normals_of(points: np.ndarray) -> np.ndarray:

@@ -1,5 +1,5 @@
-"""What the built program prints and writes, without regard to contracts: arguments, errors, verdicts and files of small scans, in tables of known
-answers. They run where `recon` is built (see run.py); how the system serves it is in test_program."""
+"""What the built program and its model (dev/model) print and write, without regard to contracts: arguments, errors, verdicts and files of small
+scans, in tables of known answers. The program is tested where it is built (see run.py); how the system serves it is in test_program."""
 from __future__ import annotations
 
 import hashlib
@@ -7,10 +7,12 @@ import os
 import random
 import struct
 import unittest
-from typing import Sequence
+from typing import Any, Callable, Sequence
 
 from helpers import MESH, RECON, InFolder, equal, read, write
-from test_program import data, example, recon
+from model.commands import Folder, run
+from model.solution import Model
+from test_program import data, example, recon as by_program
 
 FOUR = example('tetrahedron.ply').decode('ascii')
 FOUR_BUILT = 'points 4 scanners 4 sights 4 inside 1 faces 4 cost 4\n'
@@ -35,6 +37,44 @@ BUILD, CHECK, LIGHT = ['build', 'in', 'mesh', 'cert'], ['check', 'in', 'mesh', '
 ONE, WEIGHED = 'property int scanner\n', 'property int scanner\nproperty uchar weight\n'
 WEIGHT, LIST = 'property uchar weight\nproperty int scanner\n', 'property list uchar int scanner\n'
 WIDE = 'property uchar weight\nproperty list uint int scanner\n'
+
+
+class Here(Folder):
+    """The current folder, and what is printed."""
+    said = b''
+
+    def say(self, line: bytes) -> None:
+        self.said += line
+
+
+def by_model(*words: str) -> Any:
+    """Status and line of a run of the model."""
+    host = Here()
+    return run(words, host, Model()), host.said.decode()
+
+
+recon: Callable[..., Any] = by_program
+
+
+class Commands(InFolder):
+    """Tests of the program, or in a subclass of its model."""
+    runs: Callable[..., Any] = staticmethod(by_program)
+
+    def setUp(self) -> None:
+        if self.runs is by_program and not RECON:
+            self.skipTest('recon is not built here')
+        super().setUp()
+        global recon
+        recon = self.runs
+
+
+def large(test: Callable[[Commands], None]) -> Callable[[Commands], None]:
+    """Leaves a test of scans out that are too large for the model."""
+    def only_of_the_program(self: Commands) -> None:
+        if self.runs is by_program:
+            test(self)
+
+    return only_of_the_program
 
 
 def scan(rows: Sequence[str], places: Sequence[str], properties: str = ONE) -> str:
@@ -81,8 +121,7 @@ def refuses_scan(text: str | bytes, line: str, *more: str) -> None:
     says([*BUILD, *more], 3, f'refused {line}\n')
 
 
-@unittest.skipUnless(RECON, 'recon is not built here')
-class Words(InFolder):
+class Words(Commands):
     def test_words_that_are_no_command(self) -> None:
         build = [['build', 'a', 'b', 'c', *more.split('|')] for more in (
             'unit=0', 'unit=1000001', 'unit=', 'unit', 'unit=+1', 'unit=1 ', 'unit=00000000001', 'Unit=1', 'vote=0', 'vote=65536',
@@ -142,8 +181,7 @@ class Words(InFolder):
                 equal((word, read('cert').split('\n')[3]), (word, f'scanner {number} 0 0'))
 
 
-@unittest.skipUnless(RECON, 'recon is not built here')
-class Scans(InFolder):
+class Scans(Commands):
     def test_each_refusal_says_its_line(self) -> None:
         for old, new, line in (
             (FOUR, '', '1 not_ply'), (FOUR, 'plyx\n', '1 not_ply'), ('property int x', 'property half x', '2 bad_line line 4'),
@@ -272,6 +310,7 @@ class Scans(InFolder):
         files(in_=f'ply\nformat ascii 1.0\nelement vertex 2\n{LIST}property int weight\n{XYZ}end_header\n2 9 9 3 1 2 3\n0 1 4 5 6\n')
         says([*BUILD, 'vote=1', 'scanner=0,0,0'], 0, 'points 2 scanners 1 sights 2 inside 0 faces 0 cost 4\n')
 
+    @large
     def test_sights_are_read_up_to_their_limit(self) -> None:
         head = (f'ply\nformat binary_little_endian 1.0\nelement vertex 1\n{XYZ}property list uint uchar scanner\n'
                 f'element scanner 1\n{XYZ}end_header\n').encode()
@@ -281,8 +320,7 @@ class Scans(InFolder):
         refuses_scan(head + bytes(12) + struct.pack('<I', most + 1) + bytes(most + 13), '22 too_many_sights row 0')
 
 
-@unittest.skipUnless(RECON, 'recon is not built here')
-class Surfaces(InFolder):
+class Surfaces(Commands):
     def test_small_scans_say_their_counts_and_their_cost(self) -> None:
         owns = [f'{row} {k}' for k, row in enumerate(ROWS)]
         for more, rows, places, line in (
@@ -327,6 +365,7 @@ class Surfaces(InFolder):
         equal(read('mesh').split('\n')[-13:-1], ['3 ' + face for face in faces])
         equal(read('cert').split('\n')[10:17], ['inside 6', '8 9 10 12', '9 10 11 12', '9 11 12 13', '10 11 12 14', '11 12 13 14', '11 13 14 15'])
 
+    @large
     def test_the_surface_of_a_cube_is_one_closed_piece(self) -> None:
         """Nothing is behind the points of the cube's edges, so these are cut off. That leaves nine points of each side, and as many faces as
         Euler's formula has for one piece without holes."""
@@ -360,6 +399,7 @@ class Surfaces(InFolder):
             says(['cells', 'in', 'out', *more], 0, f'points {points} cells {len(cells)}\n')
             equal(read('out').split('\n'), [f'cells {len(cells)}', *cells, ''])
 
+    @large
     def test_points_without_ties_have_one_list_of_cells(self) -> None:
         """In whatever order their rows stand."""
         draw = random.Random(5)
@@ -373,6 +413,7 @@ class Surfaces(InFolder):
             lists.append(sorted(sorted(names[int(v)] for v in row.split()) for row in read('out').split('\n')[1:-1]))
         equal(lists[1:], [lists[0], lists[0]])
 
+    @large
     def test_generated_scans(self) -> None:
         for words, line in (
             ('1 7', '1 7 points 1 scanners 6 sights 1 inside 0 faces 0 cost 8'),
@@ -386,6 +427,7 @@ class Surfaces(InFolder):
             says(['demo', *words.split()], 0, f'demo {line}\n')
             equal(here(), {})
 
+    @large
     def test_surfaces_of_a_sweep_are_those_of_builds(self) -> None:
         draw = random.Random(2)
         rows = ['%d %d %d %d' % (*(draw.randrange(-1000, 1001) for _ in 'xyz'), draw.randrange(4)) for _ in range(60)]
@@ -400,8 +442,7 @@ class Surfaces(InFolder):
         equal((status, line), (0, f'sweep 5 first_cost {costs[0]} last_cost {costs[-1]}\n'))
 
 
-@unittest.skipUnless(RECON, 'recon is not built here')
-class Verdicts(InFolder):
+class Verdicts(Commands):
     def test_a_certificate_is_right_or_has_a_first_fault(self) -> None:
         for more, old, new, line in (
             ([], 'cost', 'cost', FOUR_CHECKED), ([], '8 9 10 1\n', '8 9 10 01\n', '1 cert_line line 11'),
@@ -486,8 +527,7 @@ class Verdicts(InFolder):
         says([*CHECK, 'scanner=1,1,1', 'unit=1000'], 1, 'no 18 other_fixed stated 1 1 1 here 1000 1000 1000\n')
 
 
-@unittest.skipUnless(RECON, 'recon is not built here')
-class Meshes(InFolder):
+class Meshes(Commands):
     def test_a_plane_cuts_a_mesh_in_loops(self) -> None:
         opened = MESH.replace('face 4', 'face 3').replace('3 1 3 2\n', '')
         unbalanced = 'refused 28 unbalanced from 1 to 2 there 1 back 0\n'
@@ -544,8 +584,7 @@ class Meshes(InFolder):
             equal((read('a'), read('b'), read('c')), (mesh, off, obj))
 
 
-@unittest.skipUnless(RECON, 'recon is not built here')
-class Queries(InFolder):
+class Queries(Commands):
     def test_places_where_cells_meet_are_displaced(self) -> None:
         """Each is displaced towards positive x, so that it is inside where the cell of the four lies that way."""
         middles = ['100 0 0', '0 100 0', '0 0 100', '0 0 -100', '0 -100 0', '-100 0 0']
@@ -571,6 +610,15 @@ class Queries(InFolder):
         for text, count in (('', 0), (' ', 0), ('\r\n', 0), (' \t\r\n', 0), ('\n\t1.5 -2\r\n\r3e1\n\n0 0\t\t0\r\n', 2)):
             files(in_=FOUR, points=text)
             says(['ask', 'in', 'points', 'out'], 0, f'points 4 asked {count} inside {count}\n')
+
+
+def of_model(case: type) -> type:
+    """Returns the same tests of the model."""
+    return type(case.__name__ + 'OfTheModel', (case,), {'runs': staticmethod(by_model), '__module__': __name__})
+
+
+WordsOfTheModel, ScansOfTheModel, SurfacesOfTheModel, VerdictsOfTheModel, MeshesOfTheModel, QueriesOfTheModel = map(
+    of_model, (Words, Scans, Surfaces, Verdicts, Meshes, Queries))
 
 
 if __name__ == '__main__':

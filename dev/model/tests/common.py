@@ -1,7 +1,6 @@
 """What the tests share: scans of the worked examples, and runs of commands over files in memory."""
 from __future__ import annotations
 
-import hashlib
 import os
 import sys
 from typing import Sequence
@@ -37,23 +36,6 @@ TETRAHEDRON, BLOCK = outward(FOUR), outward(CUBE)
 # The tetrahedron, and a line of sight to its first point through its inside.
 FIVE_SIGHTS = plain([(*p, i) for i, p in enumerate(FOUR)] + [(100, 100, 100, 4)],
                     [(10 * x, 10 * y, 10 * z) for x, y, z in FOUR] + [(-1000, -1000, -1000)])
-MESH = text('ply', 'format ascii 1.0', 'element vertex 4', *XYZ, 'element face 4', 'property list uchar int vertex_indices', 'end_header',
-            '100 100 100', '100 -100 -100', '-100 100 -100', '-100 -100 100', '3 0 1 2', '3 0 2 3', '3 0 3 1', '3 1 3 2')
-EMPTY_MESH = text('ply', 'format ascii 1.0', 'element vertex 0', *XYZ, 'element face 0', 'property list uchar int vertex_indices', 'end_header')
-VERSION_1 = text('recon certificate 1', 'points 4', 'scanners 4', 'sights 4', 'vote 8', 'smooth 1', 'cost 4', 'inside 1', '8 9 10 11',
-                 'flow 4', '8 9 10 1', '8 10 11 1', '8 11 9 1', '9 11 10 1', 'sink 1', '8 9 10 11 4', 'end')
-
-
-def stamped(cert: bytes, scan: bytes, unit: int = 1, fixed: str = 'none') -> bytes:
-    """Returns a certificate of version 1 in version 2."""
-    stamp = text('recon certificate 2', 'scan ' + hashlib.sha256(scan).hexdigest(), f'unit {unit}', 'scanner ' + fixed)
-    return stamp + cert.split(b'\n', 1)[1]
-
-
-def changed(data: bytes, line: int, *new: str) -> bytes:
-    """Returns the text with a line, counted from 1, replaced."""
-    lines = data.split(b'\n')
-    return b'\n'.join(lines[:line - 1] + [n.encode() for n in new] + lines[line:])
 
 
 def rows_of(cert: bytes, name: str) -> list[str]:
