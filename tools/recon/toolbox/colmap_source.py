@@ -251,15 +251,18 @@ def binary_tracks(file: BinaryIO) -> Iterator[Track]:
 def track_starts(data: bytes, most: int) -> tuple[list[int], int]:
     """Returns where the first whole points of points3D.bin begin, at most `most`, and where the last one ends."""
     starts: list[int] = []
-    at, count_at = 0, struct.Struct('<Q').unpack_from
-    while at + POINT.itemsize <= len(data) and len(starts) < most:
-        size, = count_at(data, at + POINT.itemsize - 8)
-        if size > TRACK_LIMIT:
-            raise NotPlain
-        if at + POINT.itemsize + 8 * size > len(data):
+    count_at, head, end, at = struct.Struct('<Q').unpack_from, POINT.itemsize, len(data), 0
+    for _ in range(min(most, end // head)):
+        if at + head > end:
+            break
+        size, = count_at(data, at + head - 8)
+        after = at + head + 8 * size
+        if after > end:
+            if size > TRACK_LIMIT:
+                raise NotPlain
             break
         starts.append(at)
-        at += POINT.itemsize + 8 * size
+        at = after
     return starts, at
 
 

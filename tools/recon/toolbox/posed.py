@@ -11,11 +11,11 @@ from typing import Sequence
 import numpy as np
 
 from recon.toolbox.blocks import Column, TextColumn
-from recon.toolbox.exact import Pose
+from recon.toolbox.exact import OVER_30_DIGITS, WIDE, Pose
 from recon.toolbox.text_columns import IS_LONG, NotPlain, TextRows
 
-# of a sum of three products and a number, each of numbers rounded once: in parts of the sum of their sizes
-ERROR = 6 * 2.0 ** -64
+# of a sum of three products and a number, each of numbers rounded once, in parts of the sum of their sizes, which is itself a little wrong
+ERROR = 6.001 * 2.0 ** -64
 MANTISSA = (1 << 52) - 1
 
 
@@ -27,31 +27,56 @@ class Posed:
             raise NotPlain
         self.text, self.pose = text, pose
         self.longs: list[np.ndarray] | None = None
+        self.whole: list[np.ndarray] | None = None
+        self.places = [0, 0, 0]
         self.known: tuple[np.ndarray | None, list[list[str]]] | None = None
 
     def columns(self) -> list[Column]:
         return [PosedColumn(self, axis) for axis in range(3)]
 
     def before(self) -> list[np.ndarray]:
-        """Returns the coordinates as they stand in the text, with 64 bits."""
+        """Returns the coordinates as they stand in the text, with 64 bits: whole numbers over powers of ten, where they are such, and else rounded."""
         if self.longs is None:
-            self.longs = [self.text.longs(column) for column in range(3)]
+            try:
+                found = [self.text.decimals(column) for column in range(3)]
+                self.whole, self.places = [whole for whole, _ in found], [places for _, places in found]
+                self.longs = [whole.astype(np.longdouble) for whole in self.whole]
+            except NotPlain:
+                self.longs = [self.text.longs(column) for column in range(3)]
         return self.longs
 
     def floats(self, axis: int) -> np.ndarray:
         """Returns a coordinate of all points."""
-        factors = [long_of(row[axis]) for row in self.pose.matrix]
-        parts = [column * factor for column, factor in zip(self.before(), factors)]
-        total = parts[0] + parts[1] + parts[2] + factors[3]
-        size = (np.abs(parts[0]) + np.abs(parts[1]) + np.abs(parts[2]) + abs(factors[3])).astype(float)
+        columns = self.before()
+        factors = [long_of(WIDE.scaleb(row[axis], -places)) for row, places in zip(self.pose.matrix, [*self.places, 0])]
+        total = columns[0] * factors[0]
+        total += columns[1] * factors[1]
+        total += columns[2] * factors[2]
+        total += factors[3]
         values = total.astype(float)
-        left = np.abs((total - values).astype(float))
+        total -= values
+        left, size = np.abs(total.astype(float)), np.full(len(values), abs(float(factors[3])))
+        for column, factor in zip(columns, factors):
+            size += np.abs(column.astype(float)) * abs(float(factor))
         half = np.spacing(np.abs(values)) / 2
         is_power = values.view(np.int64) & MANTISSA == 0
         near = np.flatnonzero((np.abs(left - half) <= ERROR * size) | is_power)
         if len(near):
-            values[near] = [float(words[axis]) for words in self.rows(near)]
+            values[near] = self.exact(axis, near)
         return values
+
+    def exact(self, axis: int, rows: np.ndarray) -> list[float]:
+        """Returns a coordinate of some points, of sums of whole numbers where these are known."""
+        if self.whole is None:
+            return [float(words[axis]) for words in self.rows(rows)]
+        most, pose = max(self.places), self.pose
+        factors = [row[axis] * 10 ** (most - places) for row, places in zip(pose.whole, [*self.places, 0])]
+        columns = [column[rows].tolist() for column in self.whole]
+        totals = [x * factors[0] + y * factors[1] + z * factors[2] + factors[3] for x, y, z in zip(*columns)]
+        if any(abs(total) >= OVER_30_DIGITS for total in totals):
+            return [float(words[axis]) for words in self.rows(rows)]
+        over = 10 ** (most + pose.places)
+        return [total / over for total in totals]
 
     def rows(self, rows: np.ndarray) -> list[list[str]]:
         """The coordinates of some points as words, exactly."""

@@ -12,12 +12,13 @@ from typing import Any, NamedTuple
 import numpy as np
 
 from recon.toolbox.ply_text import IS_NOT_FINITE, IS_NUMBER
-from recon.toolbox.whole_text import HIGHEST, MINUS, OVER, SPACE, WIDTH, ZEROS, of_digits
+from recon.toolbox.whole_text import BYTE, HIGHEST, MINUS, OVER, SPACE, WIDTH, ZEROS, of_digits
 
 PAD, CHUNK = 32, 1 << 19
 DOT, PLUS, NEWLINE, TAB = ord('.'), ord('+'), ord('\n'), ord('\t')
 MOST_DIGITS, MOST_PLACES, LONGEST_LINE = 19, 24, 4095
 EXACT, MOST_WHOLE = 1 << 53, 10 ** 18
+SMALL, ZERO, TEN, HUNDRED = 3, np.uint8(ord('0')), np.uint8(10), np.uint16(100)
 # for fewer rows than one in this number, words are cut out one by one
 FEW = 8
 WHOLE_POWERS = np.array([10 ** k for k in range(MOST_DIGITS + 1)], np.uint64)
@@ -181,6 +182,16 @@ class TextRows:
         digits <<= unused
         return self.checked(digits, odd)
 
+    def small(self, ends: np.ndarray, sizes: np.ndarray, odd: np.ndarray) -> np.ndarray:
+        """The same of numbers of at most three digits, as colors are, letter by letter."""
+        ones, tens, hundreds = (self.letters.take(ends - k) - ZERO for k in (1, 2, 3))
+        tens *= sizes > 1
+        hundreds *= sizes > 2
+        if max(int(ones.max()), int(tens.max()), int(hundreds.max())) > 9:
+            odd |= (ones > 9) | (tens > 9) | (hundreds > 9)
+        ones += tens * TEN
+        return ones + hundreds.astype(np.uint16) * HUNDRED
+
     @staticmethod
     def checked(digits: np.ndarray, odd: np.ndarray) -> np.ndarray:
         """The numbers of eight digits each. Those that have other letters are marked in `odd`."""
@@ -204,10 +215,14 @@ class TextRows:
         parts = self.parts(column)
         whole, odd = parts.dots - parts.starts, np.zeros(len(parts.ends), bool) if parts.odd is None else parts.odd
         places = None if parts.dots is parts.ends else parts.ends - parts.dots
-        if int(whole.max()) > WIDTH or int(whole.min()) < 1:
+        longest = int(whole.max())
+        if longest > WIDTH or int(whole.min()) < 1:
             odd |= (whole > WIDTH) | (whole < (1 if places is None else 0))
             whole = np.clip(whole, 0, WIDTH)
-        values = self.digits(parts.ends, whole, odd).astype(float) if places is None else self.pointed(parts, whole, places - 1, odd)
+        if places is None:
+            values = (self.digits if longest > SMALL else self.small)(parts.ends, whole, odd).astype(float)
+        else:
+            values = self.pointed(parts, whole, places - 1, odd)
         if parts.is_minus.any():
             np.negative(values, out=values, where=parts.is_minus)
         if odd.any():
@@ -235,9 +250,10 @@ class TextRows:
         """The digits before and after the point as one number of at most eight, where all have as many after it."""
         after = np.uint64((1 << 64) - (1 << 8 * (WIDTH - places)))
         digits = self.windows[ends - WIDTH]
-        digits &= after
-        before = self.windows[ends - WIDTH - 1]
+        # with its point a number of seven digits is in these eight letters
+        before = digits << BYTE if int(whole.max()) + places < WIDTH else self.windows[ends - WIDTH - 1]
         before &= ~after
+        digits &= after
         digits |= before
         digits ^= ZEROS
         unused = ((WIDTH - places - whole) << 3).view(np.uint64)
@@ -343,10 +359,20 @@ class TextRows:
         most = int(places.max(initial=0))
         if odd.any() or len(whole) and (int(whole.max()) > WIDTH or int((whole + places).min()) < 1) or most > 2 * WIDTH:
             raise NotPlain
-        digits, after = self.digits(parts.dots, whole, odd), self.digits(parts.ends, np.minimum(places, WIDTH), odd)
+        if most and int(places.min()) == most and int(whole.max()) + most <= WIDTH:
+            total = self.joined(parts.ends, whole, most, odd).view(np.int64)
+        else:
+            total = self.long_whole(parts, whole, places, odd)
+        if odd.any():
+            raise NotPlain
+        np.negative(total, out=total, where=parts.is_minus)
+        return total, most
+
+    def long_whole(self, parts: Parts, whole: np.ndarray, places: np.ndarray, odd: np.ndarray) -> np.ndarray:
+        """The numbers without their sign, as whole ones over the highest power of ten of all."""
+        digits, after, most = self.digits(parts.dots, whole, odd), self.digits(parts.ends, np.minimum(places, WIDTH), odd), int(places.max(initial=0))
         if most > WIDTH:
             after += self.digits(parts.ends - WIDTH, np.clip(places - WIDTH, 0, WIDTH), odd) * WHOLE_POWERS[WIDTH]
-        if odd.any() or int(digits.max(initial=0)) * 10 ** most > MOST_WHOLE:
+        if int(digits.max(initial=0)) * 10 ** most > MOST_WHOLE:
             raise NotPlain
-        total = ((digits * WHOLE_POWERS[places] + after) * WHOLE_POWERS[most - places]).view(np.int64)
-        return np.where(parts.is_minus, -total, total), most
+        return ((digits * WHOLE_POWERS[places] + after) * WHOLE_POWERS[most - places]).view(np.int64)
