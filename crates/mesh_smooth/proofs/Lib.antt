@@ -4,3 +4,4 @@ pub mod Pairs
 pub mod Passes
 pub mod Shapes
 pub mod Scales
+pub mod GridScales

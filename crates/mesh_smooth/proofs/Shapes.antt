@@ -1,5 +1,5 @@
 -- Steps one after another, and the finer grid.
-use Rattle.std.proofs.Common.{ℕ, ◌≡◌, ◌⊎◌, ◌<◌, ◌*◌, ℤ, pos, ◌+ℤ◌, ◌-ℤ◌, ◌*ℤ◌, ◌≤ℤ◌, inl, inr, refl, ap, sym, subst, ◌∙◌, arith, List, length, set}
+use Rattle.std.proofs.Common.{ℕ, ◌≡◌, ◌<◌, ◌*◌, ℤ, pos, ◌+ℤ◌, ◌-ℤ◌, ◌*ℤ◌, ◌≤ℤ◌, inl, inr, refl, sym, subst, ◌∙◌, arith, List, length, set}
 use Rattle.std.proofs.Math.ListN.{length-set}
 use Rattle.std.proofs.lemmas.Int.{ints}
 use Rattle.std.specs.List.{All}
@@ -12,7 +12,8 @@ use Rattle.mesh_flips.proofs.Kept.{flips_count}
 use Rattle.mesh_flips.proofs.Chains.{flipped_on}
 use Rattle.mesh_flips.proofs.Crossings.{same_or_not}
 use Rattle.mesh_smooth.specs.Near.{IsNear, AreNearHome}
-use Rattle.mesh_smooth.specs.Smoothed.{IsMagnified, IsReshaped, IsSmoothedMesh, magnified}
+use Rattle.mesh_smooth.specs.Smoothed.{FitsTimes, IsLargestScale, IsMagnified, IsReshaped, IsSmoothedMesh}
+use Rattle.mesh_smooth.proofs.GridScales.{scale_some}
 use Rattle.mesh_smooth.proofs.Flags.{point_here, point_other}
 use Rattle.mesh_smooth.proofs.Scales.{magnified_kept}
 
@@ -68,15 +69,15 @@ pub all_near_self : (points : List Point) (within : ℕ) → AreNearHome points 
 all_near_self points within = record { count = refl; near = λ v l. near_self (point_at points v) within }
 
 -- all steps, seen from the old grid
-pub smoothed_mesh : (points home moved : List Point) (old new : List (List ℕ)) (fine within reach : ℕ) → 0 < fine
-    → reach ≡ fine * within → IsMagnified fine points home → All (IsTriangle (length points)) old → AreNearHome home moved reach
+pub smoothed_mesh : (points home moved : List Point) (old new : List (List ℕ)) (fine within reach : ℕ)
+    → IsLargestScale (FitsTimes points) fine → reach ≡ fine * within → IsMagnified fine points home → All (IsTriangle (length points)) old → AreNearHome home moved reach
     → IsReshaped home moved old new → IsSmoothedMesh points moved old new fine within
-smoothed_mesh points home moved old new fine within reach more e s each near shape =
+smoothed_mesh points home moved old new fine within reach scale e s each near shape =
     record {
-      finer = more;
+      scale = scale;
       count = near.count ∙ s.count;
       near = λ v l.
           subst (λ (p : Point). IsNear p (point_at moved v) (fine * within)) (s.each v l)
           (subst (λ (r : ℕ). IsNear (point_at home v) (point_at moved v) r) e (near.near v (omega (arith, l, s.count))));
-      shape = shaped_on points home moved old old new (shaped_moved points home old (magnified_kept fine points home old more s each)) shape;
+      shape = shaped_on points home moved old old new (shaped_moved points home old (magnified_kept fine points home old (scale_some fine scale.scale) s each)) shape;
     }

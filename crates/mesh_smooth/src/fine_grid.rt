@@ -1,9 +1,9 @@
 //! The finer grid on which points move.
 
-ghost use Rattle.std.specs.Prelude.{◌≡◌, ◌≤◌, ◌<◌, ◌*◌, pos, ◌*ℤ◌, All, IfOk};
+ghost use Rattle.std.specs.Prelude.{ℕ, ◌≡◌, ◌≤◌, ◌<◌, ◌*◌, pos, ◌*ℤ◌, All, IfOk};
 ghost use Rattle.geo_sign.specs.Point.{IsWithin};
 ghost use Rattle.geo_sign.specs.declared.point.TheConstants.{BOX_LIMIT};
-ghost use Rattle.mesh_smooth.specs.Smoothed.{magnified, IsMagnified};
+ghost use Rattle.mesh_smooth.specs.Smoothed.{magnified, IsMagnified, FitsTimes, IsLargestScale};
 
 use crate::NoMemory;
 use geo_sign::Point;
@@ -19,6 +19,7 @@ const INNER_LIMIT: u64 = 4_194_304;
 fn reach_of(p: Point) -> u32
     ensures within { IsWithin result p }
     ensures bound { result ≤ BOX_LIMIT }
+    ensures least { (k limit : ℕ) → IsWithin limit (magnified k p) → k * result ≤ limit }
 {
     p.facts();
     let flat = p.x().unsigned_abs().max(p.y().unsigned_abs());
@@ -29,6 +30,7 @@ fn reach_of(p: Point) -> u32
 pub(crate) fn greatest(points: &[Point]) -> u32
     ensures each { All (IsWithin result) points.now }
     ensures bound { result ≤ BOX_LIMIT }
+    ensures least { (k : ℕ) → FitsTimes points.now k → k * result ≤ INNER_LIMIT }
 {
     let mut reach = 0;
     for p in points {
@@ -37,33 +39,18 @@ pub(crate) fn greatest(points: &[Point]) -> u32
     reach
 }
 
-/// Returns twice the number if a grid that fine fits, else the number.
-fn finer(fine: u64, reach: u64) -> u64
-    requires some { 0 < fine }
-    requires few { fine ≤ 2048 }
-    requires bound { fine * reach ≤ BOX_LIMIT }
-    ensures some { 0 < result }
-    ensures few { result ≤ 2048 }
-    ensures bound { result * reach ≤ BOX_LIMIT }
-{
-    if fine < FINEST && 2 * (fine * reach) <= INNER_LIMIT {
-        2 * fine
-    } else {
-        fine
-    }
-}
-
-/// Returns how many units of the finer grid one unit has: the greatest power of two by which the coordinates, doubled, stay in half of
-/// the box, at least 1 and at most 1024.
+/// Returns how many units of the finer grid one unit has: the greatest power of two by which the coordinates stay in half of the
+/// box, at least 1 and at most 1024.
 pub(crate) fn finest(reach: u32) -> u32
     requires { reach ≤ BOX_LIMIT }
     ensures some { 0 < result }
     ensures bound { result * reach ≤ BOX_LIMIT }
+    ensures scale { IsLargestScale (λ k. k * reach ≤ INNER_LIMIT) result }
 {
     let reach = u64::from(reach);
     let mut fine = 1u64;
-    for _ in 0..10 {
-        fine = finer(fine, reach);
+    while fine < FINEST && 2 * (fine * reach) <= INNER_LIMIT {
+        fine *= 2;
     }
     fine as u32
 }

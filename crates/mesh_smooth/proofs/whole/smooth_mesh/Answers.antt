@@ -4,6 +4,7 @@ use Rattle.std.proofs.lemmas.List.{take_at}
 use Rattle.geo_sign.specs.Point.{Point}
 use Rattle.mesh_smooth.specs.Near.{AreNearHome}
 use Rattle.mesh_smooth.specs.Smoothed.{IsReshaped, IsSmoothedMesh}
+use Rattle.mesh_smooth.proofs.GridScales.{scale_of_points}
 use Rattle.mesh_smooth.proofs.Shapes.{all_near_self, smoothed_mesh}
 use Rattle.mesh_smooth.proofs.whole.smooth_mesh.Goals as goal
 
@@ -27,7 +28,9 @@ returns-clause-smoothed c =
     subst (λ (z : List Point). IsReshaped z new c.args.faces.now c.all_steps.new.faces) moved c.in_ok-all_steps.ensures.shape in
     let whole : IsSmoothedMesh c.args.points.now new c.args.faces.now c.all_steps.new.faces c.finest-fine.result c.args.smoothing.within =
     smoothed_mesh c.args.points.now home new c.args.faces.now c.all_steps.new.faces c.finest-fine.result c.args.smoothing.within reach
-    c.finest-fine.ensures.some c.fine_distance-within.ensures c.in_ok-home.ensures c.requires.each near shape in
+    (scale_of_points c.args.points.now c.greatest-reach.result c.finest-fine.result c.greatest-reach.ensures.each c.greatest-reach.ensures.least
+    c.finest-fine.ensures.scale)
+    c.fine_distance-within.ensures c.in_ok-home.ensures c.requires.each near shape in
     subst
     (λ (z : List Point). IsSmoothedMesh c.args.points.now z c.args.faces.now c.all_steps.new.faces c.finest-fine.result c.args.smoothing.within)
     (sym
