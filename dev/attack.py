@@ -39,8 +39,8 @@ LOG = TOP / 'attack.log'
 # A line of `rt help` that says that `rt ci` takes names of crates.
 TAKES_NAMES = re.compile(r'(?m)^ *rt ci +(\[|NAME)')
 SIDE_BY_SIDE = 4
-# Half an hour on two processors.
-MOST = 100
+# A quarter of an hour on two processors.
+MOST = 60
 # A changed line of a clause in src/, and one of a definition in specs/ (no comment and no import).
 CLAUSE, DEFINITION = re.compile(r'[+-]\s*(requires|ensures|(pub )?ghost (?!use))'), re.compile(r'[+-](?!\s*(--|use |pub mod |$))')
 RESULT = re.compile(r'(?:rt: )?must-fail (\w+/\S+)\.edit: (.*)')
