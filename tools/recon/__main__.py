@@ -28,6 +28,10 @@ def main() -> None:
     from recon.start import PROGRAMS, ends_at_once, started
     name = sys.argv[1].replace('_', '-') if len(sys.argv) > 1 else ''
     ends_at_once('recon-' + name)
+    if name == '--version':
+        from recon import __version__
+        print('recon', __version__)
+        return
     if name not in PROGRAMS:
         print(f'usage: recon PROGRAM ARGUMENTS .., where PROGRAM is one of {", ".join(PROGRAMS)}', file=sys.stderr)
         sys.exit(2)
