@@ -39,6 +39,8 @@ from bench import objects, sites, unseen  # noqa: E402
 DEV = os.path.dirname(os.path.abspath(__file__))
 CGAL = '/usr/share/doc/libcgal-dev/data.tar.gz'
 POINTS = '100000'
+# sites are scanned more coarsely than for docs/explain/accuracy.md
+SITE_SCALE = 0.6
 TORUS, STATUE, ROOM = (0.3, 1, -0.7), (0.2, 1, -0.15), (0.4, 1, -0.8)
 WARM, INK, SIGHT = '#f2cfa2', '#333333', '#c0392b'
 
@@ -337,7 +339,7 @@ def seen(folder: str, recon: str, work: str) -> None:
     only, so that one looks through ceilings."""
     os.environ['RECON'] = recon
     for name, toward, centre, reach in (('court', (0.5, 1, -0.75), (2, 0, 1), 24), ('flat', (0.35, 1, -1.1), (4.5, 3.5, 0.6), 9)):
-        path = unseen.written(os.path.join(work, name + '.scan.ply'), sites.scan_of(name, unseen.SCALES.get(name, 1.0)))
+        path = unseen.written(os.path.join(work, name + '.scan.ply'), sites.scan_of(name, SITE_SCALE))
         tool('surface', path, '-o', os.path.join(work, name + '.ply'), '--no-check', '-q')
         view, images = render.View(toward, centre, reach, 840), []
         for part in (name + '-closed', name):

@@ -7,8 +7,10 @@ A face counts as seen if at least two of its corners were seen from its front si
 - it lies in a gap that continues a flat surface on all sides, such as the ground under a scanner: the normals at all three corners are within 11
   degrees, and so for nearly all of the gap.
 
+A curved triangle with the normals at the corners of a face shows how far off it the surface is. Of a face over 3 usual widths it may be 0.3 usual widths.
+
 At the silhouette of an object faces are seen edge-on. One that is up to 7 degrees past it counts as seen if it continues the surface: two normals at
-its corners are within 25 degrees, and a curved triangle with the normals at the corners is off its middle by at most a tenth of the usual width.
+its corners are within 25 degrees, and the surface is off it by at most a tenth of the usual width.
 
 The usual width at a vertex is the geometric mean of the lengths of its edges across its line of sight, but at most 4 times what is usual for its
 scanner. The normal at a vertex is the mean of those of the faces around it, each the more the more squarely it is seen. So a face along the lines of
@@ -35,6 +37,8 @@ NORMAL_WIDTHS = 6.0
 FRONT, SQUARE = 0.03, 0.2
 # the same of one at a silhouette, between that and FRONT; the least cosine to the normals at its corners, and how far off it the surface is at most
 EDGE_ON, BENT, OFF = -0.12, 0.9, 0.1
+# how far off a face over SQUARE_WIDTHS the surface is at most
+WIDE_OFF = 0.3
 # the least cosines between the normal of a face and those at its corners: where it is seen squarely, where it continues them, and in a flat gap
 ALIKE, SMOOTH, FLAT = 0.7, 0.97, 0.98
 # the part of a gap's area that has to be flat
@@ -185,6 +189,8 @@ def unseen_by_sights(vertices: np.ndarray, faces: np.ndarray, views: Views) -> n
     is_added = views.added[faces].any(axis=1)
     is_possible = two_of(is_front) & ~is_added
     unseen = ~(is_possible & is_seen)
+    wide = np.flatnonzero(~unseen & two_of(width > SQUARE_WIDTHS))
+    unseen[wide] = off(mesh, at, usual, wide) > WIDE_OFF
     edge_on = np.flatnonzero(unseen & ~is_added & ~two_of(is_front) & two_of(cosine > EDGE_ON))
     unseen[edge_on[silhouettes(mesh, at, usual, edge_on, normal[:, edge_on])]] = False
     unseen &= ~flat_gaps(vertices, faces, unseen, is_possible & (agree >= FLAT).all(axis=0))
@@ -197,19 +203,20 @@ def silhouettes(mesh: Faces, at: np.ndarray, usual: np.ndarray, rows: np.ndarray
     corners, kept = mesh.faces[rows], np.zeros(len(rows), bool)
     for _ in range(2):
         agree = np.einsum('ai,aik->ki', normal, at[:, corners])
-        kept |= two_of(agree > BENT) & (bulges(mesh, at, rows) <= OFF * np.median(usual[corners], axis=1))
+        kept |= two_of(agree > BENT) & (off(mesh, at, usual, rows) <= OFF)
         found = normals_at(corners, mesh.count, np.broadcast_to(kept, (3, len(rows))), normal)
         at = np.where((at == 0).all(axis=0), found, at)
     return kept
 
 
-def bulges(mesh: Faces, normals: np.ndarray, rows: np.ndarray) -> np.ndarray:
-    """How far the middle of some faces is from that of the curved triangle with these normals (3, n) at its corners (the PN triangle of Vlachos et al.)."""
+def off(mesh: Faces, normals: np.ndarray, usual: np.ndarray, rows: np.ndarray) -> np.ndarray:
+    """How far the middle of some faces is from that of the curved triangle with these normals (3, n) at its corners (the PN triangle of Vlachos et al.), in
+    usual widths."""
     corners = mesh.faces[rows]
     places = np.stack([place[corners] for place in mesh.places])
     at = normals[:, corners]
     deep = ((places.mean(axis=2, keepdims=True) - places) * at).sum(axis=0)
-    return np.asarray(np.linalg.norm((deep * at).sum(axis=2), axis=0) / 6)
+    return np.asarray(np.linalg.norm((deep * at).sum(axis=2), axis=0) / 6 / np.median(usual[corners], axis=1))
 
 
 def two_of(corners: np.ndarray) -> np.ndarray:
