@@ -10,7 +10,7 @@ import numpy as np
 
 from helpers import RECON, RECON_MESH, InFolder, call, equal, write
 from recon.meshes import Mesh, unseen_faces
-from recon.toolbox.seen import Views, filled, unseen_by_sights, views_of
+from recon.toolbox.seen import Faces, Views, filled, off, unseen_by_sights, views_of
 from test_library import SCANNERS, nearest, sphere
 from test_surface import chosen, made, refused, scan_text
 
@@ -96,6 +96,17 @@ class Sights(unittest.TestCase):
         # the flat base that closes it there is no part of it
         lid = np.array([[30 * j + 16, 30 * j, 30 * j + 46] for j in range(20)])
         equal(unseen_rows(vertices, np.r_[faces_of(16), lid], seen), list(range(640, 660)))
+
+    def test_how_far_a_surface_is_off_a_face(self) -> None:
+        # on a ball of radius 1 with its normals, flat, and a face that leaves flat ground at two corners
+        ball = np.array([[1, 0.1, 0], [1, 0, 0.2], [1, -0.1, -0.1]])
+        ball /= np.linalg.norm(ball, axis=1)[:, None]
+        up = np.array([[0.0, 0, 1]] * 3)
+        for corners, normals, wanted in ((ball, ball, 1 - np.linalg.norm(ball.mean(axis=0))), (np.eye(3), up * 0 + 3 ** -0.5, 0.0),
+                                         (np.array([[0, 0, 0], [9, 0, 0], [0, 9, 3.0]]), up * [[1], [1], [0]], 2 / 6)):
+            mesh = Faces(corners, np.array([[0, 1, 2]]), views(corners, (9, 9, 9)))
+            got = off(mesh, normals.T, np.full(3, 0.5), np.array([0]))
+            equal(abs(float(got[0]) - 2 * wanted) < 0.05 * wanted + 1e-12, True)
 
     def test_the_nearest_scanner_of_a_point(self) -> None:
         points, places = np.zeros((3, 3)), np.array([[5.0, 0, 0], [1, 0, 0], [9, 0, 0]])
