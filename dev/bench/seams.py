@@ -28,7 +28,8 @@ import numpy
 from bench import runs
 from bench.runs import measured, printed_row, tool
 from recon.make_scan import FIGURE, FURNITURE, ROOM
-from recon.toolbox.tile_join import Tile, read_mesh, read_tiles
+from recon.toolbox.mesh_files import read_mesh
+from recon.toolbox.tile_boxes import FAR, Core, cores_of, read_list
 
 NAMES, OPTIONS = 2, ('shapes', 'count', 'points', 'spacings', 'through', 'whole', 'jobs')
 SCALE, NOISE, NEAR = 500000, 0.0015, 20
@@ -64,9 +65,8 @@ class Faces:
     """The faces of a mesh: a key of its three places each, and three times its middle."""
 
     def __init__(self, path: str) -> None:
-        mesh = read_mesh(path)
-        places = numpy.stack([numpy.array(axis, dtype=numpy.int64) for axis in (mesh.x, mesh.y, mesh.z)], axis=1)
-        corners = numpy.stack([numpy.array(corner, dtype=numpy.int64) for corner in (mesh.a, mesh.b, mesh.c)], axis=1)
+        places, faces = read_mesh(path)
+        corners = faces.reshape(-1, 3)
         keys = (((places[:, 0] * 4194301 + places[:, 1]) * 4194301) + places[:, 2])[corners]
         first = keys.argmin(axis=1)
         turned = numpy.take_along_axis(keys, (first[:, None] + numpy.arange(3)) % 3, axis=1).astype(numpy.uint64)
@@ -75,11 +75,11 @@ class Faces:
         self.middles = places[corners].sum(axis=1)
 
 
-def near_seams(tiles: list[Tile], faces: Faces, far: float) -> numpy.ndarray:
+def near_seams(cores: list[Core], faces: Faces, far: float) -> numpy.ndarray:
     """Returns which faces have their middle within a number of thirds of a core that it is not in."""
     found = numpy.zeros(len(faces.middles), dtype=numpy.int64)
-    for tile in tiles:
-        low, high = numpy.array(tile.low), numpy.array(tile.high)
+    for core in cores:
+        low, high = (numpy.array([3 * end if abs(end) < FAR else 9 * end for end in ends]) for ends in (core.low, core.high))
         beyond = numpy.maximum(numpy.maximum(low - faces.middles, faces.middles - high), 0).astype(float)
         found += lengths(beyond) <= far
     return found > 1
@@ -112,17 +112,17 @@ def tiled(recon: str, folder: str, scan: str, spacings: str, options: Any) -> tu
         more = ['through=' + options.through] if options.through else []
         tool('tiles', 'split', scan, tiles, 'points=' + (options.points or '45000'), 'spacings=' + spacings, *more)
     measured('make', '-s', '-C', tiles, 'RECON=' + recon, '-j' + (options.jobs or '1'))
-    return tiles, tool('tiles', 'join', tiles, tiles + '.ply', f'report={tiles}.txt').splitlines()
+    return tiles, tool('tiles', 'join', tiles, tiles + '.ply').splitlines()
 
 
 def row(shape: str, whole: Faces | None, spacings: str, tiles: str, said: list[str]) -> list[str]:
     """Returns a row of the table."""
     with open(os.path.join(tiles, 'tiles.json'), encoding='ascii') as file:
         about = json.load(file)
-    cores, _ = read_tiles(tiles)
+    cores = cores_of(read_list(os.path.join(tiles, 'tiles.txt')))
     joined, far = Faces(tiles + '.ply'), 3 * NEAR * about['spacing']
     cells = [shape, spacings, str(len(cores)), f'{sum(t["own"] for t in about["tiles"]) / about["points"]:.2f}',
-             f'{sum(t["points"] for t in about["tiles"]) / about["points"]:.2f}', said[0].split('; ')[-1], str(len(said) - 1)]
+             f'{sum(t["points"] for t in about["tiles"]) / about["points"]:.2f}', '; '.join(said[0].split('; ')[-2:])]
     cells += summary(shape, joined, whole, near_seams(cores, joined, far), about['spacing'])
     if whole:
         cells += summary(shape, whole, joined, near_seams(cores, whole, far), about['spacing'])

@@ -1,10 +1,13 @@
 """The program `recon-mesh`: where it is, and meshes that it finishes and simplifies.
 
-Names: mesh_program_path · FinishOptions · Whole (a mesh of whole numbers) · finish_mesh · simplify_mesh.
+Names: mesh_program_path · FinishOptions · Whole (a mesh of whole numbers) · finish_mesh · simplify_mesh · has_command
+· run_join (joins tiles).
 """
 from __future__ import annotations
 
 import os
+import re
+import subprocess
 from dataclasses import dataclass
 from typing import Dict, List, NamedTuple, Optional
 
@@ -72,3 +75,20 @@ def changed(words: List[str], program: Optional[str]) -> dict[str, int]:
     except Refused as error:
         is_open = error.line.startswith('refused 28 unbalanced')
         raise Refusal(f'the mesh is not closed: recon-mesh printed {error.line}' if is_open else f'recon-mesh: {error}') from None
+
+
+def has_command(name: str) -> bool:
+    """Returns whether the program is there and has a command."""
+    found = mesh_program_path()
+    if found is None:
+        return False
+    said = subprocess.run([found, 'help'], stdin=subprocess.DEVNULL, stdout=subprocess.PIPE, stderr=subprocess.STDOUT, text=True).stdout
+    return re.search(rf'recon-mesh {name}\b', said) is not None
+
+
+def run_join(tiles: str, out: str) -> Dict[str, int]:
+    """Joins the meshes of a list of tiles into another file, and returns the numbers of the program's line."""
+    try:
+        return run(['join', tiles, out], mesh_program_path())
+    except Refused as error:
+        raise Refusal(f'recon-mesh: {error}') from None

@@ -81,9 +81,8 @@ def refuse_places(args: Any) -> None:
     """Stops before a file that is read would be lost, or a folder stands where a file is to be."""
     places, inputs = places_of(args), inputs_of(args)
     refuse_inputs(inputs, places)
-    if args.tiles:
-        tiles = os.path.realpath(Path(args.keep or Path(args.output).with_suffix('.recon')) / 'tiles')
-        refuse_inputs(inputs, [path for path in inputs if os.path.dirname(os.path.realpath(path)) == tiles])
+    tiles = os.path.realpath(Path(args.keep or Path(args.output).with_suffix('.recon')) / 'tiles')
+    refuse_inputs(inputs, [path for path in inputs if os.path.dirname(os.path.realpath(path)) == tiles])
     for path in places:
         refuse_place(path)
 
@@ -196,12 +195,13 @@ def again_words(made: Made) -> list[str]:
         if value is not None:
             words.append(f'--{key}={os.path.abspath(value) if key in ("positions", "table", "images", "flight") else value}')
     words += [f'--{key}={value}' for key, value in (('from', args.from_), ('to', args.to)) if value is not None]
-    for key in ('outside', 'normals', 'above', 'estimate_normals', 'no_clean', 'no_check', 'tiles'):
+    for key in ('outside', 'normals', 'above', 'estimate_normals', 'no_clean', 'no_check'):
         words += ['--' + key.replace('_', '-')] if getattr(args, key) else []
+    words += ['--tiles'] if 'tiles' in chosen else []
     words += ['--' + chosen['mesh'].value] + ([f'--fill={args.fill}'] if args.fill else [])
     for key in ('divide', 'far', 'origin', 'unit', 'side', 'surround', 'smooth', 'pieces', 'steps', 'within', 'faces', 'faces-within'):
         words += [f'--{key}={chosen[key].value}'] if key in chosen else []
-    words += [f'--max-points={args.max_points}', f'--vote={args.vote}'] + (['--no-flips'] if chosen['flips'].value == 'no' else [])
+    words += ([f'--max-points={args.max_points}'] if args.max_points else []) + [f'--vote={args.vote}'] + (['--no-flips'] if chosen['flips'].value == 'no' else [])
     return words + ([f'--sweep={args.sweep}'] if args.sweep else []) + ['--force']
 
 

@@ -10,6 +10,9 @@ overrides it. Runs `recon build` and `recon check`, and writes next to the mesh 
   MESH.recon/      scan.ply, mesh.ply and scan.cert, the files that `recon check` reads; report.json with choices, reasons and figures;
                    again.sh, which repeats the run from the original files
 
+A scan of more than 1,048,576 points is built in tiles, which are kept in MESH.tiles/ until the run has ended well: the same command continues a run that
+was interrupted.
+
 Options may also be written as those of `recon` and of the other tools: scanner=X,Y,Z, unit=1000, normals=yes, flips=no.
 
 Exit status: 0 success, 1 error, 2 invalid arguments, 3 empty surface, 4 success, but positions or normals look wrong (0 with
@@ -36,7 +39,7 @@ from recon.choices import Choices
 from recon.clouds import SAMPLE, Spacing, box_of, curve_of, frame, lone_points, spacing, surrounding, thinned, thinning_side, tree_of
 from recon.finish import MOST_STEPS, Request, finished
 from recon.inputs import Cloud, Inputs, read_cloud
-from recon.library import Surface, build_files
+from recon.library import POINT_LIMIT, Surface, build_files
 from recon.light import light_mesh
 from recon.mesh_program import mesh_program_path
 from recon.meshes import pieces
@@ -51,7 +54,7 @@ from recon.toolbox.progress import build_part, read_part, signs_of_life, step
 from recon.toolbox.stopping import Stopped, stoppable
 from recon.toolbox.tool import number_of
 
-MOST, MOST_OF_A_TILE = 1_000_000, 800_000
+MOST, MOST_OF_A_TILE, CORNERS = 1_000_000, 500_000, 8
 # seconds a point that looking at the points and building usually take
 LOOKED_AT, BUILT = 8e-6, 4e-5
 # faces that recon-mesh smooths in a second, for one step
@@ -105,11 +108,12 @@ def cleaned(cloud: Cloud, tree: cKDTree, args: Any, choices: Choices) -> Cloud:
 def thin(cloud: Cloud, texture: Spacing, args: Any, choices: Choices) -> Cloud:
     """The cloud with one point a cube, where there are too many points or they err more than they are apart."""
     side, apart = args.side, texture.distance
-    if args.tiles and len(cloud.points) > args.max_points:
-        choices.choose('tiles', 'yes', f'given; {len(cloud.points):,} points exceed {args.max_points:,}')
-    elif side is None and len(cloud.points) > args.max_points:
-        side = thinning_side(cloud.points, args.max_points, apart)
-        choices.choose('side', f'{side:g}', f'{len(cloud.points):,} points exceed {args.max_points:,}; --tiles keeps all')
+    most = args.max_points or (MOST if args.sweep else None)
+    if args.tiles or side is None and most is None and len(cloud.points) > POINT_LIMIT - CORNERS:
+        choices.choose('tiles', 'yes', 'given' if args.tiles else f'{len(cloud.points):,} points; --max-points N thins them')
+    elif side is None and most is not None and len(cloud.points) > most:
+        side = thinning_side(cloud.points, most, apart)
+        choices.choose('side', f'{side:g}', f'{len(cloud.points):,} points exceed {most:,}; --tiles keeps all')
     elif side is None and texture.noise > 0.8 * apart and not cloud.is_made_up:
         side = float(f'{1.5 * texture.noise:.3g}')
         choices.choose('side', f'{side:g}', f'the noise {texture.noise:.2g} is more than 0.8 of the spacing {apart:.2g}')
@@ -237,14 +241,19 @@ def built_at(smooth: int, scan: Scan, args: Any, folder: Path, choices: Choices)
         watch, part = build_part()
         with step('building', part, BUILT * len(cloud.points)):
             return build_files(cloud.points, cloud.scanners, lists_of(cloud), watch=None if args.quiet else watch, **given)
-    from recon.tiled import build_tiles
-    shutil.rmtree(folder / 'tiles', ignore_errors=True)
-    surface = build_tiles(cloud.points, cloud.scanners, cloud.sights, most=min(args.max_points, MOST_OF_A_TILE), tell=choices.tell, **given)
+    from recon.tiled import Tiling, build_tiles
+    tiling = Tiling(min(args.max_points or MOST_OF_A_TILE, MOST_OF_A_TILE), args.jobs, tiles_folder(args), choices.tell)
+    surface = build_tiles(cloud.points, cloud.scanners, cloud.sights, tiling, **given)
     assert surface.joined is not None
     choices.tell(str(surface.joined))
-    choices.choose('tiles', len(surface.names), f'{choices.chosen["tiles"].why}; each tile is checked, the joined mesh is not: {surface.joined.open_edges} '
-                   f'edges at seams are open, filled by {(surface.joined.filled or (0, 0))[0]} faces')
+    choices.choose('tiles', len(surface.names), f'{choices.chosen["tiles"].why}; each tile is checked; the joined mesh is closed, with '
+                   f'{surface.joined.moved} edges from the tile next to theirs and {surface.joined.filled} triangles of no tile')
     return surface
+
+
+def tiles_folder(args: Any) -> Path:
+    """The folder of the tiles of a run that has not ended well."""
+    return Path(args.output).with_suffix('.tiles')
 
 
 def lists_of(cloud: Cloud) -> Any:
@@ -337,6 +346,8 @@ def made(args: Any, choices: Choices, folder: Path) -> Made:
         done = Made(args, Path(args.output), folder, scan.cloud, scan.read, scan.texture, surface, mesh, colors, report, sweep, choices, light)
         with step('writing, and waiting for the check', seconds=len(mesh.faces) / SMOOTHED_A_SECOND):
             write_outputs(done, beside)
+    if surface.tiles():
+        shutil.rmtree(tiles_folder(args), ignore_errors=True)
     return done
 
 
@@ -364,8 +375,9 @@ def parser() -> argparse.ArgumentParser:
     group.add_argument('--origin', type=triple, metavar='X,Y,Z', help='subtract this origin from all coordinates')
     group.add_argument('--unit', type=within(1, 1_000_000), metavar='U', help='round coordinates to 1/U')
     group.add_argument('--side', type=length, metavar='S', help='keep one point in each cube of this side')
-    group.add_argument('--max-points', type=within(4, 1_048_576), default=MOST, metavar='N', help='thin above N points (default: %(default)s)')
-    group.add_argument('--tiles', action='store_true', help='above N points, keep all: split the scan into tiles, build and check each tile, join the meshes')
+    group.add_argument('--max-points', type=within(4, 1_048_576), metavar='N', help='thin above N points; with --tiles the most points of a tile')
+    group.add_argument('--tiles', action='store_true', help='split the scan into tiles, build and check each tile, join the meshes (default: above '
+                       '1,048,576 points)')
     group.add_argument('--no-clean', action='store_true', help='keep outliers (default: remove points that are far from all others)')
     group.add_argument('--surround', type=lambda word: 0.0 if word == '0' else length(word), metavar='D',
                        help='add eight points at distance D around a scan from inside, so that walls become solid (0: none)')
@@ -388,6 +400,7 @@ def parser() -> argparse.ArgumentParser:
     group = top.add_argument_group('run')
     group.add_argument('--version', action='version', version=version_line('recon-surface'), help='print the version')
     group.add_argument('--sweep', type=within(2, 64), metavar='N', help='add a slider over smooth=0 to N-1 to the page')
+    group.add_argument('--jobs', type=within(1, 1024), metavar='N', help='build N tiles at the same time (default: one for each processor that has memory)')
     group.add_argument('--no-check', action='store_true', help='do not run recon check')
     group.add_argument('--force', action='store_true', help='exit with status 0 even if positions or normals look wrong')
     group.add_argument('--keep', metavar='FOLDER', help='folder for scan, mesh and certificate (default: MESH.recon)')

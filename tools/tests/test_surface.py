@@ -8,6 +8,7 @@ import re
 import subprocess
 import unittest
 from typing import Any
+from unittest import mock
 
 import numpy as np
 
@@ -36,6 +37,17 @@ def made(*words: str, status: int = 0, out: str = 'mesh.ply') -> Any:
     got, said, error = call('surface', *words, '-o', out, '--program', RECON)
     equal((got, said, 'Traceback' in error), (status, '', False))
     return json.loads(pathlib.Path(os.path.splitext(out)[0] + '.recon', 'report.json').read_text())
+
+
+def long_scan() -> np.ndarray:
+    """Writes `in.ply`, a cylinder that is long enough for some tiles, and returns its points."""
+    turn, along = np.meshgrid(np.arange(12) * np.pi / 6, np.arange(240.0))
+    points = np.stack([along.ravel(), 2 * np.cos(turn.ravel()), 2 * np.sin(turn.ravel())], axis=1)
+    points += np.random.default_rng(3).normal(0, 0.01, points.shape)
+    scanners = np.array([(x, y, z) for x in (60.0, 180.0) for y, z in ((30, 0), (-30, 0), (0, 30), (0, -30))])
+    away = np.linalg.norm(points[:, None] * [1, 20, 20] - scanners[None] * [1, 1, 1], axis=2)
+    write('in.ply', scan_text(points, scanners, away.argmin(axis=1)))
+    return points
 
 
 def chosen(report: Any, *names: str) -> list[str]:
@@ -148,21 +160,36 @@ class Surfaces(InFolder):
         equal(chosen(report, 'divide', 'unit', 'smooth', 'flips', 'steps'), ['1000', '1000000', '1', 'no', '0'])
 
     def test_tiles_keep_all_points(self) -> None:
-        turn, along = np.meshgrid(np.arange(12) * np.pi / 6, np.arange(240.0))
-        points = np.stack([along.ravel(), 2 * np.cos(turn.ravel()), 2 * np.sin(turn.ravel())], axis=1)
-        points += np.random.default_rng(3).normal(0, 0.01, points.shape)
-        scanners = np.array([(x, y, z) for x in (60.0, 180.0) for y, z in ((30, 0), (-30, 0), (0, 30), (0, -30))])
-        away = np.linalg.norm(points[:, None] * [1, 20, 20] - scanners[None] * [1, 1, 1], axis=2)
-        write('in.ply', scan_text(points, scanners, away.argmin(axis=1)))
-        report = made('in.ply', '--tiles', '--max-points', '1500', '--no-clean')
+        points = long_scan()
+        report = made('in.ply', '--tiles', '--max-points', '1500', '--no-clean', '--jobs', '2')
         count = int(report['choices']['tiles']['value'])
         equal((count > 1, len(report['commands']), report['figures']['tiles']), (True, count, str(count)))
+        equal('the joined mesh is closed, with ' in report['choices']['tiles']['why'], True)
+        equal(sorted(os.listdir()), ['in.ply', 'mesh-seen.ply', 'mesh.html', 'mesh.ply', 'mesh.recon'])
         equal(sorted(os.listdir('mesh.recon')), ['again.sh', 'mesh.ply', 'report.json', 'scan.ply', 'tiles'])
         names = [f'{number:03}.{ending}' for number in range(count) for ending in ('cert', 'mesh.ply', 'ply')]
         equal(sorted(os.listdir('mesh.recon/tiles')), names)
         top = pathlib.Path('mesh.recon/mesh.ply').read_bytes().split(b'element vertex ')[1].split(b'\n')[0]
-        equal(int(top) > 0.95 * len(points), True)
+        equal((int(top) > 0.95 * len(points), '--tiles --' in pathlib.Path('mesh.recon/again.sh').read_text()), (True, True))
         refused('--tiles cannot be combined with', 'in.ply', '--tiles', '--sweep', '3', '-o', 'mesh.glb')
+
+    def test_a_run_with_tiles_that_was_interrupted_continues(self) -> None:
+        long_scan()
+        write('program', f'#!/bin/sh\n[ "$1" = build ] && echo "$2" >>{os.getcwd()}/calls && [ $(wc -l <{os.getcwd()}/calls) -gt $MOST ] && exit 5\n'
+              f'exec {os.path.abspath(RECON)} "$@"\n')
+        os.chmod('program', 0o755)
+        words = ['surface', 'in.ply', '--tiles', '--max-points', '1500', '--no-clean', '--jobs', '1', '-o', 'mesh.ply', '--program', './program']
+        with mock.patch.dict(os.environ, MOST='2'):
+            status, _, error = call(*words)
+        equal((status, 'out of memory: tile 002' in error, sorted(name for name in os.listdir() if 'mesh' in name)), (1, True, ['mesh.tiles']))
+        with mock.patch.dict(os.environ, MOST='99'):
+            status, _, error = call(*words)
+        calls = pathlib.Path('calls').read_text().splitlines()
+        count = len([name for name in os.listdir('mesh.recon/tiles') if name.endswith('.cert')])
+        equal((status, 'continuing with the tiles in mesh.tiles' in error, len(calls) <= count + 2, len(set(calls))), (0, True, True, count))
+        equal(os.path.exists('mesh.tiles'), False)
+        os.mkdir('mesh.tiles')
+        refused('mesh.tiles exists, and is not from an interrupted run', 'in.ply', '--tiles', '-o', 'mesh.ply')
 
     def test_names_of_files_are_any_bytes(self) -> None:
         points = sphere(200)

@@ -13,10 +13,7 @@ from __future__ import annotations
 import os
 import re
 import struct
-from typing import TYPE_CHECKING, BinaryIO, Callable, Iterator, Sequence, TextIO
-
-if TYPE_CHECKING:
-    from recon.toolbox.tile_split import LateFile
+from typing import BinaryIO, Callable, Iterator, Sequence, TextIO
 
 CHUNK = 1 << 20
 ROW_LIMIT = 4294967295
@@ -341,7 +338,7 @@ class Writer:
     """A text PLY of an element `vertex`, whose count is known at the end, and perhaps an element `scanner`, into a file of
     `whole_file`. A comment of the right length keeps room for the counts."""
 
-    def __init__(self, file: LateFile | TextIO, properties: list[Property], made_by: str) -> None:
+    def __init__(self, file: TextIO, properties: list[Property], made_by: str) -> None:
         self.file, self.properties, self.made_by = file, plain_names(properties), made_by
         self.count, self.head_length = 0, 0
         self.scanners: int | None = None

@@ -1,60 +1,35 @@
-"""Boxes that cut space into tiles, found from a sample of a scan.
+"""Boxes that cut space into tiles, found from a sample of a scan, in scaled units.
 
-Space is halved again and again by planes along the axes. A box that is not halved any more is the *core* of a tile; the cores
-meet in their faces and leave no place out. A tile's scan has the points of its core and those within the overlap of it, on
-each axis.
+Space is cut again and again by planes along the axes, at whole numbers. A box that is not cut any more is the *core* of a tile; the cores
+meet in their faces and leave no place out. A tile's scan has the points of its core and those within the overlap of it, on each axis.
 
-Names: Sample (some rows of a stream) · mean_spacing · Core (a tile's box) · Cut (a box that was halved) · divide (halves a
-box until each tile has few enough points) · cores_of (the boxes of a division, in their order).
+Names: mean_spacing · Core (a tile's box) · Cut (a box that was cut) · divide (cuts a box until each tile has few enough points) · cores_of (the
+boxes of a division, in their order) · handed_out (which points belong to which core) · write_list, read_list (the file `tiles.txt`).
 """
 from __future__ import annotations
 
 import math
-import random
-from typing import Any, Sequence, Tuple
+import re
+from dataclasses import dataclass
+from typing import Iterator, List, Tuple, Union
 
 import numpy as np
 from scipy.spatial import cKDTree
 
+from recon.toolbox.output_files import whole_file
 from recon.toolbox.ply_text import Refusal
 
-Place = Sequence[float]
-Row = Tuple[Place, Sequence[str]]
-SAMPLE_SIZE = 400000
 ASKED = 4000
+FAR, LIMIT = 1 << 21, (1 << 21) - 1
+MOST_TILES = 4095
+# how many times as many points tiles have as the box that they are cut from, about
+SHARED = 1.1
 # The median distance to the nearest of points that lie evenly, in no order, on a surface, a square of side 1 for each.
 MEDIAN = math.sqrt(math.log(2) / math.pi)
-
-
-class Sample:
-    """Some rows of a stream, each as likely to be among them as any other. The same stream gives the same rows."""
-
-    def __init__(self, size: int = SAMPLE_SIZE) -> None:
-        self.size, self.count, self.draw = size, 0, random.Random(1)
-        self.rows: list[Any] = []
-        self.level, self.next = 1.0, size - 1
-        self.skip()
-
-    def skip(self) -> None:
-        """Finds the next row that is taken (algorithm L of Li's paper on reservoir sampling)."""
-        self.level *= math.exp(math.log(1 - self.draw.random()) / self.size)
-        self.next += int(math.log(1 - self.draw.random()) / math.log1p(-self.level)) + 1
-
-    def add(self, row: Row) -> None:
-        if self.count < self.size:
-            self.rows.append(row)
-        elif self.count == self.next:
-            self.rows[self.draw.randrange(self.size)] = row
-            self.skip()
-        self.count += 1
-
-    def points(self) -> np.ndarray:
-        """Returns the places of the rows, (n, 3)."""
-        return np.array([point for point, _ in self.rows], float).reshape(-1, 3)
-
-    def share(self) -> float:
-        """Returns how many rows of the stream one of the sample stands for."""
-        return self.count / len(self.rows)
+IS_FILE = re.compile(r'[A-Za-z0-9_-][A-Za-z0-9_.-]{0,254}').fullmatch
+WHOLE = r'(-?[0-9]{1,7})'
+CUT = re.compile(rf'cut ([xyz]) {WHOLE}').fullmatch
+TILE = re.compile(r'tile ([^ ]+) ' + ' '.join([WHOLE] * 6)).fullmatch
 
 
 def mean_spacing(points: np.ndarray, share: float) -> float:
@@ -67,99 +42,167 @@ def mean_spacing(points: np.ndarray, share: float) -> float:
 
 
 class Core:
-    """A box with its least coordinates, which belong to it, and its greatest, which do not; infinite where it has no end."""
+    """A box with its least coordinates, which belong to it, and its greatest, which do not; `FAR` where it has no end."""
 
-    def __init__(self, low: Sequence[float] = (-math.inf,) * 3, high: Sequence[float] = (math.inf,) * 3) -> None:
-        self.low, self.high = list(low), list(high)
+    def __init__(self, low: Tuple[int, ...] = (-FAR,) * 3, high: Tuple[int, ...] = (FAR,) * 3, name: str = '') -> None:
+        self.low, self.high, self.name = low, high, name
 
-    def holds(self, point: Place) -> bool:
-        (a, b, c), (d, e, f), (x, y, z) = self.low, self.high, point
-        return a <= x < d and b <= y < e and c <= z < f
+    def holds(self, points: np.ndarray, factor: int = 1) -> np.ndarray:
+        """Returns which points (n, 3), in parts of a unit, lie in the box."""
+        inside = [(points[:, k] >= factor * self.low[k]) & (points[:, k] < factor * self.high[k]) for k in range(3)]
+        return np.asarray(inside[0] & inside[1] & inside[2])
 
-    def reaches(self, point: Place, overlap: float) -> bool:
-        """Returns whether a point is of the box or near enough to it."""
-        (a, b, c), (d, e, f), (x, y, z) = self.low, self.high, point
-        return (a - overlap <= x <= d + overlap and b - overlap <= y <= e + overlap
-                and c - overlap <= z <= f + overlap)
+    def within(self, points: np.ndarray, overlap: int) -> np.ndarray:
+        """Returns which points (n, 3) are of the box or near enough to it."""
+        inside = [(points[:, k] >= self.low[k] - overlap) & (points[:, k] <= self.high[k] + overlap) for k in range(3)]
+        return np.asarray(inside[0] & inside[1] & inside[2])
 
-    def within(self, points: np.ndarray, overlap: float) -> np.ndarray:
-        """The same as `reaches`, for rows of points."""
-        return np.asarray(((points >= np.subtract(self.low, overlap)) & (points <= np.add(self.high, overlap))).all(axis=1))
-
-    def halves(self, axis: int, at: float) -> tuple[Core, Core]:
+    def halves(self, axis: int, at: int) -> tuple[Core, Core]:
         """Returns the two boxes below and above a plane."""
-        below, above = Core(self.low, self.high), Core(self.low, self.high)
-        below.high[axis] = above.low[axis] = at
-        return below, above
-
-    def near(self, _: Place) -> tuple[Core]:
-        return (self,)
+        low, high = list(self.low), list(self.high)
+        low[axis] = high[axis] = at
+        return Core(self.low, tuple(high)), Core(tuple(low), self.high)
 
 
+@dataclass
 class Cut:
-    """A box that was halved at a plane: its two halves, and how far the overlap reaches on both sides of the plane."""
-
-    def __init__(self, axis: int, at: float, overlap: float, below: Core | Cut, above: Core | Cut) -> None:
-        self.axis, self.below, self.above = axis, below, above
-        self.low, self.high = at - overlap, at + overlap
-
-    def near(self, point: Place) -> tuple[Core, ...]:
-        """Returns the cores in which the point lies or to which it is near enough."""
-        value = point[self.axis]
-        if value > self.high:
-            return self.above.near(point)
-        if value < self.low:
-            return self.below.near(point)
-        return (*self.below.near(point), *self.above.near(point))
+    """A box that was cut at a plane, into the part below it and that from it on."""
+    axis: int
+    at: int
+    below: Division
+    above: Division
 
 
-def between(a: float, b: float) -> float:
-    """Returns a decimal of few digits above a and not above b."""
-    for digits in range(1, 17):
-        value = float(f'{a / 2 + b / 2:.{digits}g}')
-        if a < value <= b:
-            return value
-    return b
+Division = Union[Core, Cut]
 
 
-def halving(values: np.ndarray) -> float | None:
-    """Returns a place that parts the values as evenly as may be, or None where they are all the same."""
-    if not len(values):
+def cut_at(values: np.ndarray, part: float) -> int | None:
+    """Returns a whole number with about this part of the values below it, or None where all values are the same."""
+    low, high = int(values.min()), int(values.max())
+    if low == high:
         return None
-    middle = np.partition(values, len(values) // 2)[len(values) // 2]
-    below, above = values[values < middle], values[values > middle]
-    if len(below):
-        return between(float(below.max()), float(middle))
-    return between(float(middle), float(above.min())) if len(above) else None
+    at = int(np.partition(values, int(part * (len(values) - 1)))[int(part * (len(values) - 1))])
+    return min(max(at, low + 1), high)
 
 
-def best_cut(core: Core, points: np.ndarray, overlap: float) -> tuple[int, float] | None:
+def best_cut(core: Core, points: np.ndarray, overlap: int, part: float) -> tuple[int, int] | None:
     """Returns the axis and the place of the plane along which the fewest points stand in the overlap, or None where there is none."""
-    inside, found = points[((points >= core.low) & (points < core.high)).all(axis=1)], []
+    inside, found = points[core.holds(points)], []
     for axis in range(3):
-        at = halving(inside[:, axis])
+        at = cut_at(inside[:, axis], part) if len(inside) else None
         if at is not None:
             found.append((int((np.abs(points[:, axis] - at) <= overlap).sum()), axis, at))
     return min(found)[1:] if found else None
 
 
-def divide(core: Core, points: np.ndarray, share: float, overlap: float, limit: int) -> Core | Cut:
-    """Halves a box until each tile has at most the given number of points, by a sample of points (n, 3) in its box and the overlap; each
-    of these stands for several. The sampling error is allowed for."""
+def divide(core: Core, points: np.ndarray, share: float, overlap: int, limit: int, most: int = MOST_TILES) -> Division:
+    """Cuts a box until each tile has at most the given number of points, by a sample of points (n, 3) in its box and the overlap; each
+    of these stands for several. The sampling error is allowed for. A box for k tiles is cut into one for k // 2 and one for the others, so that
+    tiles are nearly full."""
     expected = share * len(points) + (4 * share * math.sqrt(len(points)) if share > 1 else 0)
     if expected <= limit:
         return core
-    cut = best_cut(core, points, overlap)
-    if cut is None:
+    count = max(2, math.ceil(SHARED * expected / limit))
+    cut = best_cut(core, points, overlap, count // 2 / count)
+    if cut is None or most < 2:
         raise Refusal(f'more than {limit} points are too near each other to be split into boxes: use a smaller overlap=, a larger '
                       'points=, or thin the scan first (recon-scan with side=)')
     axis, at = cut
     below, above = core.halves(axis, at)
-    first, last = points[points[:, axis] <= at + overlap], points[points[:, axis] >= at - overlap]
-    return Cut(axis, at, overlap, divide(below, first, share, overlap, limit), divide(above, last, share, overlap, limit))
+    first = divide(below, points[points[:, axis] <= at + overlap], share, overlap, limit, most - 1)
+    last = divide(above, points[points[:, axis] >= at - overlap], share, overlap, limit, most - len(cores_of(first)))
+    return Cut(axis, at, first, last)
 
 
-def cores_of(division: Core | Cut) -> list[Core]:
+def cores_of(division: Division) -> List[Core]:
     if isinstance(division, Core):
         return [division]
     return cores_of(division.below) + cores_of(division.above)
+
+
+def handed_out(division: Division, points: np.ndarray, rows: np.ndarray, overlap: int) -> Iterator[Tuple[Core, np.ndarray]]:
+    """Yields each core that some of these rows of points (n, 3) belong to or are near enough to, and the rows."""
+    if not len(rows):
+        return
+    if isinstance(division, Core):
+        yield division, rows
+        return
+    values = points[rows, division.axis]
+    yield from handed_out(division.below, points, rows[values <= division.at + overlap], overlap)
+    yield from handed_out(division.above, points, rows[values >= division.at - overlap], overlap)
+
+
+def core_numbers(division: Division, points: np.ndarray, factor: int) -> np.ndarray:
+    """Returns for points (n, 3), in parts of a unit, the number of the core in which each lies."""
+    found, count = np.zeros(len(points), np.int32), 0
+
+    def go(part: Division, rows: np.ndarray) -> None:
+        nonlocal count
+        if isinstance(part, Core):
+            found[rows], count = count, count + 1
+            return
+        is_below = points[rows, part.axis] < factor * part.at
+        go(part.below, rows[is_below])
+        go(part.above, rows[~is_below])
+
+    go(division, np.arange(len(points)))
+    return found
+
+
+def core_number(division: Division, point: Tuple[int, ...], factor: int) -> int:
+    """Returns the same of one point."""
+    number = 0
+    while isinstance(division, Cut):
+        if point[division.axis] < factor * division.at:
+            division = division.below
+        else:
+            number += len(cores_of(division.below))
+            division = division.above
+    return number
+
+
+def lines_of(division: Division) -> Iterator[str]:
+    """Yields the lines of a division in `tiles.txt`."""
+    if isinstance(division, Core):
+        yield f'tile {division.name}.mesh.ply {" ".join(map(str, (*division.low, *division.high)))}\n'
+        return
+    yield f'cut {"xyz"[division.axis]} {division.at}\n'
+    yield from lines_of(division.below)
+    yield from lines_of(division.above)
+
+
+def write_list(path: str, division: Division) -> None:
+    """Writes `tiles.txt`."""
+    with whole_file(path) as file:
+        file.write(f'tiles {len(cores_of(division))}\n')
+        file.writelines(lines_of(division))
+
+
+def read_list(path: str) -> Division:
+    """Reads `tiles.txt`. Raises `Refusal` for another file."""
+    with open(path, encoding='latin-1', newline='\n') as file:
+        lines = file.read(1 << 20).split('\n')
+    rest = iter(lines[1:])
+
+    def part(core: Core) -> Division:
+        line = next(rest, '')
+        tile, cut = TILE(line), CUT(line)
+        if tile and IS_FILE(tile[1]) and tile[1].endswith('.mesh.ply'):
+            core.name = tile[1][:-len('.mesh.ply')]
+            if tuple(map(int, tile.groups()[1:])) != (*core.low, *core.high):
+                raise ValueError
+            return core
+        if not cut:
+            raise ValueError
+        axis, at = 'xyz'.index(cut[1]), int(cut[2])
+        below, above = core.halves(axis, at)
+        return Cut(axis, at, part(below), part(above))
+
+    try:
+        division = part(Core())
+        names = [core.name for core in cores_of(division)]
+        if [*rest] != [''] or lines[0] != f'tiles {len(names)}' or len(set(names)) < len(names) or len(names) > MOST_TILES:
+            raise ValueError
+    except (ValueError, RecursionError):
+        raise Refusal(f'{path} is not a list of recon-tiles split') from None
+    return division
