@@ -3,8 +3,8 @@ from __future__ import annotations
 
 import unittest
 
-from docs import facts
 from helpers import equal
+from docs import facts
 
 HEAD = ['Sorts numbers in some order. It reads each', 'number exactly twice: none is left out.', '', 'Verified: `sort` returns all of them, in order.', '', '```', 'a block of code is no sentence', '```']
 
