@@ -12,7 +12,7 @@ import shutil
 import subprocess
 
 from docs.levels import areas_of, cells_of, crossing, levels_of
-from docs.sources import TOP, Report, between, head_of, table, uses_of
+from docs.sources import TOP, Report, between, head_of, named, table, uses_of
 
 BEGIN, END = '<!-- Printed by dev/docs from the heads of crates. -->', '<!-- End of what is printed. -->'
 MOST_COLUMNS, MOST_LINES = 140, 130
@@ -83,6 +83,8 @@ def checked() -> Report:
     faults = [fault for name in uses for fault in faults_of(TOP / 'crates' / name)] + kit_faults(pages[front])
     faults += [f'{name} is at level {at}, above {most}' for name, at in levels.items() if at > most]
     faults += crossing(uses, areas_of(pages[architecture]))
+    above = pages[architecture].split(BEGIN)[0]
+    faults += [f'{named(architecture)} does not say where {name} belongs' for name in uses if f'`{name}`' not in above]
     lines = len(pages[front].splitlines())
     faults += [f'README.md has {lines} lines, above {MOST_LINES}'] if lines > MOST_LINES else []
     return Report(faults, f'{len(uses)} crates, {max(levels.values())} levels, at most {most}', pages)
