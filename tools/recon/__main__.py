@@ -1,16 +1,20 @@
 """Runs a program of the package where it stands: `python3 tools/recon scan ..` is `recon-scan ..`, from any folder."""
 from __future__ import annotations
 
-import importlib.util
 import os
-import subprocess
+import signal
 import sys
 
+# a moment later the programs say how they ended; until then Ctrl-C prints no traceback
+if signal.getsignal(signal.SIGINT) is signal.default_int_handler:
+    signal.signal(signal.SIGINT, signal.SIG_DFL)
 HERE = os.path.dirname(os.path.abspath(__file__))
 
 
 def use_fitting_python() -> None:
     """Goes on in an interpreter that has numpy and scipy, where this one does not."""
+    import importlib.util
+    import subprocess
     if importlib.util.find_spec('numpy') and importlib.util.find_spec('scipy'):
         return
     finder = next(filter(os.path.exists, (os.path.join(HERE, place) for place in ('../../dev/python', '../python'))), None)

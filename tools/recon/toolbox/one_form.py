@@ -4,9 +4,11 @@ Names: VERSION · version_line · dashed (arguments of one form in the other).
 """
 from __future__ import annotations
 
-import argparse
 import os
-from typing import Iterable, Sequence
+from typing import TYPE_CHECKING, Iterable, Sequence
+
+if TYPE_CHECKING:
+    import argparse
 
 VERSION = '0.1'
 
