@@ -10,9 +10,7 @@ begin with a program and name a file or an option. They are run in their order, 
 temporary files may differ. The exit status has to be 0, or the one of the line that the page shows (`no ..`: 1, `refused ..`: 2 or 3).
 Commands in NOT_RUN are not run, for the reason given there.
 
-The programs are those of RECON and RECON_MESH, or built here. If `recon` is not built, the unverified reference program runs its commands
-`build`, `check`, `cells` and `demo`, and the model of dev/model runs `slice`, `export`, and `ask` on a small scan; other commands of a
-missing program, and those that need their outputs, are skipped with a message.
+The programs are those of RECON and RECON_MESH, or built here; both are needed.
 """
 from __future__ import annotations
 
@@ -35,7 +33,6 @@ PACKAGE, EXAMPLES, MAKES = TOP / 'tools/recon', TOP / 'examples', 'python3 examp
 sys.path.insert(0, str(EXAMPLES))
 import make_files  # noqa: E402
 
-OF_REFERENCE, OF_MODEL = ('build', 'check', 'cells', 'demo'), ('slice', 'export', 'ask examples/tetrahedron.ply')
 PROGRAM = r'(?:\./)?(?:recon|recon-[a-z-]+|python3|make|pip|xargs|parallel|sbatch|pdal|CloudCompare|meshlabserver)'
 COMMANDS = re.compile(rf'(?m)^```(?P<kind>\w*)\n(?P<block>[\s\S]*?)^```$|^ {{4,}}(?P<indented>\S[^\n]*)$|`(?P<inline>{PROGRAM} [^`\n]+)`')
 NAMES_SOMETHING = re.compile(r' \S*[.=]')
@@ -53,7 +50,6 @@ NOT_RUN = {
 }
 # Exit statuses by the beginning of the line that shows them.
 STATUSES = (('no ', 1), ('ls: ', 2), ('refused words', 2), ('refused ', 3))
-FILE = re.compile(r'(?<![\w./-])[\w./-]+\.[a-z]\w*\b')
 # What differs from run to run: lines on the time left, seconds, and the names of temporary folders.
 DIFFERS = [(re.compile(r'(?m)^recon-[a-z]+: [^\n]* left\n'), ''),
            (re.compile(r'(?m)^(recon-surface:) +\d+\.\d s'), r'\1 0.0 s'), (re.compile(r'\(\d+\.\d s, in parallel'), '(0.0 s, in parallel'),
@@ -76,14 +72,11 @@ class Programs:
     """The programs that the commands of a page are run with: paths, empty if one is missing."""
     recon: str = field(default_factory=lambda: program('RECON', 'recon', 'crates/recon_main/out/recon_main'))
     mesh: str = field(default_factory=lambda: program('RECON_MESH', 'recon-mesh', 'crates/mesh_main/out/mesh_main'))
-    reference: str = field(default_factory=lambda: program('', 'dev/reference/target/release/recon-reference'))
 
     def put_into(self, folder: pathlib.Path) -> None:
         """Puts a command for each program into a folder, and into `folder/bin`."""
         (folder / 'bin').mkdir()
-        model = f'case $1 in slice|export|ask) exec {shlex.quote(sys.executable)} {shlex.quote(str(TOP / "dev/model"))} "$@";; esac\n'
-        lines = {'recon': f'{"" if self.recon else model}exec {shlex.quote(self.recon or self.reference)} "$@"',
-                 'recon-mesh': f'exec {shlex.quote(self.mesh)} "$@"'}
+        lines = {'recon': f'exec {shlex.quote(self.recon)} "$@"', 'recon-mesh': f'exec {shlex.quote(self.mesh)} "$@"'}
         tools = [path.stem for path in PACKAGE.glob('*.py') if 'def main(' in path.read_text()]
         lines |= {'recon-' + name.replace('_', '-'): f'exec {shlex.quote(sys.executable)} {shlex.quote(str(PACKAGE))} {name} "$@"' for name in tools}
         for name, line in lines.items():
@@ -93,18 +86,6 @@ class Programs:
         for name in ('recon', 'recon-mesh'):
             (folder / name).symlink_to(f'bin/{name}')
         (folder / 'tools').symlink_to(TOP / 'tools')
-
-    def missing_of(self, command: str) -> str:
-        """Returns which program a command needs that is missing, or nothing."""
-        words = shlex.split(command, comments=True)
-        name = 'recon-' + words[2] if words[0] == 'python3' else words[0].removeprefix('./')
-        if name == 'recon' and not self.recon:
-            runs = OF_MODEL + (OF_REFERENCE if self.reference else ())
-            return '' if ' '.join(words[1:]).startswith(runs) else 'recon'
-        builds = name in ('recon-surface', 'make', 'xargs') or words[:2] == ['recon-tiles', 'join']
-        if builds and not self.recon and ('--sweep' in words or not self.reference):
-            return 'recon'
-        return 'recon-mesh' if not self.mesh and name in ('recon-mesh', 'recon-finish', 'recon-surface') else ''
 
 
 @dataclass
@@ -167,38 +148,26 @@ class Runs:
 
     def __init__(self, page: pathlib.Path, programs: Programs, folder: pathlib.Path) -> None:
         self.programs, self.folder, self.at = programs, folder, folder
-        self.lost: set[str] = set()
         programs.put_into(folder)
         (folder / 'examples').symlink_to(EXAMPLES)
         if MAKES not in page.read_text():
             make_files.write_named(page.read_text(), folder)
 
-    def is_skipped(self, command: str) -> bool:
-        """Returns whether a program is missing, or a file that a skipped command would have written."""
-        return bool(self.programs.missing_of(command) or self.lost & set(FILE.findall(command)))
-
-    def done(self, command: str) -> tuple[int, list[str]] | None:
-        """Runs a command and returns its status and the lines that it prints, or None if it is skipped."""
-        if self.is_skipped(command):
-            self.lost |= {name for name in FILE.findall(command) if not (self.at / name).exists()}
-            return None
+    def done(self, command: str) -> tuple[int, list[str]]:
+        """Runs a command and returns its status and the lines that it prints."""
         if command.startswith('cd '):
             self.at = self.at / command[3:]
             return 0, []
         path = f'{self.folder / "bin"}:{os.path.dirname(sys.executable)}:{os.environ["PATH"]}'
-        environ = {**os.environ, 'PATH': path, 'LC_ALL': 'C', 'RECON': self.programs.recon or self.programs.reference}
+        environ = {**os.environ, 'PATH': path, 'LC_ALL': 'C', 'RECON': self.programs.recon}
         done = subprocess.run(['bash', '-c', command], cwd=self.at, env=environ, stdin=subprocess.DEVNULL, stdout=subprocess.PIPE,
                               stderr=subprocess.STDOUT, text=True)
         return done.returncode, done.stdout.splitlines()
 
     def fault(self, it: Command) -> str | None:
-        """Returns what is wrong with a command of a page, or None; a skipped one is right."""
-        done = self.done(it.text)
-        if done is None:
-            return None
-        status, got = done
-        shown = None if it.printed is None else [line for line in it.printed if self.programs.recon or not line.startswith('recon: ')]
-        if shown is not None and not is_as_shown(plain('\n'.join(got)).splitlines(), plain('\n'.join(shown)).splitlines()):
+        """Returns what is wrong with a command of a page, or None."""
+        status, got = self.done(it.text)
+        if it.printed is not None and not is_as_shown(plain('\n'.join(got)).splitlines(), plain('\n'.join(it.printed)).splitlines()):
             return it.name() + ''.join(f'\n  prints {line}' for line in got)
         if status != it.status():
             return f'{it.name()}\n  ends with {status} and not with {it.status()}' + ''.join(f'\n  prints {line}' for line in got)
@@ -207,11 +176,10 @@ class Runs:
 
 @dataclass
 class Tally:
-    """What came of the commands of a page: what is wrong, how many were compared, run alone and skipped, and the entries of NOT_RUN."""
+    """What came of the commands of a page: what is wrong, how many were compared and run alone, and the entries of NOT_RUN."""
     faults: list[str] = field(default_factory=list)
     compared: int = 0
     run: int = 0
-    skipped: int = 0
     not_run: list[str] = field(default_factory=list)
 
 
@@ -224,11 +192,10 @@ def tally_of(page: pathlib.Path, programs: Programs) -> Tally:
             if it.not_run():
                 tally.not_run.append(it.not_run() or '')
                 continue
-            is_skipped, fault = runs.is_skipped(it.text), runs.fault(it)
+            fault = runs.fault(it)
             tally.faults += [fault] if fault else []
-            tally.skipped += is_skipped
-            tally.compared += not is_skipped and it.printed is not None
-            tally.run += not is_skipped and it.printed is None
+            tally.compared += it.printed is not None
+            tally.run += it.printed is None
     return tally
 
 
@@ -239,15 +206,14 @@ def tallies_of(names: list[pathlib.Path], programs: Programs) -> list[Tally]:
 
 
 def written(page: pathlib.Path, programs: Programs) -> str:
-    """Returns the text of a page with what its commands print; what is skipped, or has a line `..`, stays."""
+    """Returns the text of a page with what its commands print; what is not run, or has a line `..`, stays."""
     with tempfile.TemporaryDirectory() as folder:
         runs, lines = Runs(page, programs, pathlib.Path(folder)), page.read_text().splitlines()
         for it in reversed([(it, None if it.not_run() else runs.done(it.text)) for it in commands_of(page)]):
             command, done = it
             if done is None or command.printed is None or '..' in command.printed:
                 continue
-            is_same = plain('\n'.join(done[1])) == plain('\n'.join(command.printed))
-            if not is_same and (programs.recon or not any(line.startswith('recon: ') for line in command.printed)):
+            if plain('\n'.join(done[1])) != plain('\n'.join(command.printed)):
                 lines[command.line:command.line + len(command.printed)] = done[1]
         return '\n'.join(lines) + '\n'
 
@@ -258,6 +224,8 @@ def main(words: list[str]) -> int:
         found = subprocess.run(['sh', str(TOP / 'dev/python')], stdout=subprocess.PIPE, text=True).stdout.strip()
         return 1 if not found else os.execv(found, [found, sys.argv[0], 'pages', *words])
     programs = Programs()
+    if missing := [name for name, path in (('recon', programs.recon), ('recon-mesh', programs.mesh)) if not path]:
+        return reported('pages', [f'{" and ".join(missing)} not built here'], 'nothing is run')
     names = [TOP / word for word in words if word not in ('all', 'write')] or pages()
     if 'write' in words:
         for page in names:
@@ -267,8 +235,5 @@ def main(words: list[str]) -> int:
     faults, not_run = [fault for tally in tallies for fault in tally.faults], [begin for tally in tallies for begin in tally.not_run]
     if words == ['all']:
         faults += [f'NOT_RUN has {begin}, and no page has it' for begin in NOT_RUN if begin not in not_run]
-    skipped = sum(tally.skipped for tally in tallies)
-    missing = [name for name, path in (('recon', programs.recon), ('recon-mesh', programs.mesh)) if not path]
-    note = f', {skipped} are skipped ({" and ".join(missing)} not built here)' if skipped else ''
     return reported('pages', faults, f'{sum(tally.compared for tally in tallies)} commands print what their pages show, '
-                    f'{sum(tally.run for tally in tallies)} more end as they should, {len(not_run)} are not run{note}')
+                    f'{sum(tally.run for tally in tallies)} more end as they should, {len(not_run)} are not run')

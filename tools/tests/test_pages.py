@@ -19,10 +19,6 @@ $ printf 'a\\nb\\nc\\n'
 a
 ..
 c
-$ recon sweep scan.ply 0 1 1 gone.ply
-sweep 1 first_cost 0 last_cost 0
-$ cat gone.ply
-ply
 ```
 
     recon-scan cloud.xyz=0.15,-0.2,0.75 b.ply
@@ -37,17 +33,14 @@ ply
 class Pages(unittest.TestCase):
     def test_commands_print_what_their_pages_show(self) -> None:
         programs = pages.Programs()
-        if not (programs.recon or programs.reference):
-            self.skipTest('recon is not built here, and no reference program')
+        if not (programs.recon and programs.mesh):
+            self.skipTest('recon or recon-mesh is not built here')
         tallies = pages.tallies_of(pages.pages(), programs)
         for page, tally in zip(pages.pages(), tallies):
             with self.subTest(page.name):
                 equal(tally.faults, [])
         equal({begin for tally in tallies for begin in tally.not_run}, set(pages.NOT_RUN))
-        equal(sum(tally.compared + tally.run + tally.skipped for tally in tallies) > 90, True)
-        skipped = sum(tally.skipped for tally in tallies)
-        if skipped:
-            self.skipTest(f'{skipped} commands of pages need recon or recon-mesh, which are not built here')
+        equal(sum(tally.compared + tally.run for tally in tallies) > 90, True)
 
 
 class Files(InFolder):
@@ -68,20 +61,20 @@ class Faults(InFolder):
         super().setUp()
         self.page = pathlib.Path('page.md').resolve()
 
-    def came_of(self, text: str) -> tuple[list[str], int, int, int, list[str]]:
+    def came_of(self, text: str) -> tuple[list[str], int, int, list[str]]:
         """Returns what came of the commands of a page, without any program."""
         self.page.write_text(text)
-        tally = pages.tally_of(self.page, pages.Programs('', '', ''))
-        return tally.faults, tally.compared, tally.run, tally.skipped, tally.not_run
+        tally = pages.tally_of(self.page, pages.Programs('', ''))
+        return tally.faults, tally.compared, tally.run, tally.not_run
 
     def test_what_is_printed_is_compared(self) -> None:
-        equal(self.came_of(PAGE.partition('`recon-scan')[0]), ([], 2, 3, 2, ['make run']))
+        equal(self.came_of(PAGE.partition('`recon-scan')[0]), ([], 2, 3, ['make run']))
         equal(self.came_of(PAGE.partition('`recon-scan')[0].replace('\ntwo\n', '\nthree\n'))[0],
               ['page.md line 4: echo one; echo two\n  prints one\n  prints two'])
-        equal(pages.written(self.page, pages.Programs('', '', '')), PAGE.partition('`recon-scan')[0])
+        equal(pages.written(self.page, pages.Programs('', '')), PAGE.partition('`recon-scan')[0])
 
     def test_a_status_is_0_or_the_one_shown(self) -> None:
-        equal(self.came_of(PAGE)[0], ['page.md line 22: recon-scan a.ply b.ply\n  ends with 1 and not with 0\n  prints recon-scan: error: '
+        equal(self.came_of(PAGE)[0], ['page.md line 18: recon-scan a.ply b.ply\n  ends with 1 and not with 0\n  prints recon-scan: error: '
                                       'No such file or directory: a.ply'])
         block = '```console\n$ echo refused 7; exit {}\nrefused 7\n```\n'
         equal([len(self.came_of(block.format(status))[0]) for status in (3, 0, 1)], [0, 1, 1])
