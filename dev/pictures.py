@@ -342,6 +342,8 @@ def seen(folder: str, recon: str, work: str) -> None:
         path = unseen.written(os.path.join(work, name + '.scan.ply'), sites.scan_of(name, SITE_SCALE))
         tool('surface', path, '-o', os.path.join(work, name + '.ply'), '--no-check', '-q')
         view, images = render.View(toward, centre, reach, 840), []
+        view.light = -view.toward + 0.6 * view.up - 0.2 * view.right
+        view.light /= np.linalg.norm(view.light)
         for part in (name + '-closed', name):
             places, faces, colors = colored_mesh(os.path.join(work, part + '.ply'))
             corners = places[faces]

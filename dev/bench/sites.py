@@ -9,6 +9,7 @@ from __future__ import annotations
 
 import itertools
 import random
+import tarfile
 from dataclasses import dataclass
 from typing import Callable, Dict, List, Sequence, Tuple
 
@@ -23,6 +24,8 @@ SHAPES = ('room', 'statue')
 WIDE = 0.6
 # the beam's width in radians, and the least sine of the angle at which it comes back
 BEAM, GRAZING = 0.0003, 0.06
+# of Debian's package libcgal-demo
+ARCHIVE, BUNNY = '/usr/share/doc/libcgal-dev/data.tar.gz', 'data/meshes/bunny00.off'
 PALETTE = np.array([[125, 140, 90], [200, 170, 140], [190, 140, 110], [80, 115, 60], [205, 205, 210], [120, 95, 85], [70, 90, 130], [230, 220, 200], [165, 165, 155],
                     [150, 110, 80]])
 
@@ -215,6 +218,19 @@ def bumpy(stations: Sequence[Sequence[float]]) -> Callable[[np.random.Generator]
     return lambda draw: Site([ball(150, 0.08)], np.array(stations, float), [], 0.25, 0.002, 0.0, 20, lowest=-90.0)
 
 
+def bunny(stations: Sequence[Sequence[float]]) -> Callable[[np.random.Generator], Site]:
+    """A bunny, 2 m high, from these stations."""
+    def site(draw: np.random.Generator) -> Site:
+        with tarfile.open(ARCHIVE) as packed:
+            words = packed.extractfile(BUNNY).read().split()  # type: ignore[union-attr]
+        count, faces = int(words[1]), int(words[2])
+        places = np.array(words[4:4 + 3 * count], float).reshape(-1, 3)[:, [0, 2, 1]] * [1, -1, 1]
+        places = (places - (places.min(axis=0) + places.max(axis=0)) / 2) * 2 / np.ptp(places[:, 2])
+        rows = np.array(words[4 + 3 * count:4 + 3 * count + 4 * faces], int).reshape(-1, 4)
+        return Site([(places, rows[:, 1:])], np.array(stations, float), [], 0.25, 0.002, 0.0, 20, lowest=-90.0)
+    return site
+
+
 def wall_alone(draw: np.random.Generator) -> Site:
     """A large wall and the ground before it, from one station: few points far along the wall."""
     parts = [box([-40, 10, 0], [40, 10.4, 8]), sheet(-40, 40, 41, lambda x, y: 0 * x)]
@@ -225,7 +241,7 @@ AROUND = [[4 * np.cos(t), 4 * np.sin(t), z] for t, z in zip(np.arange(6) * np.pi
 SITES: Dict[str, Callable[[np.random.Generator], Site]] = {
     'court': court, 'flat': flat, 'windows': lambda draw: room_with_windows(box([-40, -40, -3.1], [40, 40, -3])),
     'windows uneven': lambda draw: room_with_windows(moved(uneven(), [3, 2, -3])), 'tree': one_tree, 'bumpy 6': bumpy(AROUND), 'bumpy 1': bumpy(AROUND[:1]),
-    'bumpy 2': bumpy(AROUND[:2]), 'wall': wall_alone}
+    'bumpy 2': bumpy(AROUND[:2]), 'bunny': bunny(AROUND), 'wall': wall_alone}
 
 
 def cast(origin: np.ndarray, rays: np.ndarray, part: Part) -> Tuple[np.ndarray, np.ndarray]:

@@ -3,7 +3,7 @@
 usage: dev/bench unseen RECON [only=SITE,SITE] [finer=F]
 
   RECON            the built program; RECON_MESH, or one found beside it, finishes the meshes
-  only=SITE,..     these sites of dev/bench/sites.py alone
+  only=SITE,..     these sites of dev/bench/sites.py alone (default: all; bunny if Debian's libcgal-demo is installed)
   finer=F          divide the steps between directions by F (default: 1)
 
 Each scan is built and finished by recon-surface. A face is *real* if a triangle of the site that faces the same side is within three standard
@@ -130,7 +130,7 @@ def cells_of(name: str, finer: float) -> list[str]:
 def work(names: Sequence[str], options: Any) -> str:
     os.environ['RECON'] = os.path.abspath(names[0])
     known = [*sites.SITES, *sites.SHAPES]
-    wanted = options.only.split(',') if options.only else known
+    wanted = options.only.split(',') if options.only else [name for name in known if name != 'bunny' or os.path.exists(sites.ARCHIVE)]
     wrong = [name for name in wanted if name not in known]
     if wrong:
         raise Refusal(f'unknown site {wrong[0]}: use {", ".join(known)}')
