@@ -71,7 +71,7 @@ def tried(name: str, finer: float = 1.0) -> Trial:
         mesh, _ = finished(os.fspath(built.mesh), surface.request_for(built, ready, args, choices), mesh=built.whole())
     cloud, rows = ready.cloud, built.source[mesh.vertex_of]
     views = views_of(cloud.points, cloud.scanners, cloud.sights.counts, cloud.sights.scanners, 8 if ready.surround else 0)
-    return Trial(scan, mesh, Views(*(column[rows] for column in views)), are_made_up(mesh, scan.site, 3 * scan.deviation))
+    return Trial(scan, mesh, views.take(rows), are_made_up(mesh, scan.site, 3 * scan.deviation))
 
 
 def are_made_up(mesh: Finished, site: sites.Part, limit: float) -> np.ndarray:

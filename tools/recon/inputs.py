@@ -48,7 +48,7 @@ class Cloud:
 
     def views(self) -> Views:
         """From where each point was seen."""
-        return views_of(self.points, self.scanners, self.sights.counts, self.sights.scanners, self.added)
+        return views_of(self.points, self.scanners, self.sights.counts, self.sights.scanners, self.added, self.is_made_up)
 
     def take(self, rows: np.ndarray) -> Cloud:
         """Returns the points of these rows, in their order, with all scanners."""

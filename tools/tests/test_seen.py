@@ -63,6 +63,14 @@ class Sights(unittest.TestCase):
         ground = vertices * [16, 1, 1] - [0, 15, 0]
         equal(unseen_rows(ground, np.r_[faces, step], views(ground, (-200, 0, 40))), [])
 
+    def test_small_faces_stay_where_positions_are_synthesised(self) -> None:
+        vertices, faces = sheet()
+        draw = np.random.default_rng(1)
+        rough, own = vertices + draw.normal(size=vertices.shape) * 0.4, np.arange(len(vertices))
+        places = rough + draw.normal(size=rough.shape) * [0.5, 0.5, 0.1] + [0, 0, 1]
+        gone = [unseen_by_sights(rough, np.r_[faces, [[0, 30, 930]]], Views(places, own, own < 0, is_made_up)) for is_made_up in (True, False)]
+        equal(([bool(rows[-1]) for rows in gone], 3 * gone[0].sum() < gone[1].sum()), ([True, True], True))
+
     def test_faces_at_added_vertices(self) -> None:
         vertices, faces = sheet()
         seen = views(vertices, (15, 15, 10))

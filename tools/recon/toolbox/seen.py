@@ -7,7 +7,8 @@ A face counts as seen if at least two of its corners were seen from its front si
 - it lies in a gap that continues a flat surface on all sides, such as the ground under a scanner: the normals at all three corners are within 11
   degrees, and so for nearly all of the gap.
 
-A curved triangle with the normals at the corners of a face shows how far off it the surface is. Of a face over 3 usual widths it may be 0.3 usual widths.
+A curved triangle with the normals at the corners of a face shows how far off it the surface is. Of a face over 3 usual widths, at one corner over 6, it may
+be 0.3 usual widths.
 
 At the silhouette of an object faces are seen edge-on. One that is up to 7 degrees past it counts as seen if it continues the surface: two normals at
 its corners are within 14 degrees, and the surface is off it by at most a tenth of the usual width.
@@ -16,7 +17,7 @@ The usual width at a vertex is the geometric mean of the lengths of its edges ac
 scanner. The normal at a vertex is the mean of those of the faces around it, each the more the more squarely it is seen. So a face along the lines of
 sight, from the edge of one object to another one behind it, is left out, and ground that is seen at the same small angle stays.
 
-Gaps of up to 4 edges of usual length count as seen.
+Gaps of up to 4 edges of usual length count as seen, and where positions are synthesised along normals all faces up to 2 usual widths wide.
 
 Names: Views (from where points were seen) · views_of · unseen_by_sights · filled (unseen faces without those of small holes).
 """
@@ -33,11 +34,13 @@ from recon.meshes import areas, pieces
 SQUARE_WIDTHS, SMOOTH_WIDTHS, MOST_WIDTHS, USUAL = 3.0, 8.0, 12.0, 4.0
 # faces up to this width make the normals at vertices
 NORMAL_WIDTHS = 6.0
+# the widths up to which faces count as seen where positions are synthesised along normals
+MADE_UP_WIDTHS = 2.0
 # the least cosines between the normal of a face and its lines of sight: of one that is seen from the front, and of one that is seen squarely
 FRONT, SQUARE = 0.03, 0.2
 # the same of one at a silhouette, between that and FRONT; the least cosine to the normals at its corners, and how far off it the surface is at most
 EDGE_ON, BENT, OFF = -0.12, 0.97, 0.1
-# how far off a face over SQUARE_WIDTHS the surface is at most
+# how far off a face over SQUARE_WIDTHS, and NORMAL_WIDTHS at one corner, the surface is at most
 WIDE_OFF = 0.3
 # the least cosines between the normal of a face and those at its corners: where it is seen squarely, where it continues them, and in a flat gap
 ALIKE, SMOOTH, FLAT = 0.7, 0.97, 0.98
@@ -51,15 +54,16 @@ SAMPLE = 20_000
 
 
 class Views(NamedTuple):
-    """From where the vertices of a mesh were seen: places (n, 3), the number of the scanner of each vertex (n,), and which vertices (n,) were
-    added around a scan, so that no scanner saw what they are corners of."""
+    """From where the vertices of a mesh were seen: places (n, 3), the number of the scanner of each vertex (n,), which vertices (n,) were
+    added around a scan, so that no scanner saw what they are corners of, and whether the places are synthesised along normals."""
     places: np.ndarray
     scanner: np.ndarray
     added: np.ndarray
+    is_made_up: bool = False
 
     def take(self, rows: np.ndarray) -> Views:
         """The views of these rows."""
-        return Views(*(column[rows] for column in self))
+        return Views(self.places[rows], self.scanner[rows], self.added[rows], self.is_made_up)
 
 
 class Corners(NamedTuple):
@@ -71,7 +75,7 @@ class Corners(NamedTuple):
     width: np.ndarray
 
 
-def views_of(points: np.ndarray, scanners: np.ndarray, counts: np.ndarray, seen_by: np.ndarray, added: int = 0) -> Views:
+def views_of(points: np.ndarray, scanners: np.ndarray, counts: np.ndarray, seen_by: np.ndarray, added: int = 0, is_made_up: bool = False) -> Views:
     """Returns from where points were seen, the last `added` of them being no points of a scan: each from the nearest of its scanners. Points
     without one are seen from where they are. `counts` and `seen_by` are the columns of Sights."""
     count = len(points)
@@ -85,7 +89,7 @@ def views_of(points: np.ndarray, scanners: np.ndarray, counts: np.ndarray, seen_
         # the last of a row that is assigned is the nearest
         scanner[owner[order]] = seen_by[order]
     places = np.where(scanner[:, None] >= 0, scanners[scanner], points) if len(scanners) else points
-    return Views(places, scanner, np.arange(count) >= count - added)
+    return Views(places, scanner, np.arange(count) >= count - added, is_made_up)
 
 
 def chunks(count: int) -> Iterator[slice]:
@@ -189,7 +193,10 @@ def unseen_by_sights(vertices: np.ndarray, faces: np.ndarray, views: Views) -> n
     is_added = views.added[faces].any(axis=1)
     is_possible = two_of(is_front) & ~is_added
     unseen = ~(is_possible & is_seen)
-    wide = np.flatnonzero(~unseen & two_of(width > SQUARE_WIDTHS))
+    if views.is_made_up:
+        # normals that are estimated or noisy say nothing of small faces
+        unseen &= is_added | ~two_of(width <= MADE_UP_WIDTHS)
+    wide = np.flatnonzero(~unseen & two_of(width > SQUARE_WIDTHS) & (width > NORMAL_WIDTHS).any(axis=0))
     unseen[wide] = off(mesh, at, usual, wide) > WIDE_OFF
     edge_on = np.flatnonzero(unseen & ~is_added & ~two_of(is_front) & two_of(cosine > EDGE_ON))
     unseen[edge_on[silhouettes(mesh, at, usual, edge_on, normal[:, edge_on])]] = False
