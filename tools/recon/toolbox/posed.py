@@ -11,7 +11,7 @@ from typing import Sequence
 import numpy as np
 
 from recon.toolbox.blocks import Column, TextColumn
-from recon.toolbox.exact import OVER_30_DIGITS, WIDE, Pose
+from recon.toolbox.exact import OVER_30_DIGITS, WIDE, Pose, shifted
 from recon.toolbox.text_columns import IS_LONG, NotPlain, TextRows
 
 # of a sum of three products and a number, each of numbers rounded once, in parts of the sum of their sizes, which is itself a little wrong
@@ -67,16 +67,22 @@ class Posed:
 
     def exact(self, axis: int, rows: np.ndarray) -> list[float]:
         """Returns a coordinate of some points, of sums of whole numbers where these are known."""
-        if self.whole is None:
+        totals = self.totals(axis, rows)
+        if not totals:
             return [float(words[axis]) for words in self.rows(rows)]
-        most, pose = max(self.places), self.pose
-        factors = [row[axis] * 10 ** (most - places) for row, places in zip(pose.whole, [*self.places, 0])]
-        columns = [column[rows].tolist() for column in self.whole]
-        totals = [x * factors[0] + y * factors[1] + z * factors[2] + factors[3] for x, y, z in zip(*columns)]
-        if any(abs(total) >= OVER_30_DIGITS for total in totals):
-            return [float(words[axis]) for words in self.rows(rows)]
-        over = 10 ** (most + pose.places)
+        over = 10 ** (max(self.places) + self.pose.places)
         return [total / over for total in totals]
+
+    def totals(self, axis: int, rows: np.ndarray | None) -> list[int]:
+        """Returns a coordinate of these rows as whole numbers over a power of ten; none where one has over 30 digits, or the text has none."""
+        self.before()
+        if self.whole is None:
+            return []
+        most = max(self.places)
+        a, b, c, d = (row[axis] * 10 ** (most - places) for row, places in zip(self.pose.whole, [*self.places, 0]))
+        columns = ((column if rows is None else column[rows]).tolist() for column in self.whole)
+        totals = [x * a + y * b + z * c + d for x, y, z in zip(*columns)]
+        return totals if all(-OVER_30_DIGITS < total < OVER_30_DIGITS for total in totals) else []
 
     def rows(self, rows: np.ndarray) -> list[list[str]]:
         """The coordinates of some points as words, exactly."""
@@ -84,6 +90,10 @@ class Posed:
 
     def words(self, axis: int, rows: np.ndarray | None) -> list[str]:
         """The fields of a coordinate of these rows, or of all."""
+        totals = self.totals(axis, rows)
+        if totals:
+            places = max(self.places) + self.pose.places
+            return [shifted(total, places) or '' for total in totals]
         if self.known is None or self.known[0] is not rows:
             wanted = np.arange(self.text.count) if rows is None else rows
             self.known = rows, [list(column) for column in zip(*self.rows(wanted))] or [[], [], []]
