@@ -170,7 +170,7 @@ KINDS: Dict[str, tuple[Any, ...]] = {
                                                                  [('p', '<f8', 3), ('c', 'u1', 3)]), '=' + STATION),
     'LAS': ('points.las', lambda path, rows: binary_file(path, rows, las_head(2, 2, 26, rows, (1e-4,) * 3, (0, 0, 0)), [('p', '<i4', 3), ('more', 'V8'), ('c', '<u2', 3)], 10_000), '=' + STATION),
     'E57': ('points.e57', e57_file, ''),
-    'text with normals': ('normals.txt', lambda path, rows: text_file(path, rows, '%.4f %.4f %.4f %.3f %.3f %.3f\n', lambda p, *_: np.c_[p, normals_of(p)]), '', 'normals=yes'),
+    'text with normals': ('normals.txt', lambda path, rows: text_file(path, rows, '%.4f %.4f %.4f %.3f %.3f %.3f\n', lambda p, *_: np.c_[p, normals_of(p)]), '=' + STATION),
     'LAS and its flight': ('flight.las', flight_file, '', 'flight=flight.txt'),
     'COLMAP, `fused.ply`': ('fused.ply', dense_file, '', 'images=images.bin'),
     'COLMAP, `points3D.bin`': ('points3D.bin', sparse_file, '', 'images=images.bin')}

@@ -133,9 +133,9 @@ class Gathering:
     def add_sights(self, column: Column, some: Any) -> None:
         """Takes the scanners of these rows."""
         if isinstance(column, Lists):
-            lists = column.taken(np.arange(len(column.counts))[some])
+            lists = column if isinstance(some, slice) else column.taken(some)
             self.counts.append(lists.counts)
-            self.numbers.append(lists.numbers.astype(np.int32))
+            self.numbers.append(lists.numbers.astype(np.int32, copy=False))
         else:
             self.numbers.append(column.floats()[some].astype(np.int32))
 

@@ -121,19 +121,20 @@ class ListReader:
 
     def next_lists(self, count: int) -> Lists:
         """Returns the next lists, as many as are given."""
-        sizes, numbers = [np.zeros(0, np.int64)], [np.zeros(0, np.int64)]
+        sizes, numbers = [np.zeros(0, np.int64)], [np.zeros(0, np.int32)]
         while count:
             data = b'' if len(self.tail) > LISTS else self.file.read(4 * LISTS)
-            words = np.concatenate([self.tail, np.frombuffer(data, '<u4', len(data) // 4)]).astype(np.uint32)
+            words = np.concatenate([self.tail, np.frombuffer(data, '<u4', len(data) // 4)]).astype(np.uint32, copy=False)
             starts, end = list_starts(words, count)
             if not starts:
                 raise NotPlain
             is_number = np.ones(end, bool)
             is_number[starts] = False
             sizes.append(words[starts].astype(np.int64))
-            numbers.append(words[:end][is_number].astype(np.int64))
-            if int(numbers[-1].max(initial=0)) >= self.limit:
+            found = words[:end][is_number]
+            if int(found.max(initial=0)) >= self.limit:
                 raise NotPlain
+            numbers.append(found.view(np.int32))
             self.tail, count = words[end:], count - len(starts)
         return Lists(np.concatenate(sizes), np.concatenate(numbers))
 
@@ -142,8 +143,8 @@ def list_starts(words: np.ndarray, most: int) -> tuple[list[int], int]:
     """Returns where the first whole lists begin, at most `most`, and where the last one ends. Each is its length, and then its numbers."""
     starts: list[int] = []
     at, end, sizes = 0, len(words), words.data
-    while at < end and len(starts) < most:
-        after = at + 1 + sizes[at]
+    for _ in range(min(most, end)):
+        after = at + 1 + sizes[at] if at < end else end + 1
         if after > end:
             break
         starts.append(at)
