@@ -1,0 +1,166 @@
+//! The joined mesh, closed.
+
+ghost use Rattle.std.specs.Prelude.{◌≡◌, ◌<◌, ◌^◌, ℕ, List, IfOk, IfNone, All, length};
+ghost use Rattle.std.specs.HashMap.{hash_map_len};
+ghost use Rattle.mesh.specs.Meshes.{IsFace, IsMesh};
+ghost use Rattle.mesh_join.specs.Joins.{lists_of, AreMeshesNumbered, ArePlacesRising, AreTiles, IsClosedJoin, IsJoin, IsJoining};
+
+use crate::fill::fans_of;
+use crate::held::{Tile, joined_faces};
+use crate::owners::{Core, Owners};
+use crate::places::{are_rising, is_face, places_of, tiles_of};
+use crate::rows::ascending;
+use crate::search::moved_edges;
+use crate::{Mesh, NoMemory};
+use mesh::mesh_of_facets;
+use mesh_edges::{UnbalancedEdge, first_unbalanced};
+use std::alloc::Global;
+
+/// A joined mesh.
+#[derive(Debug, Drop)]
+pub struct Joined {
+    /// The mesh.
+    pub mesh: Mesh,
+    /// How many edges are owned by another tile than the one at home.
+    pub moved: usize,
+    /// How many faces are of no tile.
+    pub filled: usize,
+}
+
+/// Why tiles are not joined.
+#[derive(Clone, Copy, Debug, PartialEq, Eq)]
+pub enum Refusal {
+    /// There are 4,294,967,296 places or more.
+    TooMany,
+    /// The tile with this number has a face with two vertices at one place.
+    Flat(usize),
+    /// An edge stays open: by its vertices in the mesh that was tried.
+    Open(UnbalancedEdge),
+}
+
+/// A mesh that was tried, and its first edge that is open.
+#[derive(Drop)]
+struct Trial {
+    mesh: Mesh,
+    facets: Vec<[u32; 3]>,
+    hole: Option<UnbalancedEdge>,
+}
+
+/// Returns the joined faces and those of a list, ascending.
+fn facets_of(
+    alloc: Global,
+    owners: &Owners,
+    tiles: &[Tile],
+    filling: &[[u32; 3]],
+) -> Result<Vec<[u32; 3]>, NoMemory>
+    requires tiles { AreTiles owners.now (lists_of tiles.now) }
+    requires filling { All (IsFace (length owners.now.places.items)) filling.now }
+    ensures join { IfOk result (λ facets. IsJoin owners.now (lists_of tiles.now) filling.now facets.items) }
+    ensures valid { IfOk result (λ facets. All (IsFace (length owners.now.places.items)) facets.items) }
+{
+    let mut faces = joined_faces(alloc, owners, tiles)?;
+    faces.extend_from_slice(filling)?;
+    Ok(ascending(faces))
+}
+
+/// Joins tiles, with the faces of a list besides.
+fn attempt(
+    alloc: Global,
+    owners: &Owners,
+    tiles: &[Tile],
+    filling: &[[u32; 3]],
+) -> Result<Trial, NoMemory>
+    requires few { length owners.now.places.items < 2 ^ 32 }
+    requires tiles { AreTiles owners.now (lists_of tiles.now) }
+    requires filling { All (IsFace (length owners.now.places.items)) filling.now }
+    ensures closed { IfOk result (λ a. IfNone a.hole (IsClosedJoin owners.now (lists_of tiles.now) filling.now a.mesh.points.items a.mesh.faces.items)) }
+    ensures valid { IfOk result (λ a. IsMesh a.mesh.points.items a.mesh.faces.items) }
+{
+    let facets = facets_of(alloc, owners, tiles, filling)?;
+    let mesh = mesh_of_facets(alloc, &owners.places, &facets)?;
+    let hole = first_unbalanced(alloc, &mesh)?;
+    Ok(Trial { mesh, facets, hole })
+}
+
+/// Returns the faces of a list that are valid among `n` places.
+fn valid_faces(alloc: Global, n: usize, list: &[[u32; 3]]) -> Result<Vec<[u32; 3]>, NoMemory>
+    ensures { IfOk result (λ faces. All (IsFace n) faces.items) }
+{
+    let mut faces = Vec::new(alloc);
+    for face in list {
+        if is_face(n, *face) {
+            faces.push(*face)?;
+        }
+    }
+    Ok(faces)
+}
+
+/// Joins tiles, and fills what stays open.
+fn close(
+    alloc: Global,
+    owners: &Owners,
+    tiles: &[Tile],
+) -> Result<Result<Joined, Refusal>, NoMemory>
+    requires few { length owners.now.places.items < 2 ^ 32 }
+    requires tiles { AreTiles owners.now (lists_of tiles.now) }
+    ensures closed { IfOk result (λ r. IfOk r (λ j. (filling : List (List ℕ)) × IsClosedJoin owners.now (lists_of tiles.now) filling j.mesh.points.items j.mesh.faces.items × (j.filled ≡ length filling))) }
+    ensures moved { IfOk result (λ r. IfOk r (λ j. j.moved ≡ hash_map_len owners.now.moved)) }
+    ensures valid { IfOk result (λ r. IfOk r (λ j. IsMesh j.mesh.points.items j.mesh.faces.items)) }
+{
+    let moved = owners.moved.len();
+    let none = Vec::new(alloc);
+    let first = attempt(alloc, owners, tiles, &none)?;
+    if first.hole.is_none() {
+        return Ok(Ok(Joined {
+            mesh: first.mesh,
+            moved,
+            filled: 0,
+        }));
+    }
+    let fans = fans_of(alloc, &first.facets)?;
+    let filling = valid_faces(alloc, owners.places.len(), &fans)?;
+    let second = attempt(alloc, owners, tiles, &filling)?;
+    match second.hole {
+        None => Ok(Ok(Joined {
+            mesh: second.mesh,
+            moved,
+            filled: filling.len(),
+        })),
+        Some(edge) => Ok(Err(Refusal::Open(edge))),
+    }
+}
+
+/// Joins the meshes of tiles into one closed mesh: each edge takes the faces of the tile that owns it.
+///
+/// A tile owns the edges whose middle lies in its core, but for some edges that are moved to another tile, so that tiles agree about
+/// every face. Where they still do not, faces of no tile fill what stays open. Both are looked for without a promise; the result is
+/// verified: a face is joined exactly if the owners of its three edges have it, and the mesh is closed. `Refusal` says nothing of
+/// the tiles but for `Flat`.
+///
+/// Faces are sorted several times, and all else is linear but for faces at several cores.
+pub fn join_tiles(
+    alloc: Global,
+    cores: Vec<Core>,
+    meshes: &[Mesh],
+) -> Result<Result<Joined, Refusal>, NoMemory>
+    requires count { length cores.items ≡ length meshes.now }
+    requires valid { All (λ m. IsMesh m.points.items m.faces.items) meshes.now }
+    ensures joining { IfOk result (λ r. IfOk r (λ j. IsJoining cores.items meshes.now j.mesh.points.items j.mesh.faces.items j.moved j.filled)) }
+    ensures valid { IfOk result (λ r. IfOk r (λ j. IsMesh j.mesh.points.items j.mesh.faces.items)) }
+{
+    let places = places_of(alloc, meshes)?;
+    if places.len() > u32::MAX as usize || !are_rising(&places) {
+        return Ok(Err(Refusal::TooMany));
+    }
+    let tiles = match tiles_of(alloc, &places, meshes)? {
+        Ok(tiles) => tiles,
+        Err(tile) => return Ok(Err(Refusal::Flat(tile))),
+    };
+    let moved = moved_edges(alloc, &cores, &places, &tiles)?;
+    let owners = Owners {
+        cores,
+        places,
+        moved,
+    };
+    close(alloc, &owners, &tiles)
+}

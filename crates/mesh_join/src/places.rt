@@ -1,0 +1,187 @@
+//! Numbers of places for the vertices of tiles.
+
+ghost use Rattle.std.specs.Prelude.{◌≡◌, ◌<◌, ◌^◌, ◌↔◌, ℕ, IsTrue, IfOk, IfSome, All, length, map};
+ghost use Rattle.std.specs.Bool.{OnTrue};
+ghost use Rattle.std.specs.Cmp.Lexicographic.{slice_cmp};
+ghost use Rattle.std.specs.List.Sorted.{IsSorted};
+ghost use Rattle.std.specs.Ordering.{nat_cmp};
+ghost use Rattle.mesh.specs.Meshes.{point_at, IsFace, IsMesh};
+ghost use Rattle.mesh_join.specs.Joins.{face_at_places, lists_of, turned_face, AreMeshesNumbered, ArePlacesRising, IsNumbered, IsPlaceBefore};
+
+use crate::held::Tile;
+use crate::{Mesh, NoMemory};
+use geo_sign::Point;
+use std::alloc::Global;
+
+/// Returns the places of all vertices, ascending, each once. No clause depends on it: [`are_rising`] and [`numbers_of`] verify it.
+pub(crate) fn places_of(alloc: Global, meshes: &[Mesh]) -> Result<Vec<Point>, NoMemory> {
+    let mut places = Vec::new(alloc);
+    for mesh in meshes {
+        places.extend_from_slice(&mesh.points)?;
+    }
+    places.sort_unstable();
+    places.dedup();
+    Ok(places)
+}
+
+fn is_before(p: Point, q: Point) -> bool
+    ensures { IsTrue result ↔ IsPlaceBefore p q }
+{
+    if p.x() != q.x() {
+        return p.x() < q.x();
+    }
+    if p.y() != q.y() {
+        return p.y() < q.y();
+    }
+    p.z() < q.z()
+}
+
+/// Returns whether each place is before the next.
+pub(crate) fn are_rising(places: &[Point]) -> bool
+    ensures { OnTrue result (ArePlacesRising places.now) }
+{
+    for k in 1..places.len() {
+        if !is_before(places[k - 1], places[k]) {
+            return false;
+        }
+    }
+    true
+}
+
+fn is_same(p: Point, q: Point) -> bool
+    ensures { OnTrue result (p ≡ q) }
+{
+    p.x() == q.x() && p.y() == q.y() && p.z() == q.z()
+}
+
+/// Returns the number of a point's place.
+fn number_of(places: &[Point], point: Point) -> Option<u32>
+    requires { length places.now < 2 ^ 32 }
+    ensures within { IfSome result (λ n. n < length places.now) }
+    ensures at { IfSome result (λ n. point_at places.now n ≡ point) }
+{
+    let Ok(n) = places.binary_search(&point) else {
+        return None;
+    };
+    if is_same(places[n], point) {
+        Some(n as u32)
+    } else {
+        None
+    }
+}
+
+/// Returns the number of each point's place.
+fn numbers_of(
+    alloc: Global,
+    places: &[Point],
+    points: &[Point],
+) -> Result<Option<Vec<u32>>, NoMemory>
+    requires { length places.now < 2 ^ 32 }
+    ensures within { IfOk result (λ list. IfSome list (λ numbers. All (λ n. n < length places.now) numbers.items)) }
+    ensures at { IfOk result (λ list. IfSome list (λ numbers. points.now ≡ map (point_at places.now) numbers.items)) }
+{
+    let mut numbers = Vec::with_capacity(alloc, points.len())?;
+    for point in points {
+        match number_of(places, *point) {
+            Some(n) => numbers.push(n)?,
+            None => return Ok(None),
+        }
+    }
+    Ok(Some(numbers))
+}
+
+fn turned(a: u32, b: u32, c: u32) -> [u32; 3]
+    ensures { result ≡ turned_face a b c }
+{
+    if a < b && a < c {
+        [a, b, c]
+    } else if b < a && b < c {
+        [b, c, a]
+    } else {
+        [c, a, b]
+    }
+}
+
+/// Returns whether a face is valid among `n` places.
+pub(crate) fn is_face(n: usize, face: [u32; 3]) -> bool
+    ensures { OnTrue result (IsFace n face) }
+{
+    let [a, b, c] = face;
+    a < b && a < c && b != c && (b as usize) < n && (c as usize) < n
+}
+
+/// Returns a face by numbers of places.
+fn face_at(numbers: &[u32], face: [u32; 3]) -> [u32; 3]
+    requires { IsFace (length numbers.now) face }
+    ensures { result ≡ face_at_places numbers.now face }
+{
+    let [a, b, c] = face;
+    turned(
+        numbers[a as usize],
+        numbers[b as usize],
+        numbers[c as usize],
+    )
+}
+
+/// Returns the faces by numbers of places, below `n`; `None` if one has two vertices at one place.
+fn faces_at(
+    alloc: Global,
+    n: usize,
+    numbers: &[u32],
+    faces: &[[u32; 3]],
+) -> Result<Option<Vec<[u32; 3]>>, NoMemory>
+    requires { All (IsFace (length numbers.now)) faces.now }
+    ensures valid { IfOk result (λ list. IfSome list (λ l. All (IsFace n) l.items)) }
+    ensures same { IfOk result (λ list. IfSome list (λ l. l.items ≡ map (face_at_places numbers.now) faces.now)) }
+{
+    let mut list = Vec::with_capacity(alloc, faces.len())?;
+    for face in faces {
+        let at = face_at(numbers, *face);
+        if !is_face(n, at) {
+            return Ok(None);
+        }
+        list.push(at)?;
+    }
+    Ok(Some(list))
+}
+
+/// Returns a tile's faces by numbers of places; `None` if one has two vertices at one place, or a vertex has no place.
+fn tile_of(alloc: Global, places: &[Point], mesh: &Mesh) -> Result<Option<Tile>, NoMemory>
+    requires few { length places.now < 2 ^ 32 }
+    requires mesh { IsMesh mesh.now.points.items mesh.now.faces.items }
+    ensures numbered { IfOk result (λ tile. IfSome tile (λ t. IsNumbered places.now mesh.now.points.items mesh.now.faces.items t.faces.items)) }
+    ensures sorted { IfOk result (λ tile. IfSome tile (λ t. IsSorted (slice_cmp nat_cmp) t.faces.items)) }
+    ensures valid { IfOk result (λ tile. IfSome tile (λ t. All (IsFace (length places.now)) t.faces.items)) }
+{
+    let Some(numbers) = numbers_of(alloc, places, &mesh.points)? else {
+        return Ok(None);
+    };
+    let Some(mut faces) = faces_at(alloc, places.len(), &numbers, &mesh.faces)? else {
+        return Ok(None);
+    };
+    faces.sort_unstable();
+    Ok(Some(Tile { faces }))
+}
+
+/// Returns the faces of each tile by numbers of places, or the number of the first tile for which [`tile_of`] gives `None`.
+pub(crate) fn tiles_of(
+    alloc: Global,
+    places: &[Point],
+    meshes: &[Mesh],
+) -> Result<Result<Vec<Tile>, usize>, NoMemory>
+    requires few { length places.now < 2 ^ 32 }
+    requires meshes { All (λ m. IsMesh m.points.items m.faces.items) meshes.now }
+    ensures count { IfOk result (λ r. IfOk r (λ tiles. length (lists_of tiles.items) ≡ length meshes.now)) }
+    ensures numbered { IfOk result (λ r. IfOk r (λ tiles. AreMeshesNumbered places.now meshes.now (lists_of tiles.items))) }
+    ensures sorted { IfOk result (λ r. IfOk r (λ tiles. All (IsSorted (slice_cmp nat_cmp)) (lists_of tiles.items))) }
+    ensures valid { IfOk result (λ r. IfOk r (λ tiles. All (All (IsFace (length places.now))) (lists_of tiles.items))) }
+{
+    let mut tiles = Vec::new(alloc);
+    for (i, mesh) in meshes.iter().enumerate() {
+        match tile_of(alloc, places, mesh)? {
+            Some(tile) => tiles.push(tile)?,
+            None => return Ok(Err(i)),
+        }
+    }
+    Ok(Ok(tiles))
+}
