@@ -1,0 +1,48 @@
+-- The text of a list of tiles.
+--
+--   axis_code axis         the letter of an axis
+--   corner_fields p end    three coordinates, each with the byte that ends it
+--   cut_line cut, tile_line tile, entry_line entry   the line of each
+--   IsTileList text entries   the text states a number of tiles, from 1 to the most, and has one cut fewer than tiles: these entries
+use Rattle.std.specs.Prelude.{ℕ, ◌≡◌, ◌+◌, ◌*◌, ◌≤◌, List, ◌∷◌, ◌++◌, codes, length}
+use Rattle.std.specs.List.{flat_map}
+use Rattle.line_text.specs.Numbers.{counted, signed_ended}
+use Rattle.tile_list.specs.declared.read.TheConstants.{TILE_LIMIT}
+use Rattle.tile_list.specs.declared.entry.Axis.{Axis}
+use Rattle.tile_list.specs.declared.entry.Axis.TheVariants.{X, Y, Z}
+use Rattle.tile_list.specs.declared.entry.Corner.{Corner}
+use Rattle.tile_list.specs.declared.entry.Cut.{Cut}
+use Rattle.tile_list.specs.declared.entry.Entry.{Entry}
+use Rattle.tile_list.specs.declared.entry.Entry.TheVariants as entries
+use Rattle.tile_list.specs.declared.entry.TileLine.{TileLine}
+
+-- the letter of an axis
+abbrev pub axis_code : Axis → ℕ
+axis_code X = 120
+axis_code Y = 121
+axis_code Z = 122
+
+-- three coordinates: after the first two a space, after the third this byte
+abbrev pub corner_fields : Corner → (end : ℕ) → List ℕ
+corner_fields p end = signed_ended p.x 32 ++ (signed_ended p.y 32 ++ signed_ended p.z end)
+
+-- cut AXIS AT
+abbrev pub cut_line : Cut → List ℕ
+cut_line cut = codes "cut " ++ (axis_code cut.axis ∷ (codes " " ++ signed_ended cut.at 10))
+
+-- tile FILE LX LY LZ HX HY HZ
+abbrev pub tile_line : TileLine → List ℕ
+tile_line tile = codes "tile " ++ (tile.file.now ++ (32 ∷ (corner_fields tile.low 32 ++ corner_fields tile.high 10)))
+
+-- the line of an entry
+abbrev pub entry_line : Entry → List ℕ
+entry_line (entries.Cut cut) = cut_line cut
+entry_line (entries.Tile tile) = tile_line tile
+
+-- the first line and those of the entries; with a cut fewer than tiles
+pub record IsTileList (text : List ℕ) (list : List Entry) : Type 0 where
+  pub tiles : ℕ
+  pub least : 1 ≤ tiles
+  pub most : tiles ≤ TILE_LIMIT
+  pub lines : length list + 1 ≡ 2 * tiles
+  pub text_is : text ≡ counted (codes "tiles ") tiles ++ flat_map entry_line list
