@@ -16,6 +16,7 @@ no comment or comes before one that it uses, or if one uses a name of the toolch
 from __future__ import annotations
 
 import re
+from docs import sources
 from docs.sources import TOP, Report
 
 
@@ -142,7 +143,7 @@ def home_of(place: Place) -> Place:
 def code_of(crate: str, name: str) -> tuple[Place, tuple[str, list[str]]]:
     """Returns the place of a type or a constant of a crate's code, its doc comment, and its declaration without attributes."""
     item = re.compile(rf'(?ms)((?:^///[^\n]*\n)*)(?:^#\[[^\n]*\n)*(^pub (?:struct|enum|const) {name}\b(?:[^{{;]*;|.*?^\}}))')
-    for path in sorted((CRATES / crate / 'src').rglob('*.rt')):
+    for path in sources.code_of(CRATES / crate):
         if found := item.search(path.read_text()):
             said = ' '.join(line[3:].strip() for line in found[1].splitlines())
             return (crate, str(path.relative_to(CRATES / crate)), name), (said, found[2].splitlines())

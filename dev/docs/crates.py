@@ -12,7 +12,7 @@ import shutil
 import subprocess
 
 from docs.levels import areas_of, cells_of, crossing, levels_of
-from docs.sources import TOP, Report, between, head_of, named, table, uses_of
+from docs.sources import TOP, Report, between, code_of, head_of, named, table, uses_of
 
 BEGIN, END = '<!-- Printed by dev/docs from the heads of crates. -->', '<!-- End of what is printed. -->'
 MOST_COLUMNS, MOST_LINES = 140, 130
@@ -33,7 +33,7 @@ def verified_of(head: list[str]) -> str:
 
 def words_of(crate: pathlib.Path) -> set[str]:
     """Returns the identifiers in the sources and specifications of a crate."""
-    paths = [*crate.glob('src/**/*.rt'), *crate.glob('specs/**/*.antt')]
+    paths = [*code_of(crate), *crate.glob('specs/**/*.antt')]
     texts = (re.sub(r'(?m)^//!.*', '', path.read_text()) for path in paths)
     return {word for text in texts for word in re.findall(r'\w+', text)}
 

@@ -13,7 +13,7 @@ import re
 from collections.abc import Iterator
 
 from docs.crates import sentence_of
-from docs.sources import TOP, Report, head_of, table
+from docs.sources import TOP, Report, code_of, head_of, table
 
 PAGE = TOP / 'docs/reference/api.md'
 ITEM = re.compile(r'(pub )?(const |unsafe )?(fn|struct|enum|trait|type|const) (\w+)')
@@ -91,7 +91,7 @@ def items_in(text: str, owner: str = '') -> Iterator[tuple[str, str]]:
 def items_of(crate: str) -> dict[str, str]:
     """Returns the public items of a crate, each with its signature, and those of other crates that it exports."""
     folder = TOP / 'crates' / crate / 'src'
-    texts = [plain(path.read_text()) for path in sorted(folder.rglob('*.rt')) if 'tests' not in path.stem]
+    texts = [plain(path.read_text()) for path in code_of(folder.parent)]
     found = {name: row for text in texts for name, row in items_in(text)}
     root = next(plain((folder / name).read_text()) for name in ('lib.rt', 'main.rt') if (folder / name).is_file())
     exported = {name for group in re.findall(r'\bpub use ([^;]*);', root) for name in re.findall(r'\w+', group)}

@@ -11,7 +11,7 @@ from collections.abc import Iterator
 from typing import NamedTuple
 
 from docs.crates import sentence_of
-from docs.sources import TOP, Report, head_of, uses_of
+from docs.sources import TOP, Report, code_of, head_of, uses_of
 
 OWNER = re.compile(r'(?:pub )?(?:impl(?:<[^{]*?>)? (?:[^{]*? for )?|trait )(\w+)')
 CALL = re.compile(r'( *)(pub )?fn (\w+)')
@@ -56,8 +56,7 @@ def calls_in(text: str) -> Iterator[Call]:
 
 def calls_of(crate: pathlib.Path) -> list[Call]:
     """Returns the public functions of a crate, without those of its tests."""
-    paths = [path for path in sorted(crate.glob('src/**/*.rt')) if 'tests' not in path.stem]
-    return [it for path in paths for it in calls_in(path.read_text())]
+    return [it for path in code_of(crate) for it in calls_in(path.read_text())]
 
 
 def section(crate: pathlib.Path) -> str:

@@ -32,6 +32,11 @@ def head_of(crate: pathlib.Path) -> list[str]:
     return [line[3:].removeprefix(' ') for path in roots for line in path.read_text().splitlines() if line.startswith('//!')]
 
 
+def code_of(crate: pathlib.Path) -> list[pathlib.Path]:
+    """Returns the source files of a crate, without those of its tests."""
+    return [path for path in sorted((crate / 'src').rglob('*.rt')) if 'tests' not in path.stem]
+
+
 def between(page: str, begin: str, end: str, inner: str) -> str:
     """Returns a page with other text between two lines of it. Raises ValueError if it has not both."""
     before, found, rest = page.partition(begin + '\n')
