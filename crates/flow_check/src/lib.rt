@@ -15,6 +15,8 @@ mod balance;
 mod checking;
 mod laws;
 mod limits;
+#[cfg(test)]
+mod tests;
 mod verdict;
 
 pub use checking::check_flow;
