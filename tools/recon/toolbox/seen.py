@@ -11,7 +11,7 @@ A curved triangle with the normals at the corners of a face shows how far off it
 be 0.3 usual widths.
 
 At the silhouette of an object faces are seen edge-on. One that is up to 7 degrees past it counts as seen if it continues the surface: two normals at
-its corners are within 14 degrees, and the surface is off it by at most a tenth of the usual width.
+its corners are within 14 degrees, and the surface is off it by at most 0.06 usual widths.
 
 The usual width at a vertex is the geometric mean of the lengths of its edges across its line of sight, but at most 4 times what is usual for its
 scanner. The normal at a vertex is the mean of those of the faces around it, each the more the more squarely it is seen. So a face along the lines of
@@ -39,7 +39,7 @@ MADE_UP_WIDTHS = 2.0
 # the least cosines between the normal of a face and its lines of sight: of one that is seen from the front, and of one that is seen squarely
 FRONT, SQUARE = 0.03, 0.2
 # the same of one at a silhouette, between that and FRONT; the least cosine to the normals at its corners, and how far off it the surface is at most
-EDGE_ON, BENT, OFF = -0.12, 0.97, 0.1
+EDGE_ON, BENT, OFF = -0.12, 0.97, 0.06
 # how far off a face over SQUARE_WIDTHS, and NORMAL_WIDTHS at one corner, the surface is at most
 WIDE_OFF = 0.3
 # the least cosines between the normal of a face and those at its corners: where it is seen squarely, where it continues them, and in a flat gap
