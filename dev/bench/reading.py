@@ -151,7 +151,7 @@ def flight_file(path: Path, rows: int) -> None:
         file.write(las_head(2, 1, 28, rows, (1e-4,) * 3, (0, 0, 0)))
         for points, intensities, _ in parts(rows):
             records = np.zeros(len(points), [('p', '<i4', 3), ('more', 'V8'), ('t', '<f8')])
-            records['p'], records['t'] = np.rint(points * 10_000), intensities * 1000
+            records['p'], records['t'] = np.rint(points * 10_000), np.sort(intensities) * 1000
             file.write(records.tobytes())
     path.with_name('flight.txt').write_text(''.join(f'{second} {second} 0 500\n' for second in range(1001)), encoding='ascii')
 
