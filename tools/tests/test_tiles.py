@@ -331,8 +331,19 @@ class Tiles(InFolder):
         steps = start[:, None] + (ends - start)[:, None] * np.linspace(0, 1, 400)[None, :, None]
         near = ((steps >= low) & (steps <= high)).all(axis=2).any(axis=1)
         wide = ((steps >= low - 0.05) & (steps <= high + 0.05)).all(axis=2).any(axis=1)
-        found = tile_halo.crosses(low, high, start, ends)
+        enters, leaves = tile_halo.spans(low, high, start, ends)
+        found = enters <= leaves
         equal(((found >= near).all(), (found <= wide).all(), found.any()), (True, True, True))
+
+    def test_halo_points_are_spread(self) -> None:
+        draw = np.random.default_rng(6)
+        # a hundred directions in one cell, and one in each of some other cells
+        ways = np.r_[draw.uniform(0, 0.3, (100, 3)), [[x, y, 0.1] for x in (0.4, 0.7, 1.0) for y in (0.2, 0.6)]]
+        order = tile_halo.spread(ways, np.zeros(len(ways), int), 9)
+        equal((sorted(order.tolist()), set(order[:7].tolist())), ([*range(106)], {0, *range(100, 106)}))
+        scanners = np.arange(106) % 2
+        equal(set(tile_halo.spread(ways, scanners, 18)[:8].tolist()), {0, 1, *range(100, 106)})
+        equal(tile_halo.spread(ways[:0], scanners[:0], 9).tolist(), [])
 
     def test_scans_of_each_kind_become_tiles(self) -> None:
         write('a.ptx', PTX)

@@ -108,7 +108,8 @@ class Splitter:
         places = own.table['place']
         halo = self.halo.points(core, places, self.overlap, self.wanted.through)
         ends = self.ends.take(np.flatnonzero(~core.within(self.ends.table['place'], self.overlap)))
-        rows = ends_last(together([own, halo, ends]), self.ends)
+        rows = together([own, halo.take(np.flatnonzero(ranks(halo, self.ends) == 0)), ends])
+        rows = rows.take(np.argsort(ranks(rows, self.ends), kind='stable'))
         numbers, scanners = np.unique(rows.scanners, return_inverse=True)
         if len(numbers) > SCANNER_LIMIT:
             raise Refusal(f'a tile has points of more than {SCANNER_LIMIT} scanners: use a smaller points=')
@@ -119,12 +120,12 @@ class Splitter:
         return Tile(core, len(rows.table), len(places), int(core.holds(places).sum()), len(numbers))
 
 
-def ends_last(rows: Rows, ends: Rows) -> Rows:
-    """Returns the rows with those at the places of the ends after all others, in the order of the ends."""
-    rank = np.zeros(len(rows.table), np.int8)
+def ranks(rows: Rows, ends: Rows) -> np.ndarray:
+    """Returns for each row the number of the end, from 1, whose place it has, or 0."""
+    found = np.zeros(len(rows.table), np.int8)
     for number, place in enumerate(ends.table['place'], 1):
-        rank[(rows.table['place'] == place).all(axis=1)] = number
-    return rows.take(np.argsort(rank, kind='stable'))
+        found[(rows.table['place'] == place).all(axis=1)] = number
+    return found
 
 
 def replaced(division: Division, parts: Any) -> Division:
