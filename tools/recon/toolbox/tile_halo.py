@@ -51,7 +51,7 @@ class Halo:
 
 def spread(directions: np.ndarray, scanners: np.ndarray, most: int) -> np.ndarray:
     """Returns the rows of directions (k, 3) in an order whose first `most` are spread over directions: first one row of each scanner in each cell of
-    directions, then a second one, and so on. A scanner has about as many cells in front of it as it may have rows."""
+    directions, then a second one, and so on. A scanner has about as many cells as it may have rows."""
     if not len(directions):
         return np.zeros(0, np.int64)
     count = max(2.0, np.sqrt(most / len(np.unique(scanners))))
