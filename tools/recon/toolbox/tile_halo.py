@@ -1,5 +1,5 @@
-"""Halo points: points outside of a tile whose lines of sight cross it, and so show where the tile is empty. They are spread over the directions in which
-scanners look.
+"""Halo points: points outside of a tile whose lines of sight cross it, and so show where the tile is empty. They are spread over the
+tile, for each scanner.
 
 Names: Halo (the lines of sight of a sample).
 """
@@ -13,7 +13,7 @@ from recon.toolbox.tile_boxes import Core
 from recon.toolbox.tile_rows import Rows
 
 PART = 100000
-# of a cell of directions, in a number for it and a scanner
+# of a cube, in a number for it and a scanner
 FACTORS = (1 << 40, 1 << 28, 1 << 16)
 
 
@@ -33,29 +33,29 @@ class Halo:
         low, high = own.min(axis=0), own.max(axis=0)
         sights = np.flatnonzero(~core.within(self.places, overlap)[self.owner])
         parts = [self.entering(low, high, sights[start:start + PART]) for start in range(0, len(sights), PART)]
-        found = np.concatenate([np.zeros(0, np.int64), *parts])
-        rows = self.owner[found[spread(self.directions(found), self.sample.scanners[found], most)]]
+        found = np.concatenate([np.zeros(0, np.int64), *(part for part, _ in parts)])
+        middles = np.concatenate([np.zeros((0, 3)), *(middle for _, middle in parts)])
+        size = max(float((high - low).max()), 1.0)
+        rows = self.owner[found[spread((middles - low) / size, self.sample.scanners[found], most)]]
         _, first = np.unique(rows, return_index=True)
         return self.sample.take(rows[np.sort(first)[:most]])
 
-    def entering(self, low: np.ndarray, high: np.ndarray, sights: np.ndarray) -> np.ndarray:
-        """Returns those of some sights that meet a box."""
-        enters, leaves = spans(low, high, self.places[self.owner[sights]], self.ends[sights])
-        return sights[enters <= leaves]
-
-    def directions(self, sights: np.ndarray) -> np.ndarray:
-        """Returns the directions (k, 3), of length 1, in which scanners look along some sights."""
-        ways = self.places[self.owner[sights]] - self.ends[sights]
-        return np.asarray(ways / np.maximum(np.linalg.norm(ways, axis=1), 1)[:, None])
+    def entering(self, low: np.ndarray, high: np.ndarray, sights: np.ndarray) -> Tuple[np.ndarray, np.ndarray]:
+        """Returns those of some sights that meet a box, and the middles (k, 3) of their parts in it."""
+        start, ends = self.places[self.owner[sights]], self.ends[sights]
+        enters, leaves = spans(low, high, start, ends)
+        hit = np.flatnonzero(enters <= leaves)
+        middle = (enters[hit] + leaves[hit]) / 2
+        return sights[hit], start[hit] + (ends[hit] - start[hit]) * middle[:, None]
 
 
-def spread(directions: np.ndarray, scanners: np.ndarray, most: int) -> np.ndarray:
-    """Returns the rows of directions (k, 3) in an order whose first `most` are spread over directions: first one row of each scanner in each cell of
-    directions, then a second one, and so on. A scanner has about as many cells as it may have rows."""
-    if not len(directions):
+def spread(places: np.ndarray, scanners: np.ndarray, most: int) -> np.ndarray:
+    """Returns the rows of places (k, 3), from 0 to 1, in an order whose first `most` are spread: first one row of each scanner in each cube, then a second
+    one, and so on. A plane through all places has about as many cubes as a scanner may have rows."""
+    if not len(places):
         return np.zeros(0, np.int64)
     count = max(2.0, np.sqrt(most / len(np.unique(scanners))))
-    keys = np.floor(directions * count).astype(np.int64) @ np.array(FACTORS) + scanners
+    keys = np.floor(places * count).astype(np.int64) @ np.array(FACTORS) + scanners
     order = np.argsort(keys, kind='stable')
     is_first = np.r_[True, keys[order[1:]] != keys[order[:-1]]]
     rows = np.arange(len(keys))
