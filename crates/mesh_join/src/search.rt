@@ -183,6 +183,25 @@ impl<'a> Search<'a> {
         }
         Ok(true)
     }
+
+    /// Does the same, and tries first whether a few edges are enough.
+    fn settle_soon(
+        &mut self,
+        alloc: Global,
+        face: [u32; 3],
+        most: usize,
+    ) -> Result<bool, NoMemory> {
+        if self.settle(alloc, face, most.min(64))? {
+            return Ok(true);
+        }
+        self.settle(alloc, face, most)
+    }
+}
+
+/// Returns whether a face has one of these edges.
+fn touches(edges: &HashSet<u64>, face: [u32; 3]) -> bool {
+    let [a, b, c] = keys_of(face);
+    edges.contains(&a) || edges.contains(&b) || edges.contains(&c)
 }
 
 /// Returns the faces of tiles with edges in several cores about which owners disagree, ascending.
@@ -231,7 +250,8 @@ fn corners_of(alloc: Global, tiles: &[Tile]) -> Result<Vec<Vec<u64>>, NoMemory> 
     Ok(lists)
 }
 
-/// Returns the tile of each edge that is moved, by the edge's number. A face takes at most a 64th of all faces with it.
+/// Returns the tile of each edge that is moved, by the edge's number. A face takes at most a 64th of all faces with it, and if it does not
+/// come to rest, faces beside it are not tried.
 pub(crate) fn moved_edges(
     alloc: Global,
     cores: &[Core],
@@ -252,11 +272,15 @@ pub(crate) fn moved_edges(
     search.corners = corners_of(alloc, tiles)?;
     let most = (places.len() / 32).min(5000);
     let nothing = HashSet::new(alloc);
+    let mut left = HashSet::new(alloc);
     for face in &seeds {
-        if search.disagree(&nothing, NO_TILE, *face)
-            && !search.settle(alloc, *face, most.min(64))?
-        {
-            search.settle(alloc, *face, most)?;
+        if search.disagree(&nothing, NO_TILE, *face) {
+            let is_tried = touches(&left, *face);
+            if is_tried || !search.settle_soon(alloc, *face, most)? {
+                for edge in keys_of(*face) {
+                    left.insert(edge)?;
+                }
+            }
         }
     }
     Ok(search.moved)
