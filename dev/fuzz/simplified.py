@@ -91,7 +91,26 @@ def far_corner(old: Mesh, new: Mesh, within: int) -> int | None:
     return None
 
 
-def faults(old: Mesh, new: Mesh, within: int) -> list[str]:
+def is_close(p: Rational, triangle: Sequence[Place], within: int) -> bool:
+    """Returns whether a point is within a distance of the box of a triangle along each axis."""
+    return all(min(axis) - within <= x <= max(axis) + within for x, axis in zip(p, zip(*triangle)))
+
+
+def far_place(one: Mesh, other: Mesh, within: int, parts: int = 2) -> tuple[int, list[Fraction]] | None:
+    """Returns the first face of a mesh with a point farther than a distance from each face of another, and the point, among those that cut its
+    sides into equal parts and those between them."""
+    triangles = [tuple(other[0][v] for v in face) for face in other[1]]
+    for i, face in enumerate(one[1]):
+        a, b, c = (one[0][v] for v in face)
+        for u in range(parts + 1):
+            for v in range(parts + 1 - u):
+                p = [Fraction(u * x + v * y + (parts - u - v) * z, parts) for x, y, z in zip(a, b, c)]
+                if not any(is_close(p, t, within) and square_to_triangle(p, *t) <= within * within for t in triangles):
+                    return i, p
+    return None
+
+
+def faults(old: Mesh, new: Mesh, within: int, surface: bool = False) -> list[str]:
     """Returns what is wrong with a simplified mesh."""
     found = []
     edges, old_edges = edges_of(new[1]), edges_of(old[1])
@@ -106,6 +125,9 @@ def faults(old: Mesh, new: Mesh, within: int) -> list[str]:
     vertex = far_corner(old, new, within)
     if vertex is not None:
         found.append(f'vertex {vertex} is farther than {within}')
+    if surface:
+        found += [f'{whose} face {far[0]} is farther than {within} at {far[1]}'
+                  for whose, far in (('old', far_place(old, new, within)), ('new', far_place(new, old, within))) if far]
     more = crossings(new) - crossings(old)
     if more:
         found.append(f'{len(more)} pairs of faces cross that did not')

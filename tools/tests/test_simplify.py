@@ -19,19 +19,22 @@ from test_mesh_program import FACES, POINTS, mesh_program, moved, turned, two_cu
 
 INVALID = [(), ('within=0',), ('within=8388609',), ('within=1.5',), ('within=',), ('within=1', 'within=1'), ('within=1', 'faces=0'),
            ('within=1', 'faces=4294967296'), ('within=1', 'faces=1', 'faces=1'), ('faces=4',), ('comments=no',), ('within=1', 'smooth=1'),
-           ('within=1', 'comments=no', 'comments=no'), ('within=1', 'comments=yes'), ('within=1', 'flips=no')]
+           ('within=1', 'comments=no', 'comments=no'), ('within=1', 'comments=yes'), ('within=1', 'flips=no'), ('within=1', 'surface=no'),
+           ('within=1', 'surface=yes', 'surface=yes'), ('surface=yes',)]
 
 # the line of an error in a header, and what is changed there
 INVALID_HEADERS = [(3, ' within=8 ', ' within=0 '), (3, ' within=8 ', ' within=8388609 '), (3, ' within=8 ', ' within=08 '), (3, ' within=8 ', ' '),
-                   (3, ' faces=9', ''), (3, ' faces=9', ' faces=4294967296'), (3, ' faces=9', ' faces=9 '), (3, 'mesh simplify', 'mesh simplifies'),
+                   (3, ' faces=9', ''), (3, ' faces=9', ' faces=4294967296'), (3, ' faces=9', ' faces=9 '), (3, ' faces=9', ' surface=no faces=9'),
+                   (3, ' faces=9', ' faces=9 surface=yes'), (3, 'mesh simplify', 'mesh simplifies'),
                    (4, 'scale 1', 'scale 0'), (5, 'sha256 ', 'sha256  ')]
 
 
-def stated(text: str, within: int, faces: int, source: str, scale: int = 1) -> str:
+def stated(text: str, within: int, faces: int, source: str, scale: int = 1, surface: bool = False) -> str:
     """Returns a mesh with the comments of a simplified one."""
     digest = hashlib.sha256(source.encode()).hexdigest()
     head, rest = text.split('element vertex', 1)
-    return f'{head}comment recon-mesh simplify within={within} faces={faces}\ncomment scale {scale}\ncomment sha256 {digest}\nelement vertex{rest}'
+    options = f'within={within} {"surface=yes " if surface else ""}faces={faces}'
+    return f'{head}comment recon-mesh simplify {options}\ncomment scale {scale}\ncomment sha256 {digest}\nelement vertex{rest}'
 
 
 @unittest.skipUnless(RECON_MESH, 'recon-mesh is not built here')
@@ -62,6 +65,34 @@ class Simplify(InFolder):
             assert ' closed yes nonmanifold_edges 0 ' in mesh_program('inspect', 'out.ply')[1]
             equal(mesh_program('simplify', 'mesh.ply', 'plain.ply', *words, 'comments=no')[:2], (0, line))
             equal(read('plain.ply'), mesh_text(*new))
+
+    def test_each_point_of_either_mesh_is_near_the_other(self) -> None:
+        places, faces = ball(5, 3000, 0.02)
+        old = places, [turned(face) for face in faces]
+        write('mesh.ply', mesh_text(*old))
+        for within, least in ((200, 0), (300, 100), (3000, 0)):
+            words = [f'within={within}', 'surface=yes', *([f'faces={least}'] if least else [])]
+            equal(mesh_program('simplify', 'mesh.ply', 'out.ply', *words)[0], 0)
+            new = mesh_of(read('out.ply'))
+            equal(faults(old, new, within, True), [])
+            assert least <= len(new[1]) < 200, len(new[1])
+            equal(read('out.ply'), stated(mesh_text(*new), within, least, read('mesh.ply'), 1, True))
+            equal(mesh_program('check', 'mesh.ply', 'out.ply')[0], 0)
+
+    def test_checks_of_all_points(self) -> None:
+        # a long edge of a thin box is cut in two, and the new vertex pulled out: all old corners stay
+        base, top = [(0, 0, 0), (4000, 0, 0), (4000, 40, 0), (0, 40, 0)], [(0, 0, 40), (4000, 0, 40), (4000, 40, 40), (0, 40, 40)]
+        sides = [(0, 2, 1), (0, 3, 2), (4, 5, 6), (4, 6, 7), (1, 2, 6), (1, 6, 5), (2, 3, 7), (2, 7, 6), (0, 7, 3), (0, 4, 7)]
+        flat = [*base, *top], [turned(face) for face in [*sides, (0, 1, 5), (0, 5, 4)]]
+        bent = [*base, *top, (2000, -500, 20)], [turned(face) for face in [*sides, (0, 1, 8), (1, 5, 8), (5, 4, 8), (4, 0, 8)]]
+        for (old, new), surface, within, scale, line in (
+                ((flat, bent), False, 10, 1, 'yes'), ((flat, bent), True, 10, 1, 'no 7 uncovered_original 10'), ((flat, bent), True, 500, 1, 'yes'),
+                ((flat, bent), True, 499, 1, 'no 8 uncovered_face'), ((flat, flat), True, 1, 1, 'yes'),
+                ((flat, flat), True, 8388608, 2, 'no 7 uncovered_original 0')):
+            write('mesh.ply', mesh_text(*old))
+            write('out.ply', stated(mesh_text(*new), within, 0, read('mesh.ply'), scale, surface))
+            status, said, _ = mesh_program('check', 'mesh.ply', 'out.ply')
+            equal((status, said.startswith(line)), (int(line[:2] == 'no'), True))
 
     def test_flat_sides_keep_their_corners(self) -> None:
         places, faces = ball(8, 1000)

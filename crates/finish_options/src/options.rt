@@ -36,6 +36,8 @@ pub struct SimplifyOptions {
     pub within: u32,
     /// How many faces are left at least; 0 for as few as are found.
     pub faces: u32,
+    /// Each point of either mesh has to be that near to the other, not corners alone (default: false).
+    pub surface: bool,
 }
 
 /// What was done to a mesh.

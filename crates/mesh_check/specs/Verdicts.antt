@@ -22,7 +22,7 @@ use Rattle.mesh_crossings.specs.Counts.{CountsCrossings}
 use Rattle.mesh_within.specs.Far.{AreAllNear, IsFirstFar}
 use Rattle.mesh_check.specs.declared.verdict.Demands.{Demands}
 use Rattle.mesh_check.specs.declared.verdict.Fault.{Fault}
-use Rattle.mesh_check.specs.declared.verdict.Fault.TheVariants.{Unbalanced, NonManifold, FarVertex, UnreachedVertex}
+use Rattle.mesh_check.specs.declared.verdict.Fault.TheVariants.{Unbalanced, NonManifold, FarVertex, UnreachedVertex, UncoveredOriginal, UncoveredFace}
 use Rattle.mesh_check.specs.declared.verdict.Verdict.{Verdict}
 use Rattle.mesh_check.specs.declared.verdict.Verdict.TheVariants.{Keeps, Breaks}
 
@@ -65,6 +65,8 @@ IsFirstFault homes d points faces (NonManifold edges vertices) =
     IsBalanced faces × HasNonManifold d.manifold points faces edges vertices
 IsFirstFault homes d points faces (FarVertex v) = HasFarVertex homes d points faces v
 IsFirstFault homes d points faces (UnreachedVertex v) = ⊥
+IsFirstFault homes d points faces (UncoveredOriginal i) = ⊥
+IsFirstFault homes d points faces (UncoveredFace i) = ⊥
 
 -- a fault, or that there is none and how many pairs of faces cross
 abbrev pub IsJudgment : List Point → Demands → List Point → List (List ℕ) → Verdict → Type 0

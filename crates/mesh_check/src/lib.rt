@@ -4,12 +4,12 @@
 //! Verified: `judge` returns the first unmet demand: closed, manifold (if asked), near the original; else it counts crossings.
 //! If all are met, it returns how many pairs of faces cross or are undecided.
 //!
-//! `judge_simplified` does the same for a simplified mesh: closed, and each corner of the original near a face.
+//! `judge_simplified` does the same for a simplified mesh: closed, each corner of the original near a face, and each point of either mesh near the other if that is asked.
 //!
 //! [`judge`] tests this for any mesh and trusts nothing that is said of it. It finds the first fault, or counts the pairs of faces that
 //! cross, which no finished mesh promises to have none of.
 //!
-//! It depends on `mesh_edges` (closed meshes), `mesh_measures` (edges and vertices), `mesh_within` (distances), `mesh_reach` (near faces) and `mesh_crossings`.
+//! It depends on `mesh_edges` (closed meshes), `mesh_measures` (edges and vertices), `mesh_within` (distances), `mesh_reach` and `mesh_cover` (near faces) and `mesh_crossings`.
 #![tactic(auto)]
 
 mod judging;

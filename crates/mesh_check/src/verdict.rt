@@ -30,6 +30,10 @@ pub enum Fault {
     FarVertex(usize),
     /// The first corner of the mesh before for which no face is shown to be near enough.
     UnreachedVertex(u32),
+    /// The first face of the mesh before that is not shown to be near the mesh at each of its points.
+    UncoveredOriginal(usize),
+    /// The first face of the mesh that is not shown to be near the mesh before at each of its points.
+    UncoveredFace(usize),
 }
 
 /// What was found.

@@ -26,7 +26,7 @@ use Rattle.mesh_check.specs.Verdicts.{IsJudgment}
 use Rattle.mesh_check.specs.Simplified.{IsSimplifyJudgment}
 use Rattle.mesh_check.specs.declared.verdict.Demands.{Demands}
 use Rattle.mesh_check.specs.declared.verdict.Fault.{Fault}
-use Rattle.mesh_check.specs.declared.verdict.Fault.TheVariants.{Unbalanced, NonManifold, FarVertex, UnreachedVertex}
+use Rattle.mesh_check.specs.declared.verdict.Fault.TheVariants.{Unbalanced, NonManifold, FarVertex, UnreachedVertex, UncoveredOriginal, UncoveredFace}
 use Rattle.mesh_check.specs.declared.verdict.Verdict.{Verdict}
 use Rattle.mesh_check.specs.declared.verdict.Verdict.TheVariants.{Keeps, Breaks}
 use Rattle.finish_options.specs.declared.options.FinishOptions.{FinishOptions}
@@ -73,6 +73,8 @@ fault_line (Unbalanced e) = unbalanced_out_line e.from e.to e.there e.back
 fault_line (NonManifold edges vertices) = nonmanifold_line edges vertices
 fault_line (FarVertex v) = number_line (codes "no 5 far_vertex ") v
 fault_line (UnreachedVertex v) = number_line (codes "no 6 unreached_vertex ") v
+fault_line (UncoveredOriginal i) = number_line (codes "no 7 uncovered_original ") i
+fault_line (UncoveredFace i) = number_line (codes "no 8 uncovered_face ") i
 
 -- `yes points N faces M crossing_pairs C undecided_pairs U`, and ` first_pair I J` if any pair crosses
 unfoldable pub confirmed_line : (points faces : ℕ) → CrossingCounts → List ℕ
@@ -101,7 +103,7 @@ verdict_answer out (Breaks fault) = line_answer No (fault_line fault)
 abbrev pub IsJudgedBy : Surface → Made → (fine : ℕ) → Surface → Verdict → Type 0
 IsJudgedBy mesh (Finish o) fine out verdict = IsJudgment mesh.points (demands_of o fine) out.points out.faces verdict
 IsJudgedBy mesh (Simplify o) fine out verdict =
-    IsSimplifyJudgment fine o.within mesh.points mesh.faces out.points out.faces verdict
+    IsSimplifyJudgment o.surface fine o.within mesh.points mesh.faces out.points out.faces verdict
 
 -- the demands of these comments decide
 pub record IsJudged (mesh : Surface) (p : Provenance) (out : Surface) (answer : Answer) : Type 0 where

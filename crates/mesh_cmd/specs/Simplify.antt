@@ -14,7 +14,7 @@ use Rattle.mesh_ply.specs.Texts.{IsPrinted}
 use Rattle.mesh_provenance.specs.Texts.{file_text}
 use Rattle.mesh_provenance.specs.declared.provenance.Provenance.{Provenance}
 use Rattle.finish_options.specs.declared.options.Made.TheVariants as making
-use Rattle.mesh_simplify.specs.Simplified.{IsSimplified}
+use Rattle.mesh_simplify.specs.Simplified.{IsSimplified, IsNearIfAsked}
 use Rattle.command_run.specs.Answers.{Answer, Task}
 use Rattle.command_run.specs.Lines.{labelled}
 use Rattle.command_run.specs.Words.{Names}
@@ -48,12 +48,13 @@ simplify_done output request digest mesh =
       line = simplified_line (length mesh.points) (length mesh.faces);
     }
 
--- The text of a simplified mesh is written. Unless the options leave it out, its header states them and the digest of the file that was
+-- The text of a simplified mesh is written, which is near the given one at all points if that was asked. Unless the options leave it out, its header states them and the digest of the file that was
 -- read. Its numbers of points and faces are said.
 pub record WritesSimplified (output : List ℕ) (request : SimplifyRequest) (digest : List ℕ) (mesh : Surface) (answer : Answer) : Type 0 where
   pub simplified : Surface
   pub printed : IsPrinted simplified.points simplified.faces
   pub so : IsSimplified request.options.within mesh.points mesh.faces simplified.points simplified.faces
+  pub near : IsNearIfAsked request.options.surface request.options.within mesh.points mesh.faces simplified.points simplified.faces
   pub is : answer ≡ simplify_done output request digest simplified
 
 -- a simplified mesh is written, or it is said that the mesh is not closed

@@ -1,6 +1,7 @@
 -- The options of `simplify`, which are given one after another.
 --
 --   with_distance o number, with_faces o number   the options with a number more, if it is not given yet
+--   with_surface o                 the options with all points, if they are not given yet
 --   unstated o                     the options without comments, if they have them
 --   with_number_of o word, with_argument o word, with_arguments o words
 --                                  the options that arguments are, one after another, each at most once
@@ -21,6 +22,9 @@ with_distance o number = option_map (λ n. record o { within = Some n }) (first_
 abbrev pub with_faces : GivenNumbers → ℕ → Option GivenNumbers
 with_faces o number = option_map (λ n. record o { faces = Some n }) (first_number o.faces number)
 
+abbrev pub with_surface : GivenNumbers → Option GivenNumbers
+with_surface o = if o.surface then None else Some (record o { surface = true })
+
 abbrev pub unstated : GivenNumbers → Option GivenNumbers
 unstated o = if o.comments then Some (record o { comments = false }) else None
 
@@ -34,7 +38,10 @@ with_number_of o word =
 
 -- the options with that of an argument, if it is one that is not given yet
 abbrev pub with_argument : GivenNumbers → List ℕ → Option GivenNumbers
-with_argument o word = if bytes_eq word (codes "comments=no") then unstated o else with_number_of o word
+with_argument o word =
+    if bytes_eq word (codes "comments=no") then unstated o
+    else if bytes_eq word (codes "surface=yes") then with_surface o
+    else with_number_of o word
 
 -- the options with those of all arguments, each at most once
 abbrev pub with_arguments : GivenNumbers → List (List ℕ) → Option GivenNumbers
@@ -49,11 +56,15 @@ faces_or_none (Some n) = n
 -- what is asked for, if a distance is given
 abbrev pub request_of : GivenNumbers → Option SimplifyRequest
 request_of o =
-    option_map (λ within. record { options = record { within = within; faces = faces_or_none o.faces }; comments = o.comments }) o.within
+    option_map
+    (λ within. record {
+      options = record { within = within; faces = faces_or_none o.faces; surface = o.surface };
+      comments = o.comments;
+    }) o.within
 
 -- no argument
 abbrev pub no_numbers : GivenNumbers
-no_numbers = record { within = None; faces = None; comments = true }
+no_numbers = record { within = None; faces = None; surface = false; comments = true }
 
 -- what the arguments after the names ask for
 abbrev pub simplify_request : List (List ℕ) → Option SimplifyRequest

@@ -29,8 +29,9 @@ pub enum Command<'a> {
     /// pieces, splits vertices so that each edge has two faces, flips edges where the angles between faces fall, moves vertices by at
     /// most D units so that neighboring faces agree on their directions, and writes the result with its provenance.
     Finish(FinishWords<'a>),
-    /// `simplify MESH OUT within=D [faces=N] [comments=no]`: reads the mesh, collapses edges while each corner of its faces stays at most
-    /// D units from a face, down to N faces, and writes the result with its provenance.
+    /// `simplify MESH OUT within=D [faces=N] [surface=yes] [comments=no]`: reads the mesh, collapses edges while each corner of its faces
+    /// stays at most D units from a face, down to N faces, and writes the result with its provenance. With `surface=yes` each point of
+    /// either mesh is at most D units from the other.
     Simplify(SimplifyWords<'a>),
     /// `inspect MESH`: reads the mesh and says its measures.
     Inspect(InspectWords<'a>),

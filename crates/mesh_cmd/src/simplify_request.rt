@@ -1,6 +1,6 @@
 //! The options of `simplify`.
 ghost use Rattle.std.specs.Prelude.{◌≡◌, map, string_bytes};
-ghost use Rattle.mesh_cmd.specs.SimplifyRequests.{simplify_request, request_of, faces_or_none, with_arguments, with_argument, with_number_of, unstated, with_distance, with_faces};
+ghost use Rattle.mesh_cmd.specs.SimplifyRequests.{simplify_request, request_of, faces_or_none, with_arguments, with_argument, with_number_of, unstated, with_surface, with_distance, with_faces};
 
 use crate::options::{first_number, limited_in};
 use finish_options::{FARTHEST, SimplifyOptions};
@@ -21,6 +21,8 @@ struct GivenNumbers {
     within: Option<u32>,
     /// How many faces are left at least, if a number is given.
     faces: Option<u32>,
+    /// Whether all points have to be near, not corners alone.
+    surface: bool,
     /// Whether the header has comments.
     comments: bool,
 }
@@ -32,6 +34,7 @@ pub(crate) fn request_in(words: &[String]) -> Option<SimplifyRequest>
     let none = GivenNumbers {
         within: None,
         faces: None,
+        surface: false,
         comments: true,
     };
     request_of(with_all(none, words)?)
@@ -55,6 +58,7 @@ fn request_of(given: GivenNumbers) -> Option<SimplifyRequest>
     let options = SimplifyOptions {
         within,
         faces: faces_or_none(given.faces),
+        surface: given.surface,
     };
     Some(SimplifyRequest {
         options,
@@ -81,9 +85,24 @@ fn with_one(options: GivenNumbers, word: &str) -> Option<GivenNumbers>
 {
     if word == "comments=no" {
         unstated(options)
+    } else if word == "surface=yes" {
+        with_surface(options)
     } else {
         with_number_of(options, word.as_bytes())
     }
+}
+
+/// Returns the options with all points, if they are not given yet.
+fn with_surface(options: GivenNumbers) -> Option<GivenNumbers>
+    ensures { result ≡ with_surface options }
+{
+    if options.surface {
+        return None;
+    }
+    Some(GivenNumbers {
+        surface: true,
+        ..options
+    })
 }
 
 /// Returns the options without comments, if they have them.

@@ -9,13 +9,13 @@ const USES: [(&str, &str); 4] = [
         "finish",
         "MESH OUT [pieces=N] [manifold=yes] [flips=no] [smooth=N within=D] [comments=no]",
     ),
-    ("simplify", "MESH OUT within=D [faces=N] [comments=no]"),
+    ("simplify", "MESH OUT within=D [faces=N] [surface=yes] [comments=no]"),
     ("inspect", "MESH"),
     ("check", "MESH OUT"),
 ];
 
 /// How the line of an error begins, and how to fix what caused it.
-const CURES: [(&[u8], &str); 14] = [
+const CURES: [(&[u8], &str); 16] = [
     (
         b"refused 19 too_long mesh",
         "over 4 GiB, so most likely another file than was meant",
@@ -71,6 +71,14 @@ const CURES: [(&[u8], &str); 14] = [
     (
         b"no 6 unreached_vertex",
         "no face is shown to be as near to this vertex of the mesh, counted from 0, as the header of the simplified mesh states: its file was changed, so simplify the mesh again",
+    ),
+    (
+        b"no 7 uncovered_original",
+        "this face of the mesh, counted from 0, is not shown to be as near to the simplified mesh as its header states: its file was changed, so simplify the mesh again",
+    ),
+    (
+        b"no 8 uncovered_face",
+        "this face of the simplified mesh, counted from 0, is not shown to be as near to the mesh as its header states: its file was changed, so simplify the mesh again",
     ),
 ];
 

@@ -2,7 +2,7 @@
 --
 -- The words of the two kinds of lines differ in their twentieth byte (finish_not_simplify). What follows the word is one of the options of
 -- its kind (options_code, simplify_code).
-use Rattle.std.proofs.Common.{ℕ, ◌≡◌, ◌-◌, ◌^◌, ap, sym, ◌∙◌, arith, List, ◌++◌, get_or, append_assoc}
+use Rattle.std.proofs.Common.{ℕ, ◌≡◌, ◌-◌, ◌^◌, ap, sym, refl, ◌∙◌, arith, Bool, true, false, List, ◌++◌, get_or, append_assoc}
 use Rattle.line_text.specs.Numbers.{ended, counted, BeginsWithNone}
 use Rattle.geo_sign.specs.Numbers.{IsBetween}
 use Rattle.line_text.proofs.Codes.{IsCode, behind_same, ended_code, counted_code}
@@ -13,7 +13,7 @@ use Rattle.finish_options.specs.declared.options.Made.{Made}
 use Rattle.finish_options.specs.declared.options.Made.TheVariants.{Finish, Simplify}
 use Rattle.finish_options.specs.declared.options.TheConstants.{FARTHEST}
 use Rattle.mesh_provenance.specs.Options.{AreOptions, options_end}
-use Rattle.mesh_provenance.specs.Simplifying.{AreSimplifyOptions, simplify_word, faces_word, simplify_end}
+use Rattle.mesh_provenance.specs.Simplifying.{AreSimplifyOptions, simplify_word, faces_word, surface_word, surface_text, simplify_end}
 use Rattle.mesh_provenance.specs.Texts.{IsMade, finish_word, made_line}
 use Rattle.mesh_provenance.proofs.OptionCodes.{options_code}
 
@@ -28,22 +28,42 @@ unfolding finish_word simplify_word
 finish_not_simplify r t e = f_not_s (ap (λ (l : List ℕ). get_or l 19 0) e)
 
 -- ---- the numbers of simplifying
-with_numbers : (within faces : ℕ) → SimplifyOptions
-with_numbers within faces = record { within = within; faces = faces }
+with_options : (within faces : ℕ) (surface : Bool) → SimplifyOptions
+with_options within faces surface = record { within = within; faces = faces; surface = surface }
 
 pub simplify_parts : (o : SimplifyOptions) (r : List ℕ)
-    → simplify_end o ++ r ≡ ended o.within 32 ++ (counted faces_word o.faces ++ r)
-simplify_parts o r = append_assoc (ended o.within 32) (counted faces_word o.faces) r
+    → simplify_end o ++ r ≡ ended o.within 32 ++ (surface_text o.surface ++ (counted faces_word o.faces ++ r))
+simplify_parts o r =
+    append_assoc (ended o.within 32) (surface_text o.surface ++ counted faces_word o.faces) r
+    ∙ ap (λ (l : List ℕ). ended o.within 32 ++ l) (append_assoc (surface_text o.surface) (counted faces_word o.faces) r)
+
+s_not_f : ◌≡◌ {A = ℕ} 115 102 → ⊥
+s_not_f e = omega arith
+
+-- a number of faces does not begin as the text that all points are meant
+faces_not_surface : (n : ℕ) (r s : List ℕ) → surface_word ++ s ≡ counted faces_word n ++ r → ⊥
+unfolding surface_word faces_word
+faces_not_surface n r s e = s_not_f (ap (λ (l : List ℕ). get_or l 0 0) e)
+
+surface_code : (v w : Bool) (m n : ℕ) (r s : List ℕ)
+    → surface_text v ++ (counted faces_word m ++ r) ≡ surface_text w ++ (counted faces_word n ++ s)
+    → (v ≡ w) × (counted faces_word m ++ r ≡ counted faces_word n ++ s)
+surface_code true true m n r s e = (refl, behind_same surface_word _ _ e)
+surface_code true false m n r s e = absurd (faces_not_surface n s _ e)
+surface_code false true m n r s e = absurd (faces_not_surface m r _ (sym e))
+surface_code false false m n r s e = (refl, e)
 
 simplify_code : IsCode AreSimplifyOptions simplify_end
-unfolding with_numbers
+unfolding with_options
 simplify_code v w r s a b e =
     let within =
     ended_code v.within w.within 32 _ _ (omega arith) (omega (arith, a.0.1)) (omega (arith, b.0.1))
     (sym (simplify_parts v r) ∙ e ∙ simplify_parts w s) in
+    let surface = surface_code v.surface w.surface v.faces w.faces r s within.1 in
     let faces =
-    counted_code faces_word v.faces w.faces r s (omega (arith, a.1.1)) (omega (arith, b.1.1)) within.1 in (
-      ap (λ (n : ℕ). with_numbers n v.faces) within.0 ∙ ap (λ (n : ℕ). with_numbers w.within n) faces.0,
+    counted_code faces_word v.faces w.faces r s (omega (arith, a.1.1)) (omega (arith, b.1.1)) surface.1 in (
+      ap (λ (n : ℕ). with_options n v.faces v.surface) within.0 ∙ ap (λ (n : ℕ). with_options w.within n v.surface) faces.0
+          ∙ ap (λ (x : Bool). with_options w.within w.faces x) surface.0,
       faces.1,
     )
 
@@ -52,13 +72,22 @@ pub no_distance : (text : List ℕ) → BeginsWithNone (IsBetween 1 FARTHEST) (�
     → BeginsWithNone AreSimplifyOptions simplify_end text
 no_distance text none = λ o r h e. none o.within _ h.0 (e ∙ simplify_parts o r)
 
-pub no_faces : (text last : List ℕ) (n : ℕ) → IsBetween 1 FARTHEST n → text ≡ ended n 32 ++ last
+pub no_faces : (text behind last : List ℕ) (n : ℕ) (surface : Bool) → IsBetween 1 FARTHEST n → text ≡ ended n 32 ++ behind
+    → behind ≡ surface_text surface ++ last → (surface ≡ false → (rest : List ℕ) → ¬ (behind ≡ surface_word ++ rest))
     → BeginsWithNone (IsBetween 0 (2 ^ 32 - 1)) (counted faces_word) last → BeginsWithNone AreSimplifyOptions simplify_end text
-no_faces text last n fits is none = λ o r h e.
+no_faces text behind last n surface fits is behind_is not none = λ o r h e.
     let first =
-    ended_code n o.within 32 last _ (omega arith) (omega (arith, fits.1)) (omega (arith, h.0.1))
+    ended_code n o.within 32 behind _ (omega arith) (omega (arith, fits.1)) (omega (arith, h.0.1))
     (sym is ∙ (e ∙ simplify_parts o r)) in
-    none o.faces r h.1 first.1
+    rest surface o.surface o.faces r h.1 behind_is not first.1
+  where
+    rest : (x y : Bool) (m : ℕ) (r : List ℕ) → IsBetween 0 (2 ^ 32 - 1) m → behind ≡ surface_text x ++ last
+        → (x ≡ false → (t : List ℕ) → ¬ (behind ≡ surface_word ++ t)) → behind ≡ surface_text y ++ (counted faces_word m ++ r)
+        → ⊥
+    rest true true m r k e never f = none m r k (behind_same surface_word _ _ (sym e ∙ f))
+    rest true false m r k e never f = faces_not_surface m r _ (sym e ∙ f)
+    rest false true m r k e never f = never refl _ f
+    rest false false m r k e never f = none m r k (sym e ∙ f)
 
 -- ---- the line
 pub finish_parts : (o : FinishOptions) (r : List ℕ) → made_line (Finish o) ++ r ≡ finish_word ++ (options_end o ++ r)

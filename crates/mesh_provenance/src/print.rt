@@ -2,13 +2,13 @@
 
 ghost use Rattle.std.specs.Prelude.{◌≡◌, ◌++◌, OnOk};
 ghost use Rattle.mesh_provenance.specs.Options.{pieces_text, split_text, flips_text, smooth_text, options_end};
-ghost use Rattle.mesh_provenance.specs.Simplifying.{simplify_word, simplify_end};
+ghost use Rattle.mesh_provenance.specs.Simplifying.{simplify_word, surface_text, simplify_end};
 ghost use Rattle.mesh_provenance.specs.Texts.{finish_word, digest_line, made_line, provenance_lines, text_after_format, annotated_text};
 
 use crate::provenance::Provenance;
 use crate::words::{
     faces, finish, first_line, format, header_rest, header_to_faces, no_flips, pieces, scale,
-    sha256, simplify, smooth, split, vertices, within,
+    sha256, simplify, smooth, split, surface, vertices, within,
 };
 use cert_text::digits_of;
 use finish_options::{FinishOptions, Made, SimplifyOptions, SmoothOptions};
@@ -81,6 +81,17 @@ fn push_options(out: &mut Vec<u8>, options: FinishOptions) -> Result<(), NoMemor
     Ok(())
 }
 
+/// Appends that all points are meant, if they are.
+fn push_surface(out: &mut Vec<u8>, all: bool) -> Result<(), NoMemory>
+    ensures { OnOk result (out.new.items ≡ out.old.items ++ surface_text all) }
+{
+    if all {
+        out.extend_from_slice(surface())
+    } else {
+        Ok(())
+    }
+}
+
 /// Appends the line of a simplified mesh.
 fn push_simplifying(out: &mut Vec<u8>, options: SimplifyOptions) -> Result<(), NoMemory>
     ensures { OnOk result (out.new.items ≡ out.old.items ++ (simplify_word ++ simplify_end options)) }
@@ -88,6 +99,7 @@ fn push_simplifying(out: &mut Vec<u8>, options: SimplifyOptions) -> Result<(), N
     out.extend_from_slice(simplify())?;
     push_whole(out, i128::from(options.within))?;
     out.push(b' ')?;
+    push_surface(out, options.surface)?;
     push_counted(out, faces(), u64::from(options.faces))?;
     Ok(())
 }

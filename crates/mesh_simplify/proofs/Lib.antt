@@ -2,6 +2,7 @@ pub mod EdgeKeys
 pub mod Twice
 pub mod SameVertices
 pub mod Rising
+pub mod Covered
 pub mod Unchanged
 pub mod Listed
 pub mod Gathered

@@ -1,5 +1,5 @@
 -- A closed mesh as it is, is simplified: each vertex comes from itself, each face is kept, and each corner is at a corner of a face.
-use Rattle.std.proofs.Common.{ℕ, zero, suc, ◌≡◌, ◌+◌, ◌*◌, ◌<◌, inr, ap, sym, subst, ◌∙◌, arith, List, [], ◌∷◌, length, get_or, map}
+use Rattle.std.proofs.Common.{ℕ, zero, suc, ◌≡◌, ◌+◌, ◌*◌, ◌<◌, inr, ap, sym, subst, ◌∙◌, arith, Bool, List, [], ◌∷◌, length, get_or, map}
 use Rattle.std.proofs.Common.{ℤ, pos, ◌+ℤ◌, ◌-ℤ◌, ◌*ℤ◌, ◌≤ℤ◌}
 use Rattle.std.specs.List.{All}
 use Rattle.std.proofs.lemmas.Int.{ints}
@@ -12,6 +12,7 @@ use Rattle.face_near.specs.Near.{IsNearAt, IsNearFace}
 use Rattle.mesh_reach.specs.Reached.{AreReached}
 use Rattle.mesh_simplify.specs.Simplified.{IsVertexMap, IsOldFace}
 use Rattle.mesh_simplify.specs.Tested.{IsGood}
+use Rattle.mesh_simplify.proofs.Covered.{covers_itself}
 
 -- a difference that is 0, as weights of one corner give it
 off_first : (x y z : ℤ) → pos 1 *ℤ x +ℤ pos 0 *ℤ y +ℤ pos 0 *ℤ z -ℤ pos 1 *ℤ x ≡ pos 0
@@ -113,9 +114,9 @@ own_face n (a ∷ b ∷ c ∷ []) i =
 own_kept : (n : ℕ) (faces : List (List ℕ)) (i : ℕ) → All (IsFace n) faces → i < length faces → IsOldFace (below n) faces (face_at faces i)
 own_kept n faces i each l = (i, l, get_or_default faces i _ [] l ∙ sym (own_face n (face_at faces i) (each i [] l)))
 
-pub unchanged : (within : ℕ) (points : List Point) (faces : List (List ℕ)) → IsMesh points faces → IsBalanced faces
-    → IsGood within points faces points faces
-unchanged within points faces valid closed =
+pub unchanged : (asked : Bool) (within : ℕ) (points : List Point) (faces : List (List ℕ)) → IsMesh points faces → IsBalanced faces
+    → IsGood asked within points faces points faces
+unchanged asked within points faces valid closed =
     record {
       valid = valid;
       simplified =
@@ -132,4 +133,7 @@ unchanged within points faces valid closed =
                   own_kept (length points) faces j valid.each m,
                 );
           };
+      near = λ yes.
+          let own = covers_itself (length points) within points faces valid.each in
+          record { there = own; back = own };
     }

@@ -7,14 +7,16 @@
 --   AreDistinct faces                      no two faces have the same vertices
 --   AreApartOrKept points faces from old_faces i j   two faces are apart, or both are old ones
 --   IsSimplified within old_points old_faces points faces   a mesh is simplified, so that old corners are at most `within` from it
+--   IsNearIfAsked asked within ..   if that is asked, each point of each of two meshes is at most `within` from the other
 --   ExplainsSimplify faces error           what an error says of the faces
-use Rattle.std.specs.Prelude.{ℕ, ◌≡◌, ◌<◌, ◌⊎◌, ⊤, true, List, length, map, slice_index, All, AllPairs, Contains}
+use Rattle.std.specs.Prelude.{ℕ, ◌≡◌, ◌<◌, ◌⊎◌, ⊤, Bool, true, List, length, map, slice_index, All, AllPairs, Contains}
 use Rattle.geo_sign.specs.Point.{Point}
 use Rattle.mesh.specs.Meshes.{point_at, is_vertex_of}
 use Rattle.mesh_edges.specs.Edges.{face_at, IsBalanced, IsFirstUnbalanced}
 use Rattle.mesh_split.specs.Splits.{AreSingle}
 use Rattle.triangle_gap.specs.Gaps.{AreFacesApart}
 use Rattle.mesh_reach.specs.Reached.{AreReached}
+use Rattle.mesh_cover.specs.Covers.{AreWithinEachOther}
 use Rattle.mesh_simplify.specs.declared.whole.SimplifyError.{SimplifyError}
 use Rattle.mesh_simplify.specs.declared.whole.SimplifyError.TheVariants.{NotClosed, NoMemory}
 
@@ -57,6 +59,11 @@ pub record IsSimplified (within : ℕ) (old_points : List Point) (old_faces : Li
   pub distinct : AreDistinct old_faces → AreDistinct faces
   pub reached : AreReached 1 within old_points old_faces points faces
   pub apart : (i j : ℕ) → i < j → j < length faces → AreApartOrKept points faces from old_faces i j
+
+-- each point of a face of either mesh is near a face of the other, if that is asked
+abbrev pub IsNearIfAsked : (asked : Bool) → (within : ℕ) → (old_points : List Point) → (old_faces : List (List ℕ)) → (points : List Point)
+    → (faces : List (List ℕ)) → Type 0
+IsNearIfAsked asked within old_points old_faces points faces = asked ≡ true → AreWithinEachOther within old_points old_faces points faces
 
 -- the first edge that is not balanced; out of memory says nothing of the faces
 abbrev pub ExplainsSimplify : List (List ℕ) → SimplifyError → Type 0

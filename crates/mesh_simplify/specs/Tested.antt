@@ -2,13 +2,13 @@
 --
 --   IsOldFaceAt from old_faces faces i            a face is an old one, by its number
 --   ArePairsOld from old_faces faces pairs    both faces of each pair are
---   IsGood within old_points old_faces points faces   a valid mesh that is simplified
-use Rattle.std.specs.Prelude.{ℕ, ◌≡◌, List, All}
+--   IsGood asked within old_points old_faces points faces   a valid mesh that is simplified, and near if that is asked
+use Rattle.std.specs.Prelude.{ℕ, ◌≡◌, Bool, List, All}
 use Rattle.geo_sign.specs.Point.{Point}
 use Rattle.mesh.specs.Meshes.{IsMesh}
 use Rattle.mesh_edges.specs.Edges.{face_at}
 use Rattle.mesh_edges.specs.declared.pair.Pair.{Pair}
-use Rattle.mesh_simplify.specs.Simplified.{IsOldFace, IsSimplified}
+use Rattle.mesh_simplify.specs.Simplified.{IsOldFace, IsSimplified, IsNearIfAsked}
 
 -- a face is an old one, by its number
 abbrev pub IsOldFaceAt : (from : List ℕ) → (old_faces faces : List (List ℕ)) → ℕ → Type 0
@@ -19,8 +19,9 @@ abbrev pub ArePairsOld : (from : List ℕ) → (old_faces faces : List (List ℕ
 ArePairsOld from old_faces faces pairs =
     All (λ p. IsOldFaceAt from old_faces faces p.first × IsOldFaceAt from old_faces faces p.second) pairs
 
--- a valid mesh that is simplified
-pub record IsGood (within : ℕ) (old_points : List Point) (old_faces : List (List ℕ)) (points : List Point) (faces : List (List ℕ))
-    : Type 0 where
+-- a valid mesh that is simplified, and near if that is asked
+pub record IsGood (asked : Bool) (within : ℕ) (old_points : List Point) (old_faces : List (List ℕ)) (points : List Point)
+    (faces : List (List ℕ)) : Type 0 where
   pub valid : IsMesh points faces
   pub simplified : IsSimplified within old_points old_faces points faces
+  pub near : IsNearIfAsked asked within old_points old_faces points faces

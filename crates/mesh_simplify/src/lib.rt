@@ -4,12 +4,12 @@
 //!
 //! [`simplify_mesh`] takes the result of a search without a contract (`mesh_collapse`) and tests it: it is closed, no directed edge
 //! occurs twice that did not, no two faces have the same vertices, each corner of the given mesh is within the distance of a face, and two
-//! faces are apart or were faces of the given mesh. If a test fails, the mesh stays as it is, which keeps all of this too. So the contract
+//! faces are apart or were faces of the given mesh. If that is asked, each point of either mesh is near the other. If a test fails, the mesh stays as it is, which keeps all of this too. So the contract
 //! does not depend on the search. How many faces are left is not promised.
 //!
 //! [`simplifying_makes_nothing_meet`] is a theorem: two faces that are not apart were faces of the given mesh, and were not apart there.
 //!
-//! It depends on `mesh_collapse` (search), `mesh_reach` (near faces), `mesh_edges` (closed meshes), `mesh_split` (single edges) and
+//! It depends on `mesh_collapse` (search), `mesh_reach` and `mesh_cover` (near faces), `mesh_edges` (closed meshes), `mesh_split` (single edges) and
 //! `mesh_crossings` (faces that are apart).
 #![tactic(auto)]
 
@@ -19,6 +19,7 @@ mod double;
 mod kept;
 mod laws;
 mod single;
+mod surface;
 mod tests;
 mod valid;
 mod whole;

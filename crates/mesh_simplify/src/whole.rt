@@ -5,17 +5,27 @@ ghost use Rattle.geo_sign.specs.Point.{IsWithin};
 ghost use Rattle.geo_sign.specs.declared.point.TheConstants.{BOX_LIMIT};
 ghost use Rattle.mesh.specs.Meshes.{IsMesh};
 ghost use Rattle.mesh_edges.specs.Edges.{IsBalanced};
-ghost use Rattle.mesh_simplify.specs.Simplified.{IsSimplified, ExplainsSimplify};
+ghost use Rattle.mesh_simplify.specs.Simplified.{IsSimplified, IsNearIfAsked, ExplainsSimplify};
 ghost use Rattle.mesh_simplify.specs.Tested.{IsGood};
 
 use crate::NoMemory;
 use crate::candidate::{Candidate, find_candidate};
+use crate::surface::is_near_if_asked;
 use crate::tests::{Hints, is_simplified};
 use crate::valid::{is_mesh, points_of};
 use mesh::Mesh;
 use mesh_collapse::Request;
 use mesh_edges::{UnbalancedEdge, first_unbalanced};
 use std::alloc::Global;
+
+/// The whole distance, in quarters.
+const WHOLE: u32 = 4;
+
+/// Returns a number of quarters of a distance, at least 1.
+fn part_of(within: u32, quarters: u32) -> u32 {
+    let part = u64::from(within) * u64::from(quarters) / u64::from(WHOLE);
+    part.max(1).min(u64::from(u32::MAX)) as u32
+}
 
 /// Why a mesh is not simplified.
 #[derive(Clone, Copy, Debug, PartialEq, Eq)]
@@ -26,10 +36,16 @@ pub enum SimplifyError {
     NoMemory,
 }
 
-/// Returns the mesh of a candidate, if it is valid and simplified.
-fn tested(alloc: Global, old: &Mesh, new: Candidate, within: u32) -> Result<Option<Mesh>, NoMemory>
+/// Returns the mesh of a candidate, if it is valid and simplified, and near if that is asked.
+fn tested(
+    alloc: Global,
+    old: &Mesh,
+    new: Candidate,
+    within: u32,
+    surface: bool,
+) -> Result<Option<Mesh>, NoMemory>
     requires { IsMesh old.now.points.items old.now.faces.items }
-    ensures { IfOk result (λ new. IfSome new (λ m. IsGood within old.now.points.items old.now.faces.items m.points.items m.faces.items)) }
+    ensures { IfOk result (λ new. IfSome new (λ m. IsGood surface within old.now.points.items old.now.faces.items m.points.items m.faces.items)) }
 {
     let Candidate {
         faces,
@@ -52,35 +68,75 @@ fn tested(alloc: Global, old: &Mesh, new: Candidate, within: u32) -> Result<Opti
     if !is_simplified(alloc, old, &mesh, &hints, within)? {
         return Ok(None);
     }
+    if !is_near_if_asked(alloc, old, &mesh, &homes, within, surface)? {
+        return Ok(None);
+    }
     Ok(Some(mesh))
 }
 
-/// Returns what the search finds, if it passes all tests.
-fn found(alloc: Global, mesh: &Mesh, request: Request) -> Result<Option<Mesh>, NoMemory>
+/// Returns what the search finds with a part of the distance, in quarters, if it passes all tests with the whole distance.
+fn found_within(
+    alloc: Global,
+    mesh: &Mesh,
+    request: Request,
+    surface: bool,
+    quarters: u32,
+) -> Result<Option<Mesh>, NoMemory>
     requires { IsMesh mesh.now.points.items mesh.now.faces.items }
-    ensures { IfOk result (λ new. IfSome new (λ m. IsGood request.within mesh.now.points.items mesh.now.faces.items m.points.items m.faces.items)) }
+    ensures { IfOk result (λ new. IfSome new (λ m. IsGood surface request.within mesh.now.points.items mesh.now.faces.items m.points.items m.faces.items)) }
 {
-    let new = find_candidate(alloc, mesh, request)?;
-    tested(alloc, mesh, new, request.within)
+    let search = Request {
+        within: part_of(request.within, quarters),
+        faces: request.faces,
+    };
+    let new = find_candidate(alloc, mesh, search)?;
+    tested(alloc, mesh, new, request.within, surface)
+}
+
+/// Returns what the search finds, if it passes all tests. If all points have to be near, it searches with shorter distances too.
+fn found(
+    alloc: Global,
+    mesh: &Mesh,
+    request: Request,
+    surface: bool,
+) -> Result<Option<Mesh>, NoMemory>
+    requires { IsMesh mesh.now.points.items mesh.now.faces.items }
+    ensures { IfOk result (λ new. IfSome new (λ m. IsGood surface request.within mesh.now.points.items mesh.now.faces.items m.points.items m.faces.items)) }
+{
+    let least = if surface { 1 } else { WHOLE };
+    for less in 0..WHOLE - least + 1 {
+        let new = found_within(alloc, mesh, request, surface, WHOLE - less)?;
+        if let Some(new) = new {
+            return Ok(Some(new));
+        }
+    }
+    Ok(None)
 }
 
 /// Returns a closed mesh simplified, or as it is.
-fn simplified(alloc: Global, mesh: Mesh, request: Request) -> Result<Mesh, NoMemory>
+fn simplified(alloc: Global, mesh: Mesh, request: Request, surface: bool) -> Result<Mesh, NoMemory>
     requires valid { IsMesh mesh.points.items mesh.faces.items }
     requires closed { IsBalanced mesh.faces.items }
-    ensures { IfOk result (λ new. IsGood request.within mesh.points.items mesh.faces.items new.points.items new.faces.items) }
+    ensures { IfOk result (λ new. IsGood surface request.within mesh.points.items mesh.faces.items new.points.items new.faces.items) }
 {
-    match found(alloc, &mesh, request)? {
+    match found(alloc, &mesh, request, surface)? {
         Some(new) => Ok(new),
         None => Ok(mesh),
     }
 }
 
 /// Returns a closed mesh simplified: with fewer faces, down to a number of faces or as few as the search finds, and each corner of the
-/// given mesh within a distance of them. A mesh for which the search finds none that passes all tests stays as it is.
-pub fn simplify_mesh(alloc: Global, mesh: Mesh, request: Request) -> Result<Mesh, SimplifyError>
+/// given mesh within a distance of them. With `surface` each point of either mesh is within the distance of the other. A mesh for which the
+/// search finds none that passes all tests stays as it is.
+pub fn simplify_mesh(
+    alloc: Global,
+    mesh: Mesh,
+    request: Request,
+    surface: bool,
+) -> Result<Mesh, SimplifyError>
     requires { IsMesh mesh.points.items mesh.faces.items }
     ensures simplified { IfOk result (λ new. IsSimplified request.within mesh.points.items mesh.faces.items new.points.items new.faces.items) }
+    ensures near { IfOk result (λ new. IsNearIfAsked surface request.within mesh.points.items mesh.faces.items new.points.items new.faces.items) }
     ensures valid { IfOk result (λ new. IsMesh new.points.items new.faces.items) }
     ensures boxed { All (IsWithin BOX_LIMIT) mesh.points.items → IfOk result (λ new. All (IsWithin BOX_LIMIT) new.points.items) }
     ensures why { IfErr result (λ error. ExplainsSimplify mesh.faces.items error) }
@@ -90,7 +146,7 @@ pub fn simplify_mesh(alloc: Global, mesh: Mesh, request: Request) -> Result<Mesh
         Ok(Some(edge)) => return Err(SimplifyError::NotClosed(edge)),
         Err(_) => return Err(SimplifyError::NoMemory),
     }
-    match simplified(alloc, mesh, request) {
+    match simplified(alloc, mesh, request, surface) {
         Ok(new) => Ok(new),
         Err(_) => Err(SimplifyError::NoMemory),
     }

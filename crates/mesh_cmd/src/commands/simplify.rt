@@ -1,4 +1,4 @@
-//! `simplify MESH OUT within=D [faces=N] [comments=no]`: its arguments, its answer and its line.
+//! `simplify MESH OUT within=D [faces=N] [surface=yes] [comments=no]`: its arguments, its answer and its line.
 ghost use Rattle.std.specs.Option.{option_map};
 ghost use Rattle.std.specs.Prelude.{◌≡◌, false, length, map, string_bytes, IfOk};
 ghost use Rattle.mesh.specs.Meshes.{Surface};
@@ -90,7 +90,7 @@ fn reply_to_mesh<'a>(
         within: request.options.within,
         faces: request.options.faces,
     };
-    match simplify_mesh(alloc, mesh, search) {
+    match simplify_mesh(alloc, mesh, search, request.options.surface) {
         Ok(new) => Ok(reply_of_mesh(alloc, &new, digest, request, output)?),
         Err(error) => Ok(reply_to_error(alloc, error)?),
     }

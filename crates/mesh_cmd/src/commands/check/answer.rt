@@ -72,7 +72,7 @@ fn verdict_on(
         Made::Finish(options) => judge(alloc, &home.points, mesh, demands_of(options, fine)),
         Made::Simplify(options) => {
             let within = options.within;
-            judge_simplified(alloc, home, mesh, Reach { fine, within })
+            judge_simplified(alloc, home, mesh, Reach { fine, within }, options.surface)
         }
     }
 }
@@ -163,6 +163,10 @@ fn line_of_fault(alloc: Global, fault: Fault) -> Result<Vec<u8>, NoMemory>
         Fault::UnreachedVertex(vertex) => {
             line_of_number(alloc, b"no 6 unreached_vertex ", u64::from(vertex))
         }
+        Fault::UncoveredOriginal(face) => {
+            line_of_number(alloc, b"no 7 uncovered_original ", face as u64)
+        }
+        Fault::UncoveredFace(face) => line_of_number(alloc, b"no 8 uncovered_face ", face as u64),
     }
 }
 

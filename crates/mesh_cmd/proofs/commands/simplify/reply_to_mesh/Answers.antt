@@ -9,6 +9,7 @@ returns-in_ok-reply_of_mesh-in-Ok c =
       simplified = surface_of c.in-Ok.new;
       printed = record { valid = c.in-Ok.ensures.valid; boxed = c.in-Ok.ensures.boxed c.requires.boxed };
       so = c.in-Ok.ensures.simplified;
+      near = c.in-Ok.ensures.near;
       is = c.in_ok-reply_of_mesh-in-Ok.ensures;
     })
 
