@@ -14,6 +14,7 @@
 mod cover;
 mod exact;
 mod near;
+mod order;
 mod part;
 mod place;
 mod uncovered;

@@ -8,12 +8,13 @@ ghost use Rattle.mesh_cover.specs.Covers.{IsCovered, IsFaceCovered, IsTriangleCo
 use crate::NoMemory;
 use crate::cover::is_covered;
 use crate::near::{corners_of, is_part_near};
+use crate::order::{faces_in_order, take_faces, tree_in_order};
 use crate::part::Part;
 use crate::place::Place;
 use geo_sign::Point;
 use hull_tree::{Hull, HullTree, Span};
 use mesh::Mesh;
-use mesh_flips::{hull_of, tree_of};
+use mesh_flips::hull_of;
 use std::alloc::Global;
 
 /// How often parts are cut in four.
@@ -22,6 +23,7 @@ const DEPTH: u32 = 8;
 /// What helps to find faces.
 #[derive(Drop)]
 struct Search {
+    order: Vec<usize>,
     tree: HullTree,
     found: Vec<usize>,
 }
@@ -101,6 +103,7 @@ fn is_face_covered(
     search.found.clear();
     let hull = widened(hull_of(points, face), within);
     search.tree.near(hull, &mut search.found)?;
+    take_faces(&search.order, &mut search.found);
     let covered = is_covered(onto, &part, within, &mut search.found, 0, DEPTH)?;
     Ok(covered)
 }
@@ -141,8 +144,10 @@ pub fn find_uncovered(
     requires onto { IsMesh onto.now.points.items onto.now.faces.items }
     ensures { IfOk result (λ i. IfNone i (IsCovered within home.now.points.items home.now.faces.items onto.now.points.items onto.now.faces.items)) }
 {
+    let order = faces_in_order(alloc, &onto.points, &onto.faces)?;
     let mut search = Search {
-        tree: tree_of(alloc, &onto.points, &onto.faces)?,
+        tree: tree_in_order(alloc, &onto.points, &onto.faces, &order)?,
+        order,
         found: Vec::new(alloc),
     };
     first_of_faces(&home.points, &home.faces, onto, hints, within, &mut search)
