@@ -9,7 +9,10 @@ const USES: [(&str, &str); 4] = [
         "finish",
         "MESH OUT [pieces=N] [manifold=yes] [flips=no] [smooth=N within=D] [comments=no]",
     ),
-    ("simplify", "MESH OUT within=D [faces=N] [surface=yes] [comments=no]"),
+    (
+        "simplify",
+        "MESH OUT within=D [faces=N] [surface=yes] [comments=no]",
+    ),
     ("inspect", "MESH"),
     ("check", "MESH OUT"),
 ];

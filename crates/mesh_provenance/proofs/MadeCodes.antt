@@ -13,7 +13,7 @@ use Rattle.finish_options.specs.declared.options.Made.{Made}
 use Rattle.finish_options.specs.declared.options.Made.TheVariants.{Finish, Simplify}
 use Rattle.finish_options.specs.declared.options.TheConstants.{FARTHEST}
 use Rattle.mesh_provenance.specs.Options.{AreOptions, options_end}
-use Rattle.mesh_provenance.specs.Simplifying.{AreSimplifyOptions, simplify_word, faces_word, surface_word, surface_text, simplify_end}
+use Rattle.mesh_provenance.specs.Simplifying.{AreSimplifyOptions, simplify_word, faces_word, surface_word, covered_text, simplify_end}
 use Rattle.mesh_provenance.specs.Texts.{IsMade, finish_word, made_line}
 use Rattle.mesh_provenance.proofs.OptionCodes.{options_code}
 
@@ -32,10 +32,10 @@ with_options : (within faces : ℕ) (surface : Bool) → SimplifyOptions
 with_options within faces surface = record { within = within; faces = faces; surface = surface }
 
 pub simplify_parts : (o : SimplifyOptions) (r : List ℕ)
-    → simplify_end o ++ r ≡ ended o.within 32 ++ (surface_text o.surface ++ (counted faces_word o.faces ++ r))
+    → simplify_end o ++ r ≡ ended o.within 32 ++ (covered_text o.surface ++ (counted faces_word o.faces ++ r))
 simplify_parts o r =
-    append_assoc (ended o.within 32) (surface_text o.surface ++ counted faces_word o.faces) r
-    ∙ ap (λ (l : List ℕ). ended o.within 32 ++ l) (append_assoc (surface_text o.surface) (counted faces_word o.faces) r)
+    append_assoc (ended o.within 32) (covered_text o.surface ++ counted faces_word o.faces) r
+    ∙ ap (λ (l : List ℕ). ended o.within 32 ++ l) (append_assoc (covered_text o.surface) (counted faces_word o.faces) r)
 
 s_not_f : ◌≡◌ {A = ℕ} 115 102 → ⊥
 s_not_f e = omega arith
@@ -46,7 +46,7 @@ unfolding surface_word faces_word
 faces_not_surface n r s e = s_not_f (ap (λ (l : List ℕ). get_or l 0 0) e)
 
 surface_code : (v w : Bool) (m n : ℕ) (r s : List ℕ)
-    → surface_text v ++ (counted faces_word m ++ r) ≡ surface_text w ++ (counted faces_word n ++ s)
+    → covered_text v ++ (counted faces_word m ++ r) ≡ covered_text w ++ (counted faces_word n ++ s)
     → (v ≡ w) × (counted faces_word m ++ r ≡ counted faces_word n ++ s)
 surface_code true true m n r s e = (refl, behind_same surface_word _ _ e)
 surface_code true false m n r s e = absurd (faces_not_surface n s _ e)
@@ -73,7 +73,7 @@ pub no_distance : (text : List ℕ) → BeginsWithNone (IsBetween 1 FARTHEST) (�
 no_distance text none = λ o r h e. none o.within _ h.0 (e ∙ simplify_parts o r)
 
 pub no_faces : (text behind last : List ℕ) (n : ℕ) (surface : Bool) → IsBetween 1 FARTHEST n → text ≡ ended n 32 ++ behind
-    → behind ≡ surface_text surface ++ last → (surface ≡ false → (rest : List ℕ) → ¬ (behind ≡ surface_word ++ rest))
+    → behind ≡ covered_text surface ++ last → (surface ≡ false → (rest : List ℕ) → ¬ (behind ≡ surface_word ++ rest))
     → BeginsWithNone (IsBetween 0 (2 ^ 32 - 1)) (counted faces_word) last → BeginsWithNone AreSimplifyOptions simplify_end text
 no_faces text behind last n surface fits is behind_is not none = λ o r h e.
     let first =
@@ -81,8 +81,8 @@ no_faces text behind last n surface fits is behind_is not none = λ o r h e.
     (sym is ∙ (e ∙ simplify_parts o r)) in
     rest surface o.surface o.faces r h.1 behind_is not first.1
   where
-    rest : (x y : Bool) (m : ℕ) (r : List ℕ) → IsBetween 0 (2 ^ 32 - 1) m → behind ≡ surface_text x ++ last
-        → (x ≡ false → (t : List ℕ) → ¬ (behind ≡ surface_word ++ t)) → behind ≡ surface_text y ++ (counted faces_word m ++ r)
+    rest : (x y : Bool) (m : ℕ) (r : List ℕ) → IsBetween 0 (2 ^ 32 - 1) m → behind ≡ covered_text x ++ last
+        → (x ≡ false → (t : List ℕ) → ¬ (behind ≡ surface_word ++ t)) → behind ≡ covered_text y ++ (counted faces_word m ++ r)
         → ⊥
     rest true true m r k e never f = none m r k (behind_same surface_word _ _ (sym e ∙ f))
     rest true false m r k e never f = faces_not_surface m r _ (sym e ∙ f)

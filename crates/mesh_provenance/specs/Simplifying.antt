@@ -3,7 +3,7 @@
 --   AreSimplifyOptions o   the numbers of the options are in their ranges
 --   simplify_word, faces_word   the texts before the two numbers
 --   surface_word           the text that says that all points are meant
---   surface_text surface   this text, empty at the default
+--   covered_text surface   this text, empty at the default
 --   simplify_end o         the options, and the end of their line
 use Rattle.std.specs.Prelude.{ℕ, ◌-◌, ◌^◌, Bool, true, false, List, [], ◌++◌, codes}
 use Rattle.line_text.specs.Numbers.{space, ended, counted}
@@ -28,10 +28,10 @@ unfoldable pub surface_word : List ℕ
 surface_word = codes "surface=yes "
 
 -- the same, if it was asked
-abbrev pub surface_text : Bool → List ℕ
-surface_text true = surface_word
-surface_text false = []
+abbrev pub covered_text : Bool → List ℕ
+covered_text true = surface_word
+covered_text false = []
 
 -- the distance, whether all points are meant, and the number of faces, to the end of the line
 abbrev pub simplify_end : SimplifyOptions → List ℕ
-simplify_end o = ended o.within space ++ (surface_text o.surface ++ counted faces_word o.faces)
+simplify_end o = ended o.within space ++ (covered_text o.surface ++ counted faces_word o.faces)

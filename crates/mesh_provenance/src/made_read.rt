@@ -2,7 +2,7 @@
 
 ghost use Rattle.std.specs.Prelude.{◌≡◌, ◌++◌, ℕ, List, false, IfSome, IfNone};
 ghost use Rattle.line_text.specs.Numbers.{BeginsWithNone};
-ghost use Rattle.mesh_provenance.specs.Simplifying.{AreSimplifyOptions, surface_word, surface_text, simplify_end};
+ghost use Rattle.mesh_provenance.specs.Simplifying.{AreSimplifyOptions, surface_word, covered_text, simplify_end};
 ghost use Rattle.mesh_provenance.specs.Texts.{IsMade, made_line};
 
 use crate::options_read::options_first;
@@ -12,7 +12,7 @@ use line_text::{behind, counted_within, number_within};
 
 /// Returns whether the text begins with that all points are meant, and what follows.
 fn surface_first(text: &[u8]) -> (bool, &[u8])
-    ensures is { text.now ≡ surface_text result.0 ++ result.1.now }
+    ensures is { text.now ≡ covered_text result.0 ++ result.1.now }
     ensures none { result.0 ≡ false → (rest : List ℕ) → ¬ (text.now ≡ surface_word ++ rest) }
 {
     match behind(text, surface()) {

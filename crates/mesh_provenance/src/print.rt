@@ -2,7 +2,7 @@
 
 ghost use Rattle.std.specs.Prelude.{◌≡◌, ◌++◌, OnOk};
 ghost use Rattle.mesh_provenance.specs.Options.{pieces_text, split_text, flips_text, smooth_text, options_end};
-ghost use Rattle.mesh_provenance.specs.Simplifying.{simplify_word, surface_text, simplify_end};
+ghost use Rattle.mesh_provenance.specs.Simplifying.{simplify_word, covered_text, simplify_end};
 ghost use Rattle.mesh_provenance.specs.Texts.{finish_word, digest_line, made_line, provenance_lines, text_after_format, annotated_text};
 
 use crate::provenance::Provenance;
@@ -83,7 +83,7 @@ fn push_options(out: &mut Vec<u8>, options: FinishOptions) -> Result<(), NoMemor
 
 /// Appends that all points are meant, if they are.
 fn push_surface(out: &mut Vec<u8>, all: bool) -> Result<(), NoMemory>
-    ensures { OnOk result (out.new.items ≡ out.old.items ++ surface_text all) }
+    ensures { OnOk result (out.new.items ≡ out.old.items ++ covered_text all) }
 {
     if all {
         out.extend_from_slice(surface())
