@@ -3,7 +3,7 @@
 
 usage: python3 dev/fuzz [PART ..] [seed=N] [minutes=M] [recon=PATH] [reference=PATH] [keep=FOLDER] [jobs=N]
 
-  PART         bytes, scans, certificates, arguments, hostile, system, large, tools, simplify, meshes; all without a name
+  PART         bytes, scans, certificates, arguments, hostile, system, large, tools, simplify, move, meshes; all without a name
   seed         another number makes other cases (default: 1). How many are tried depends on the time
   minutes      for all parts together (default: 10)
   recon        the program (default: ./recon)
@@ -33,7 +33,7 @@ from fuzz.tally import Context, Tally  # noqa: E402
 
 # What share of the time each part has.
 SHARES = {'bytes': 20, 'scans': 22, 'certificates': 18, 'arguments': 6, 'hostile': 4, 'system': 12, 'large': 10, 'tools': 8,
-          'simplify': 6, 'meshes': 10}
+          'simplify': 6, 'move': 3, 'meshes': 10}
 OPTIONS = {'seed': '1', 'minutes': '10', 'recon': 'recon', 'reference': os.path.join(DEV, 'reference/target/release/recon-reference'),
            'keep': 'fuzz_failures', 'jobs': str(min(4, len(os.sched_getaffinity(0))))}
 

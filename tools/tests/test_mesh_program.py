@@ -38,6 +38,9 @@ STATED = [((), '', 1), (('flips=no',), ' flips=no', 1), (('manifold=yes', 'piece
           (('within=20', 'smooth=3'), ' smooth=3 within=20', 1024),
           (('within=2', 'smooth=1', 'flips=no', 'manifold=yes', 'pieces=1'), ' pieces=1 manifold=yes flips=no smooth=1 within=2', 1024)]
 
+# options of `move` that leave the faces
+MOVING = ('smooth=1', 'within=2', 'flips=no')
+
 # the line of an error in a header, and what is changed there
 INVALID_HEADERS = [
     (3, 'comment recon-mesh finish', 'comment by recon-mesh'), (3, 'pieces=4294967295 ', 'pieces=4294967296 '), (3, 'pieces=4294967295 ', 'pieces=0 '),
@@ -138,12 +141,15 @@ class MeshProgram(InFolder):
                       ('finish', 'mesh.ply', 'out.ply', 'pieces=4294967296'), ('finish', 'mesh.ply', 'out.ply', 'pieces=1', 'pieces=1'),
                       ('finish', 'mesh.ply', 'out.ply', 'manifold=no'), ('finish', 'mesh.ply', 'out.ply', 'manifold=yes', 'manifold=yes'),
                       *(('finish', 'mesh.ply', 'out.ply', *words) for words in NO_SMOOTHING),
+                      ('move', 'mesh.ply', 'out.ply', 'smooth=1', 'within=1'), ('move', 'mesh.ply', 'to.ply', 'out.ply'),
+                      ('move', 'mesh.ply', 'mesh.ply', 'out.ply', *MOVING), ('move', 'mesh.ply', 'to.ply', 'to.ply', *MOVING),
+                      ('move', 'mesh.ply', 'to.ply', 'out.ply', 'smooth=1'), ('move', 'mesh.ply', '', 'out.ply', *MOVING),
                       ('Finish', 'mesh.ply', 'out.ply'), ('inspect',), ('inspect', ''), ('inspect', 'mesh.ply', 'out.ply'),
                       ('check',), ('check', 'mesh.ply'), ('check', 'mesh.ply', 'mesh.ply'), ('check', '', 'out.ply'), ('check', 'mesh.ply', ''),
                       ('check', 'mesh.ply', 'out.ply', 'flips=no'), ('check', 'mesh.ply', 'out.ply', 'other.ply')):
             status, line, error = mesh_program(*words)
             equal((status, line), (2, 'refused words\n'))
-            usage = 'usage: recon-mesh finish MESH OUT [pieces=N] [manifold=yes] [flips=no] [smooth=N within=D] [comments=no]\nusage: recon-mesh simplify MESH OUT within=D [faces=N] [comments=no]\nusage: recon-mesh inspect MESH\nusage: recon-mesh check MESH OUT\n'
+            usage = 'usage: recon-mesh finish MESH OUT [pieces=N] [manifold=yes] [flips=no] [smooth=N within=D] [comments=no]\nusage: recon-mesh move MESH TARGETS OUT smooth=N within=D [pieces=N] [manifold=yes] [flips=no] [comments=no]\nusage: recon-mesh simplify MESH OUT within=D [faces=N] [comments=no]\nusage: recon-mesh inspect MESH\nusage: recon-mesh check MESH OUT\n'
             equal(usage in error, True)
         equal(os.listdir('.'), ['mesh.ply'])
 
@@ -162,11 +168,16 @@ class MeshProgram(InFolder):
             write('mesh.ply', text)
             write('out.ply', bytes_)
             status, said, error = mesh_program('check', 'mesh.ply', 'out.ply')
-            line = line.replace('29 mesh_line', '32 out_line').replace('30 mesh_cut', '33 out_cut')
+            out = line.replace('29 mesh_line', '32 out_line').replace('30 mesh_cut', '33 out_cut')
+            equal((status, said, error.startswith('recon-mesh: ')), (3, out, True))
+            status, said, error = mesh_program('move', 'mesh.ply', 'out.ply', 'new.ply', *MOVING)
+            line = line.replace('29 mesh_line', '34 targets_line').replace('30 mesh_cut', '35 targets_cut')
             equal((status, said, error.startswith('recon-mesh: ')), (3, line, True))
+        equal(os.path.exists('new.ply'), False)
 
     def test_failed_calls(self) -> None:
         for words in (('finish', 'none.ply', 'out.ply'), ('finish', 'mesh.ply', 'none/out.ply'), ('finish', '.', 'out.ply'), ('inspect', 'none.ply'), ('inspect', '.'),
+                      ('move', 'mesh.ply', 'none.ply', 'out.ply', *MOVING), ('move', 'none.ply', 'mesh.ply', 'out.ply', *MOVING),
                       ('check', 'none.ply', 'mesh.ply'), ('check', 'mesh.ply', 'none.ply'), ('check', 'mesh.ply', '.')):
             status, said, error = mesh_program(*words)
             equal((status, said, error.startswith('recon-mesh: ')), (4, '', True))
@@ -191,6 +202,25 @@ class MeshProgram(InFolder):
         equal(mesh_program('inspect', 'mesh.ply'), mesh_program('inspect', 'plain.ply'))
         equal(mesh_program('finish', 'mesh.ply', 'again.ply', 'flips=no')[0], 0)
         equal(read('again.ply'), with_provenance(read('plain.ply'), ' flips=no', 1, read('mesh.ply')))
+
+    def test_move_takes_targets(self) -> None:
+        text = mesh_text(POINTS, FACES)
+        near, far = moved(SMOOTHED, (300, -200, 5)), [*SMOOTHED[:3], (-102400, -102400, 204800)]
+        for targets, reached in ((near, near), (SMOOTHED, SMOOTHED), (far, [*SMOOTHED[:3], (-102400, -102400, 102400 + 2048)])):
+            write('to.ply', mesh_text(targets, []))
+            equal(mesh_program('move', 'mesh.ply', 'to.ply', 'out.ply', *MOVING)[:2], (0, 'finished points 4 faces 4 fine 1024\n'))
+            equal(read('out.ply'), with_provenance(mesh_text(reached, FACES), ' flips=no smooth=1 within=2', 1024, text))
+            equal(mesh_program('check', 'mesh.ply', 'out.ply')[:2], (0, f'yes points 4 faces 4 {NO_PAIR}\n'))
+
+    def test_move_needs_a_target_for_each_point(self) -> None:
+        write('mesh.ply', mesh_text(*TWO))
+        for count, words in ((8, ()), (4, ('pieces=1',))):
+            for targets in (POINTS[:3], POINTS + POINTS + POINTS[:1], []):
+                write('to.ply', mesh_text(targets, []))
+                status, said, error = mesh_program('move', 'mesh.ply', 'to.ply', 'out.ply', *MOVING, *words)
+                equal((status, said), (3, f'refused 36 targets_count targets {len(targets)} points {count}\n'))
+                equal(error.startswith('recon-mesh: '), True)
+        equal(os.path.exists('out.ply'), False)
 
     def test_invalid_headers(self) -> None:
         text = mesh_text(POINTS, FACES)

@@ -15,11 +15,11 @@
 --   IsJudgedBy mesh made fine out verdict   the verdict follows from what was done
 --   IsJudged mesh p out answer         the answer follows from the demands that these comments state
 --   ConfirmAnswer digest mesh p out answer   the answer of `check`: the first reason for no that applies, or yes
+--   check_answers                      the same for any bytes of the finished mesh
 --   OutAnswer limit name digest mesh files answer   the answers of `check` to the file of the finished mesh
 --   confirm_task names                 the command `check`
 use Rattle.std.specs.Prelude.{ℕ, List, [], ◌∷◌, ◌++◌, codes, ◌≡◌, ◌≢◌, ◌⊎◌, ⊤, length, Option, None, Some}
 use Rattle.host.specs.State.{Files}
-use Rattle.sha2.specs.Sha256.{sha256}
 use Rattle.mesh.specs.Meshes.{Surface}
 use Rattle.mesh_crossings.specs.declared.counts.CrossingCounts.{CrossingCounts}
 use Rattle.mesh_check.specs.Verdicts.{IsJudgment}
@@ -40,9 +40,9 @@ use Rattle.command_run.specs.Words.{Names}
 use Rattle.command_run.specs.declared.status.Status.{Status}
 use Rattle.command_run.specs.declared.status.Status.TheVariants.{Done, No}
 use Rattle.mesh_cmd.specs.Crossings.{crossings_text}
-use Rattle.mesh_cmd.specs.Input.{ToInput}
+use Rattle.mesh_cmd.specs.Input.{Second, ToInput, pair_task}
 use Rattle.mesh_cmd.specs.declared.commands.check.CheckWords.{CheckWords}
-use Rattle.mesh_cmd.specs.declared.input.Role.TheVariants.{First, Finished}
+use Rattle.mesh_cmd.specs.declared.input.Role.TheVariants.{Finished}
 
 -- the names that the program holds
 abbrev pub confirm_names : CheckWords → Names
@@ -117,17 +117,14 @@ ConfirmAnswer digest mesh None out answer = answer ≡ line_answer No not_stated
 ConfirmAnswer digest mesh (Some p) out answer =
     ((p.digest ≢ digest) × (answer ≡ line_answer No other_mesh_line)) ⊎ ((p.digest ≡ digest) × IsJudged mesh p out answer)
 
+-- the answers to two meshes
+abbrev pub check_answers : Second
+check_answers digest mesh bytes p out = ConfirmAnswer digest mesh p out
+
 -- the answers to the file of the finished mesh, after a mesh whose file has this digest
 abbrev pub OutAnswer : (limit : ℕ) → (name digest : List ℕ) → Surface → Files → Answer → Type 0
-OutAnswer limit name digest mesh = ToInput Finished limit name (λ _ p out. ConfirmAnswer digest mesh p out)
+OutAnswer limit name digest mesh = ToInput Finished limit name (check_answers digest mesh)
 
 -- it reads the mesh, then the finished one if the first is valid, and says whether it is what it states
 abbrev pub confirm_task : Names → Task
-confirm_task names =
-    record {
-      Denies = ⊤;
-      Refuses = ⊤;
-      most = 2;
-      Answers =
-          λ limit files. ToInput First limit names.input (λ bytes _ mesh. OutAnswer limit names.output (sha256 bytes) mesh files) files;
-    }
+confirm_task names = pair_task ⊤ Finished names.input names.output check_answers

@@ -3,6 +3,7 @@
 --   Asked                        a command with its names and options
 --   finish_of words              what the arguments after `finish` ask for: two names, not empty and not equal, and
 --                                options
+--   move_of words                what the arguments after `move` ask for: three names, and options of `finish` with smoothing
 --   inspect_of words             what the argument after `inspect` asks for: one name that is not empty
 --   confirm_of words             what the arguments after `check` ask for: two names, not empty and not equal
 --   command_of words             the command that the arguments ask for, if they are valid
@@ -24,6 +25,7 @@ use Rattle.command_run.specs.declared.status.Status.TheVariants.{Done, No, BadAr
 use Rattle.mesh_cmd.specs.Check.{confirm_names, confirm_task}
 use Rattle.mesh_cmd.specs.Finish.{finish_names, finish_task}
 use Rattle.mesh_cmd.specs.Inspect.{inspect_task}
+use Rattle.mesh_cmd.specs.Moving.{MoveNames, move_names, move_request, move_task}
 use Rattle.mesh_cmd.specs.Options.{finish_options}
 use Rattle.mesh_cmd.specs.Simplify.{simplify_names, simplify_task}
 use Rattle.mesh_cmd.specs.SimplifyRequests.{simplify_request}
@@ -35,6 +37,7 @@ use Rattle.mesh_cmd.specs.declared.simplify_request.SimplifyRequest.{SimplifyReq
 -- a command with its names and options
 pub data Asked : Type 0 where
   finish : Names → FinishRequest → Asked
+  move : MoveNames → FinishRequest → Asked
   simplify : Names → SimplifyRequest → Asked
   inspect : List ℕ → Asked
   check : Names → Asked
@@ -46,6 +49,16 @@ finish_of (mesh ∷ []) = None
 finish_of (mesh ∷ output ∷ options) =
     if are_names (mesh ∷ output ∷ [])
     then option_map (finish (record { input = mesh; output = output })) (finish_options options)
+    else None
+
+-- three names, and options
+abbrev pub move_of : List (List ℕ) → Option Asked
+move_of [] = None
+move_of (mesh ∷ []) = None
+move_of (mesh ∷ targets ∷ []) = None
+move_of (mesh ∷ targets ∷ output ∷ options) =
+    if are_names (mesh ∷ targets ∷ output ∷ [])
+    then option_map (move (record { mesh = mesh; targets = targets; output = output })) (move_request options)
     else None
 
 -- two names, and options
@@ -76,6 +89,7 @@ abbrev pub command_of : List (List ℕ) → Option Asked
 command_of [] = None
 command_of (word ∷ words) =
     if bytes_eq word (codes "finish") then finish_of words
+    else if bytes_eq word (codes "move") then move_of words
     else if bytes_eq word (codes "simplify") then simplify_of words
     else if bytes_eq word (codes "inspect") then inspect_of words
     else if bytes_eq word (codes "check") then confirm_of words
@@ -84,6 +98,7 @@ command_of (word ∷ words) =
 -- a command as the program holds it
 abbrev pub asked : Command → Asked
 asked (commands.Finish words) = finish (finish_names words) words.request
+asked (commands.Move words) = move (move_names words) words.request
 asked (commands.Simplify words) = simplify (simplify_names words) words.request
 asked (commands.Inspect words) = inspect words.mesh.now
 asked (commands.Check words) = check (confirm_names words)
@@ -91,6 +106,7 @@ asked (commands.Check words) = check (confirm_names words)
 -- what a command is apart from its arguments
 abbrev pub task_of : Asked → Task
 task_of (finish names request) = finish_task names request
+task_of (move names request) = move_task names request
 task_of (simplify names request) = simplify_task names request
 task_of (inspect name) = inspect_task name
 task_of (check names) = confirm_task names

@@ -2,8 +2,9 @@
 --
 --   too_long_out_line                    the line for the file of a finished mesh that is too long
 --   out_error_line why                   the line that rejects the file of a finished mesh
---   reads_at role                        by the role of a file (the original mesh or the finished one): how many files
---                                        have been read, this one included (1 or 2)
+--   too_long_targets_line, targets_error_line why   the same for the file of targets
+--   reads_at role                        by the role of a file (the original mesh, the finished one, or targets): how
+--                                        many files have been read, this one included (1 or 2)
 --   too_long_at role                     the line if it is too long
 --   error_line_at role why               the line for its first error
 --   FileInvalid role limit bytes answer  the bytes are no mesh, with comments or without, and the first error is
@@ -15,6 +16,8 @@
 --   ToInput role limit name Answers files answer
 --                                        the answer of a command to these files, which follows from the named one
 --   file_task Denies input Answers       a command that reads one mesh, with comments or without
+--   pair_task Denies role first second Answers
+--                                        a command that reads one mesh, and if that is valid another in this role
 --   surface_of_input input               the points and faces of a mesh that the program holds
 --   IsUnderstoodInput, IsInputReading    the result of parsing the bytes of a file, and those of the named file
 --   IsFileIfRead reading                 a mesh that was read has a text
@@ -36,7 +39,7 @@ use Rattle.mesh_cmd.specs.declared.input.InputMesh.{InputMesh}
 use Rattle.mesh_cmd.specs.declared.input.InputReading.{InputReading}
 use Rattle.mesh_cmd.specs.declared.input.InputReading.TheVariants as readings
 use Rattle.mesh_cmd.specs.declared.input.Role.{Role}
-use Rattle.mesh_cmd.specs.declared.input.Role.TheVariants.{First, Finished}
+use Rattle.mesh_cmd.specs.declared.input.Role.TheVariants.{First, Finished, Targets}
 
 -- the line for the file of a finished mesh that is longer than the limit
 unfoldable pub too_long_out_line : List ℕ
@@ -48,20 +51,33 @@ out_error_line (meshes.BadLine line) = Some (number_line (codes "refused 32 out_
 out_error_line meshes.MeshCut = Some (text_line (codes "refused 33 out_cut"))
 out_error_line meshes.NoMemory = None
 
+-- the line for the file of targets that is longer than the limit
+unfoldable pub too_long_targets_line : List ℕ
+too_long_targets_line = codes "refused 19 too_long targets\n"
+
+-- the line for the error of targets; out of memory has none
+abbrev pub targets_error_line : MeshRefusal → Option (List ℕ)
+targets_error_line (meshes.BadLine line) = Some (number_line (codes "refused 34 targets_line line ") line)
+targets_error_line meshes.MeshCut = Some (text_line (codes "refused 35 targets_cut"))
+targets_error_line meshes.NoMemory = None
+
 -- how many files are read with this one
 abbrev pub reads_at : Role → ℕ
 reads_at First = 1
 reads_at Finished = 2
+reads_at Targets = 2
 
 -- the line for a file that is longer than the limit
 abbrev pub too_long_at : Role → List ℕ
 too_long_at First = too_long_mesh_line
 too_long_at Finished = too_long_out_line
+too_long_at Targets = too_long_targets_line
 
 -- the line for the error of a file
 abbrev pub error_line_at : Role → MeshRefusal → Option (List ℕ)
 error_line_at First why = mesh_error_line why
 error_line_at Finished why = out_error_line why
+error_line_at Targets why = targets_error_line why
 
 -- the bytes are not a mesh, with comments or without, and the first error is printed
 pub record FileInvalid (role : Role) (limit : ℕ) (bytes : List ℕ) (answer : Answer) : Type 0 where
@@ -99,6 +115,22 @@ ToInput role limit name Answers files answer =
 abbrev pub file_task : (Denies : Type 0) → (input : List ℕ) → Answering → Task
 file_task Denies input Answers =
     record { Denies = Denies; Refuses = ⊤; most = 1; Answers = λ limit. ToInput First limit input Answers }
+
+-- the answers to the second file, in this role, after a mesh whose file has this digest
+abbrev pub Second : Type 1
+Second = (digest : List ℕ) → Surface → Answering
+
+-- A command that reads one mesh, and if that is valid another in this role; it may reject both. This states whether it may also answer no.
+abbrev pub pair_task : (Denies : Type 0) → Role → (first second : List ℕ) → Second → Task
+pair_task Denies role first second Answers =
+    record {
+      Denies = Denies;
+      Refuses = ⊤;
+      most = 2;
+      Answers =
+          λ limit files.
+          ToInput First limit first (λ bytes _ mesh. ToInput role limit second (Answers (sha256 bytes) mesh) files) files;
+    }
 
 -- the points and faces of a mesh that the program holds
 abbrev pub surface_of_input : InputMesh → Surface

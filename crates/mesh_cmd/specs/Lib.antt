@@ -4,6 +4,7 @@ pub mod Crossings
 pub mod Finish
 pub mod Input
 pub mod Inspect
+pub mod Moving
 pub mod Options
 pub mod Simplify
 pub mod SimplifyRequests

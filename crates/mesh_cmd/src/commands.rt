@@ -8,6 +8,7 @@ ghost use Rattle.mesh_cmd.specs.Commands.{command_of, asked, task_of};
 mod check;
 mod finish;
 mod inspect;
+mod moving;
 mod simplify;
 
 pub use check::CheckWords;
@@ -18,6 +19,8 @@ use finish::{finish_command, reply_to_finish};
 use host::Host;
 use inspect::{inspect_command, reply_to_inspect};
 pub use inspect::{InspectWords, Measures};
+pub use moving::MoveWords;
+use moving::{move_command, reply_to_move};
 pub use simplify::SimplifyWords;
 use simplify::{reply_to_simplify, simplify_command};
 use std::alloc::Global;
@@ -29,6 +32,9 @@ pub enum Command<'a> {
     /// pieces, splits vertices so that each edge has two faces, flips edges where the angles between faces fall, moves vertices by at
     /// most D units so that neighboring faces agree on their directions, and writes the result with its provenance.
     Finish(FinishWords<'a>),
+    /// `move MESH TARGETS OUT smooth=N within=D [pieces=N] [manifold=yes] [flips=no] [comments=no]`: does what `finish` does, but vertices
+    /// move toward the points of TARGETS, a mesh with as many points as the result. It states of the result what `finish` does.
+    Move(MoveWords<'a>),
     /// `simplify MESH OUT within=D [faces=N] [surface=yes] [comments=no]`: reads the mesh, collapses edges while each corner of its faces
     /// stays at most D units from a face, down to N faces, and writes the result with its provenance. With `surface=yes` each point of
     /// either mesh is at most D units from the other.
@@ -50,6 +56,7 @@ pub fn understand(words: &[String]) -> Option<Command<'_>>
     };
     match command.as_str() {
         "finish" => finish_command(words),
+        "move" => move_command(words),
         "simplify" => simplify_command(words),
         "inspect" => inspect_command(words),
         "check" => check_command(words),
@@ -70,6 +77,7 @@ pub fn reply_to<'a, H: Host>(
 {
     match command {
         Command::Finish(words) => reply_to_finish(alloc, host, words),
+        Command::Move(words) => reply_to_move(alloc, host, words),
         Command::Simplify(words) => reply_to_simplify(alloc, host, words),
         Command::Inspect(words) => reply_to_inspect(alloc, host, words),
         Command::Check(words) => reply_to_check(alloc, host, words),

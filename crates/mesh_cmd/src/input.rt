@@ -4,7 +4,7 @@ ghost use Rattle.std.specs.Prelude.{◌≡◌, ◌≤◌, false, length, ℕ, If
 ghost use Rattle.sha2.specs.Sha256.{sha256};
 ghost use Rattle.host.specs.Whole.{OnlyReads};
 ghost use Rattle.command_run.specs.Steps.{CountsFaults};
-ghost use Rattle.mesh_cmd.specs.Input.{too_long_out_line, out_error_line, too_long_at, error_line_at, IsInputReading, IsUnderstoodInput, IsFileIfRead};
+ghost use Rattle.mesh_cmd.specs.Input.{too_long_out_line, too_long_targets_line, out_error_line, targets_error_line, too_long_at, error_line_at, IsInputReading, IsUnderstoodInput, IsFileIfRead};
 
 use command_run::{
     Line, NoMemory, Stop, line_of_mesh_error, line_of_number, line_of_text, line_of_too_long_mesh,
@@ -23,6 +23,8 @@ pub enum Role {
     First,
     /// The finished mesh, which `check` reads second.
     Finished,
+    /// The mesh whose points are targets, which `move` reads second.
+    Targets,
 }
 
 /// A mesh that was read.
@@ -97,6 +99,7 @@ fn line_of_too_long(role: Role) -> &'static [u8]
     match role {
         Role::First => line_of_too_long_mesh(),
         Role::Finished => line_of_too_long_out(),
+        Role::Targets => line_of_too_long_targets(),
     }
 }
 
@@ -108,6 +111,14 @@ fn line_of_too_long_out() -> &'static [u8]
     b"refused 19 too_long out\n"
 }
 
+/// Returns the line for the file of targets that is longer than the limit.
+#[tactic(auto, unfolding(crate::specs::Input::too_long_targets_line))]
+fn line_of_too_long_targets() -> &'static [u8]
+    ensures { result.now ≡ too_long_targets_line }
+{
+    b"refused 19 too_long targets\n"
+}
+
 /// Returns the line for a file that is rejected. Out of memory has no line.
 fn line_of_error(alloc: Global, role: Role, why: MeshRefusal) -> Result<Vec<u8>, NoMemory>
     ensures { IfOk result (λ line. error_line_at role why ≡ Some line.items) }
@@ -115,6 +126,7 @@ fn line_of_error(alloc: Global, role: Role, why: MeshRefusal) -> Result<Vec<u8>,
     match role {
         Role::First => line_of_mesh_error(alloc, why),
         Role::Finished => line_of_out_error(alloc, why),
+        Role::Targets => line_of_targets_error(alloc, why),
     }
 }
 
@@ -127,6 +139,19 @@ fn line_of_out_error(alloc: Global, why: MeshRefusal) -> Result<Vec<u8>, NoMemor
             line_of_number(alloc, b"refused 32 out_line line ", u64::from(line))
         }
         MeshRefusal::MeshCut => line_of_text(alloc, b"refused 33 out_cut"),
+        MeshRefusal::NoMemory => Err(AllocError),
+    }
+}
+
+/// Returns the line for targets that are rejected. Out of memory has no line.
+fn line_of_targets_error(alloc: Global, why: MeshRefusal) -> Result<Vec<u8>, NoMemory>
+    ensures { IfOk result (λ line. targets_error_line why ≡ Some line.items) }
+{
+    match why {
+        MeshRefusal::BadLine(line) => {
+            line_of_number(alloc, b"refused 34 targets_line line ", u64::from(line))
+        }
+        MeshRefusal::MeshCut => line_of_text(alloc, b"refused 35 targets_cut"),
         MeshRefusal::NoMemory => Err(AllocError),
     }
 }

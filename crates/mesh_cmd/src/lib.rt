@@ -20,7 +20,7 @@ mod whole_run;
 
 pub use command_run::{NoMemory, Status};
 pub use commands::{
-    CheckWords, Command, FinishWords, InspectWords, Measures, SimplifyWords, understand,
+    CheckWords, Command, FinishWords, InspectWords, Measures, MoveWords, SimplifyWords, understand,
 };
 pub use finish_options::{FinishOptions, SimplifyOptions};
 pub use input::{InputMesh, InputReading, Role, read_input};

@@ -4,10 +4,14 @@
 use real_host::Advice;
 
 /// The commands, each with its arguments.
-const USES: [(&str, &str); 4] = [
+const USES: [(&str, &str); 5] = [
     (
         "finish",
         "MESH OUT [pieces=N] [manifold=yes] [flips=no] [smooth=N within=D] [comments=no]",
+    ),
+    (
+        "move",
+        "MESH TARGETS OUT smooth=N within=D [pieces=N] [manifold=yes] [flips=no] [comments=no]",
     ),
     (
         "simplify",
@@ -18,7 +22,7 @@ const USES: [(&str, &str); 4] = [
 ];
 
 /// How the line of an error begins, and how to fix what caused it.
-const CURES: [(&[u8], &str); 16] = [
+const CURES: [(&[u8], &str); 20] = [
     (
         b"refused 19 too_long mesh",
         "over 4 GiB, so most likely another file than was meant",
@@ -50,6 +54,22 @@ const CURES: [(&[u8], &str); 16] = [
     (
         b"refused 33 out_cut",
         "the second mesh is truncated: take the file that recon-mesh wrote",
+    ),
+    (
+        b"refused 19 too_long targets",
+        "over 4 GiB, so most likely another file than was meant",
+    ),
+    (
+        b"refused 34 targets_line",
+        "the targets are no mesh as recon-mesh writes it: whole coordinates, the same header",
+    ),
+    (
+        b"refused 35 targets_cut",
+        "the mesh of the targets is truncated",
+    ),
+    (
+        b"refused 36 targets_count",
+        "the targets are t points, and the mesh would have p: take the vertices of finish with the same options",
     ),
     (
         b"no 1 not_stated",

@@ -93,7 +93,7 @@ fn reply_to_mesh<'a>(
 }
 
 /// Makes the answer that says why a mesh is not finished. Out of memory has none.
-fn reply_to_error<'a>(alloc: Global, error: FinishError) -> Result<Reply<'a>, NoMemory>
+pub(crate) fn reply_to_error<'a>(alloc: Global, error: FinishError) -> Result<Reply<'a>, NoMemory>
     ensures { (options : FinishOptions) (mesh : Surface) → ExplainsFinish options mesh.points mesh.faces error → IfOk result (λ reply. IsNotFinished options mesh (answer_of 1 reply)) }
 {
     match error {
@@ -110,7 +110,7 @@ fn reply_to_error<'a>(alloc: Global, error: FinishError) -> Result<Reply<'a>, No
 }
 
 /// Makes the answer that writes this mesh.
-fn reply_of_mesh<'a>(
+pub(crate) fn reply_of_mesh<'a>(
     alloc: Global,
     finished: &FinishedMesh,
     digest: &[u8; 32],

@@ -1,19 +1,21 @@
-use Rattle.std.proofs.Common.{IfSome, subst}
+use Rattle.std.proofs.Common.{IfSome, refl, subst}
+use Rattle.std.specs.Prelude.{⊤}
 use Rattle.command_run.specs.declared.meshes.TheConstants.{FILE_LIMIT}
 use Rattle.command_run.specs.Words.{Names}
-use Rattle.mesh_cmd.specs.Check.{confirm_names, confirm_task}
+use Rattle.mesh_cmd.specs.Check.{check_answers, confirm_names, confirm_task}
 use Rattle.mesh_cmd.specs.Input.{IsInputReading}
 use Rattle.mesh_cmd.specs.declared.input.InputReading.{InputReading}
-use Rattle.mesh_cmd.specs.declared.input.Role.TheVariants.{First}
-use Rattle.mesh_cmd.proofs.Checking.{check_answers, home_replied, reads_both, reads_first}
+use Rattle.mesh_cmd.specs.declared.input.Role.TheVariants.{First, Finished}
+use Rattle.mesh_cmd.proofs.Checking.{check_reads}
+use Rattle.mesh_cmd.proofs.SecondFile.{first_answers, first_replied, reads_both, reads_first}
 use Rattle.mesh_cmd.proofs.InputReplies.{reply_refused}
 use Rattle.mesh_cmd.proofs.commands.check.reply_to_check.Goals as goal
 
 pub returns-in-Mesh-clause-replied : goal.returns-in-Mesh-clause-replied
 returns-in-Mesh-clause-replied g c =
     let names : Names = confirm_names c.args.words.now in
-    home_replied FILE_LIMIT names c.in-Mesh.home c.reply_to_home.result (g.H.Host.state c.args.host.now)
-    (g.H.Host.state c.read_input.new.host) c.in_ok-home.ensures.only
+    first_replied ⊤ Finished FILE_LIMIT names.input names.output check_answers c.in-Mesh.home c.reply_to_home.result
+    (g.H.Host.state c.args.host.now) (g.H.Host.state c.read_input.new.host) c.in_ok-home.ensures.only
     (subst (λ (reading : InputReading).
     IfSome (g.H.Host.state c.args.host.now).told (IsInputReading First FILE_LIMIT names.input reading)) c.in-Mesh.is
     c.in_ok-home.ensures.read)
@@ -22,8 +24,9 @@ returns-in-Mesh-clause-replied g c =
 pub returns-in-Mesh-clause-reads : goal.returns-in-Mesh-clause-reads
 returns-in-Mesh-clause-reads g c =
     let names : Names = confirm_names c.args.words.now in
-    reads_both FILE_LIMIT names c.in-Mesh.home (g.H.Host.state c.args.host.now) (g.H.Host.state c.read_input.new.host)
-    (g.H.Host.state c.reply_to_home.new.host) c.requires c.in_ok-home.ensures.only c.reply_to_home.ensures.only
+    reads_both ⊤ Finished FILE_LIMIT names.input names.output check_answers c.in-Mesh.home (g.H.Host.state c.args.host.now)
+    (g.H.Host.state c.read_input.new.host) (g.H.Host.state c.reply_to_home.new.host) refl check_reads c.requires
+    c.in_ok-home.ensures.only c.reply_to_home.ensures.only
     (subst (λ (reading : InputReading).
     IfSome (g.H.Host.state c.args.host.now).told (IsInputReading First FILE_LIMIT names.input reading)) c.in-Mesh.is
     c.in_ok-home.ensures.read)
@@ -31,18 +34,20 @@ returns-in-Mesh-clause-reads g c =
 pub returns-in-Refused-clause-replied : goal.returns-in-Refused-clause-replied
 returns-in-Refused-clause-replied g c =
     let names : Names = confirm_names c.args.words.now in
-    reply_refused (confirm_task names) First FILE_LIMIT names.input (check_answers FILE_LIMIT names) c.in-Refused.line
-    c.invalid_input.result (g.H.Host.state c.args.host.now) tt (c.invalid_input.ensures 1)
+    reply_refused (confirm_task names) First FILE_LIMIT names.input (first_answers FILE_LIMIT Finished names.output check_answers)
+    c.in-Refused.line c.invalid_input.result (g.H.Host.state c.args.host.now) tt (c.invalid_input.ensures 1)
     (subst (λ (reading : InputReading).
     IfSome (g.H.Host.state c.args.host.now).told (IsInputReading First FILE_LIMIT names.input reading)) c.in-Refused.is
     c.in_ok-home.ensures.read)
 
 pub returns-in-Refused-clause-reads : goal.returns-in-Refused-clause-reads
 returns-in-Refused-clause-reads g c =
-    reads_first FILE_LIMIT (confirm_names c.args.words.now) (g.H.Host.state c.args.host.now) (g.H.Host.state c.read_input.new.host)
-    c.requires c.in_ok-home.ensures.only
+    let names : Names = confirm_names c.args.words.now in
+    reads_first ⊤ Finished FILE_LIMIT names.input names.output check_answers (g.H.Host.state c.args.host.now)
+    (g.H.Host.state c.read_input.new.host) refl check_reads c.requires c.in_ok-home.ensures.only
 
 pub returns-in_err-home-clause-reads : goal.returns-in_err-home-clause-reads
 returns-in_err-home-clause-reads g c =
-    reads_first FILE_LIMIT (confirm_names c.args.words.now) (g.H.Host.state c.args.host.now) (g.H.Host.state c.read_input.new.host)
-    c.requires c.in_err-home.ensures.only
+    let names : Names = confirm_names c.args.words.now in
+    reads_first ⊤ Finished FILE_LIMIT names.input names.output check_answers (g.H.Host.state c.args.host.now)
+    (g.H.Host.state c.read_input.new.host) refl check_reads c.requires c.in_err-home.ensures.only
