@@ -1,8 +1,8 @@
 """Converts a mesh of `recon build` for viewing, printing and exchange: in the coordinates of the scan, smoother, without floating
 components, with the colors of its points. The result is no longer the mesh that `recon check` accepts.
 
-  recon-finish MESH OUT [unit=U] [origin=X,Y,Z] [pieces=N] [flips=no] [smooth=N within=D] [manifold=yes]
-               [seen=yes] [fill=LENGTH] [scan=SCAN] [cert=CERT]
+  recon-finish MESH OUT [unit=U] [origin=X,Y,Z] [pieces=N] [flips=no] [smooth=N within=D [detail=yes]]
+               [manifold=yes] [seen=yes] [fill=LENGTH] [scan=SCAN] [cert=CERT]
 
   OUT                binary PLY, STL, GLB or OBJ, by the extension of its name: .ply, .stl, .glb or .obj
   unit=U             divide coordinates by U (default: that of cert=, else of the only certificate (.cert, .cert.gz) in the folder
@@ -14,7 +14,9 @@ components, with the colors of its points. The result is no longer the mesh that
                      two faces intersect that did not before)
   smooth=N           smooth in N steps, at most 100, each followed by flips (default: 0)
   within=D           move no vertex farther than D, in coordinates of the scan and rounded down to whole units of the mesh; required
-                     with smooth=. Twice the noise is usual
+                     with smooth=. Two to three times the noise is usual
+  detail=yes         give back detail that smoothing took away, by the lines of sight of scan=. Where the noise is over a third of the
+                     spacing, detail=means gives back local means alone; without scan= both do so
   manifold=yes       split vertices and edges at which sheets only touch, so that each edge has two faces
   seen=yes           also write OUT with -seen in its name: the mesh without faces that span space that no scanner saw. It is open.
                      Faces of a PLY get the property `unseen`, 1 or 0. With scan= the lines of sight tell which faces these are;
@@ -34,15 +36,16 @@ import os
 import re
 import tempfile
 from concurrent.futures import ThreadPoolExecutor
-from dataclasses import dataclass
+from dataclasses import dataclass, replace
 from decimal import Decimal
 from typing import Any, Callable, List, Optional, Sequence, Tuple
 
 import numpy as np
 
 from recon.library import rows_at
-from recon.mesh_program import FinishOptions, Whole, finish_mesh
+from recon.mesh_program import FinishOptions, Whole, finish_mesh, move_mesh
 from recon.meshes import Mesh, mean_angle
+from recon.targets import GivenBack, target_places
 from recon.toolbox.mesh_files import Column, Finished, form_of, read_mesh, rounding_of, write_mesh
 from recon.toolbox.output_files import passing_folder
 from recon.toolbox.ply_text import IS_NUMBER, Refusal
@@ -52,22 +55,28 @@ from recon.toolbox.seen import Views
 from recon.toolbox.tool import Report, number_of, run, three, whole, yes
 
 MOST_STEPS, LONGEST = 100, 1 << 23
+DETAILS = {given.value: given for given in GivenBack}
+# how often vertices move to their targets: edges are flipped in between
+MOVES = 2
 # bytes of a face in the text of a mesh, and faces that are finished in a second, for one step
 BYTES_A_FACE, FINISHED_A_SECOND = 35, 150_000
-KEYS = ('unit', 'origin', 'pieces', 'flips', 'smooth', 'within', 'manifold', 'seen', 'fill', 'scan', 'cert')
+KEYS = ('unit', 'origin', 'pieces', 'flips', 'smooth', 'within', 'detail', 'manifold', 'seen', 'fill', 'scan', 'cert')
 STAMP = re.compile(rb'recon certificate 2\nscan [0-9a-f]{64}\nunit ([0-9]{1,7})\n')
 
 
 @dataclass
 class Request(FinishOptions):
     """The request, by its options; `unit` and `origin` are those of the scan, `within` a length of it. Of `scan`
-    the properties are brought back. `program` is the path of recon-mesh."""
+    the properties are brought back. `program` is the path of recon-mesh. `given_back` is what of the residuals of smoothing is given back, without
+    lines of sight if these are made up."""
     unit: int = 1
     origin: Sequence[float] = (0.0, 0.0, 0.0)
     seen: bool = False
     scan: Optional[str] = None
     program: Optional[str] = None
     fill: float = 0.0
+    given_back: GivenBack = GivenBack.NOTHING
+    is_made_up: bool = False
 
     @classmethod
     def of(cls, options: Any) -> Request:
@@ -87,7 +96,14 @@ class Request(FinishOptions):
                       yes(options.seen, 'seen'), options.scan, fill=float(options.fill or 0))
         if steps:
             request.whole_within()
+        if options.detail and (not steps or options.detail not in DETAILS):
+            raise Refusal('detail= is yes, means or no, and requires smooth=')
+        request.given_back = DETAILS[options.detail or 'no']
         return request
+
+    def passes(self) -> int:
+        """Returns about how many steps of smoothing finishing takes as long as."""
+        return 2 + self.steps + (0 if self.given_back is GivenBack.NOTHING else 2 + MOVES)
 
     def whole_within(self) -> int:
         """Returns how many whole units of the mesh a vertex may move. Raises `Refusal` if that is none."""
@@ -109,6 +125,7 @@ class FinishReport(Report):
     left_out: int = 0
     is_flipped: bool = False
     steps: int = 0
+    gave_back: bool = False
     mean_way: float = 0.0
     longest_way: float = 0.0
     angle_before: float = 0.0
@@ -139,7 +156,7 @@ class FinishReport(Report):
         if self.is_flipped:
             said.append('flipped edges')
         if self.steps:
-            said.append(f'smoothed in {number_of(self.steps, "step")}: vertices moved by {self.mean_way:.4g} on average, '
+            said.append(f'smoothed in {number_of(self.steps, "step")}{" and gave detail back" * self.gave_back}: vertices moved by {self.mean_way:.4g} on average, '
                         f'{self.longest_way:.4g} at most')
         said.append(f'the mean angle between adjacent faces changed from {self.angle_before:.1f} to {self.angle_after:.1f} degrees')
         if self.columns is not None:
@@ -185,12 +202,25 @@ class Work:
         if request.manifold:
             report.split = len(self.places) - len(np.unique(self.vertex_of))
 
-    def smooth(self) -> None:
-        """Flips and smooths; vertices keep their numbers."""
-        request, report, homes = self.request, self.report, self.places
-        self.change(FinishOptions(flips=request.flips, steps=request.steps, within=request.whole_within()), 'smoothed.ply')
+    def smooth(self, columns: list[Column]) -> None:
+        """Flips and smooths; vertices keep their numbers. Of the scan they have these columns."""
+        request, report, homes, path = self.request, self.report, self.places, self.path
+        options = FinishOptions(flips=request.flips, steps=request.steps, within=request.whole_within())
+        self.change(options, 'smoothed.ply')
+        if request.given_back is not GivenBack.NOTHING:
+            self.give_back(path, homes, replace(options, steps=MOVES), self.views_of_vertices(columns))
         far = np.linalg.norm(self.places / self.fine - homes, axis=1) / request.unit
         report.steps, report.mean_way, report.longest_way = request.steps, float(far.mean()), float(far.max())
+
+    def give_back(self, path: str, homes: np.ndarray, options: FinishOptions, views: Views | None) -> None:
+        """Moves the vertices of the mesh that was smoothed, from where they were, to where a part of what smoothing took away is given back."""
+        request = self.request
+        scanners = None if views is None or request.is_made_up else (views.places - np.array(request.origin)) * request.unit
+        targets = target_places(homes.astype(float), self.places / self.fine, self.corners.reshape(-1, 3), scanners, request.given_back)
+        self.tell(' '.join(['recon-mesh move', *options.words()]))
+        self.path, self.report.gave_back = os.path.join(self.folder, 'moved.ply'), True
+        places = np.rint(targets * self.fine).astype(np.int64)
+        self.places, self.corners, self.fine = move_mesh(path, places, options, self.path, request.program)
 
     def run(self) -> Finished:
         """Finishes the mesh, and brings columns of the scan back."""
@@ -198,16 +228,15 @@ class Work:
         with ThreadPoolExecutor(1) as pool:
             before = pool.submit(mean_angle, self.places, self.corners.reshape(-1, 3))
             self.keep_and_split()
-            homes = self.places
+            columns: list[Column] = []
+            if request.scan is not None:
+                columns = columns_of(request.scan, request.unit, self.places)
+                report.columns = [name for name, _, _ in columns]
             if request.steps:
-                self.smooth()
+                self.smooth(columns)
             report.is_flipped, report.angle_before = request.flips, before.result()
         faces = self.corners.reshape(-1, 3)
         report.angle_after = mean_angle(self.places, faces)
-        columns: list[Column] = []
-        if request.scan is not None:
-            columns = columns_of(request.scan, request.unit, homes)
-            report.columns = [name for name, _, _ in columns]
         spots = self.places / (self.fine * request.unit) + np.array(request.origin)
         face_columns: list[Column] = []
         if request.seen:
@@ -303,7 +332,7 @@ def work(names: Sequence[str], options: Any) -> FinishReport:
         options.unit = stamp[0]
     request = Request.of(options)
     faces = os.path.getsize(names[0]) / BYTES_A_FACE
-    with step('finishing', seconds=faces * (2 + request.steps) / FINISHED_A_SECOND):
+    with step('finishing', seconds=faces * request.passes() / FINISHED_A_SECOND):
         mesh, report = finished(names[0], request)
     report.stamp = stamp[1] if stamp else None
     with step('writing', seconds=faces / FINISHED_A_SECOND):

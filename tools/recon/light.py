@@ -14,7 +14,7 @@ from scipy.spatial import cKDTree
 
 from recon.finish import is_in_open, with_used
 from recon.library import rows_at
-from recon.mesh_program import FINEST, simplify_mesh
+from recon.mesh_program import FINEST, mesh_lines, simplify_mesh
 from recon.meshes import longest_edges
 from recon.toolbox.mesh_files import Finished
 from recon.toolbox.output_files import passing_folder
@@ -44,15 +44,6 @@ def whole_places(mesh: Finished, unit: int, origin: Sequence[float]) -> tuple[np
     while fine > 1 and farthest * fine > REACH:
         fine //= 2
     return np.rint(scaled * fine).astype(np.int64), fine
-
-
-def mesh_lines(places: np.ndarray, faces: np.ndarray) -> str:
-    """Returns a mesh as `recon build` writes it, the smallest index of each face first."""
-    first = faces.argmin(axis=1)
-    turned = faces[np.arange(len(faces))[:, None], (first[:, None] + np.arange(3)) % 3]
-    rows = [f'{x} {y} {z}\n' for x, y, z in places.tolist()] + [f'3 {a} {b} {c}\n' for a, b, c in turned.tolist()]
-    return (f'ply\nformat ascii 1.0\nelement vertex {len(places)}\nproperty int x\nproperty int y\nproperty int z\n'
-            f'element face {len(faces)}\nproperty list uchar int vertex_indices\nend_header\n' + ''.join(rows))
 
 
 def normals_of(places: np.ndarray, faces: np.ndarray) -> np.ndarray:

@@ -1,7 +1,7 @@
 """The program `recon-mesh`: where it is, and meshes that it finishes and simplifies.
 
-Names: mesh_program_path · FinishOptions · Whole (a mesh of whole numbers) · finish_mesh · simplify_mesh · has_command
-· run_join (joins tiles).
+Names: mesh_program_path · FinishOptions · Whole (a mesh of whole numbers) · mesh_lines (its text) · finish_mesh · move_mesh ·
+simplify_mesh · has_command · run_join (joins tiles).
 """
 from __future__ import annotations
 
@@ -52,9 +52,27 @@ class Whole(NamedTuple):
     fine: int
 
 
+def mesh_lines(places: np.ndarray, faces: np.ndarray) -> str:
+    """Returns a mesh as `recon build` writes it, the smallest index of each face first."""
+    first = faces.argmin(axis=1)
+    turned = faces[np.arange(len(faces))[:, None], (first[:, None] + np.arange(3)) % 3]
+    rows = [f'{x} {y} {z}\n' for x, y, z in places.tolist()] + [f'3 {a} {b} {c}\n' for a, b, c in turned.tolist()]
+    return (f'ply\nformat ascii 1.0\nelement vertex {len(places)}\nproperty int x\nproperty int y\nproperty int z\n'
+            f'element face {len(faces)}\nproperty list uchar int vertex_indices\nend_header\n' + ''.join(rows))
+
+
 def finish_mesh(path: str, options: FinishOptions, out: str, program: Optional[str] = None) -> Whole:
     """Finishes the mesh of a file into another file without comments, and returns it. Raises `Refusal` with the program's error, or without the program."""
     done = changed(['finish', path, out, *options.words()], program)
+    return Whole(*read_mesh(out, FINEST), done.get('fine', 1))
+
+
+def move_mesh(path: str, targets: np.ndarray, options: FinishOptions, out: str, program: Optional[str] = None) -> Whole:
+    """As `finish_mesh`, but vertices move toward these places (n, 3), whole numbers in units of the result; they are in a file beside it."""
+    name = out + '.targets'
+    with open(name, 'w', encoding='ascii') as file:
+        file.write(mesh_lines(np.clip(targets, -FINEST, FINEST), np.zeros((0, 3), np.int64)))
+    done = changed(['move', path, name, out, *options.words()], program)
     return Whole(*read_mesh(out, FINEST), done.get('fine', 1))
 
 

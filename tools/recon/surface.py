@@ -26,7 +26,7 @@ import shutil
 import sys
 import types
 import warnings
-from dataclasses import dataclass
+from dataclasses import dataclass, replace
 from pathlib import Path
 from typing import Any, Sequence
 
@@ -41,11 +41,12 @@ from recon.finish import MOST_STEPS, Request, finished
 from recon.inputs import Cloud, Inputs, read_cloud
 from recon.library import POINT_LIMIT, Surface, build_files
 from recon.light import light_mesh
-from recon.mesh_program import mesh_program_path
+from recon.mesh_program import has_command, mesh_program_path
 from recon.meshes import pieces
 from recon.outputs import Made, inputs_of, refuse_places, write_outputs
 from recon.positions import far_positions
 from recon.program import Invalid, Refused, program_path
+from recon.targets import GivenBack
 from recon.toolbox.mesh_files import Column, Finished, form_of
 from recon.toolbox.one_form import dashed, version_line
 from recon.toolbox.output_files import passing_folder, user_names
@@ -60,6 +61,8 @@ LOOKED_AT, BUILT = 8e-6, 4e-5
 # faces that recon-mesh smooths in a second, for one step
 SMOOTHED_A_SECOND = 150_000
 ROOM = 0.8
+# the noise, in spacings, over which detail and noise cannot be separated
+LARGE_NOISE = 0.22
 
 
 class NoSurface(Exception):
@@ -275,11 +278,13 @@ def request_for(surface: Surface, scan: Scan, args: Any, choices: Choices) -> Re
     apart, noise = scan.texture
     # steps that are asked for move vertices of a scan without noise too
     least_move = 0.1 * apart if args.steps else 0.0
-    move = max(float(f'{2 * noise:.2g}'), float(f'{least_move:.2g}'), 1 / scan.unit) if noise > 0.05 * apart or args.steps else 0.0
+    move = max(float(f'{3 * noise:.2g}'), float(f'{least_move:.2g}'), 1 / scan.unit) if noise > 0.05 * apart or args.steps else 0.0
     within = args.within if args.within is not None else move
-    steps = args.steps if args.steps is not None else 6 if noise > 0.3 * apart else 3
+    steps = args.steps if args.steps is not None else 6 if noise > LARGE_NOISE * apart else 3
     steps, flips = steps if within else 0, not args.no_flips
-    smoothing = len(surface.faces) * steps / SMOOTHED_A_SECOND
+    given_back = given_back_for(scan, args) if steps else GivenBack.NOTHING
+    request = Request(flips=flips, steps=steps, within=within, given_back=given_back, is_made_up=scan.cloud.is_made_up)
+    smoothing = len(surface.faces) * request.passes() / SMOOTHED_A_SECOND if steps else 0.0
     if args.steps is None and smoothing > args.patience:
         choices.warn(f'not smoothed: it would take about {smoothing / 60:.0f} minutes (--patience SECONDS allows it)')
         steps = 0
@@ -289,12 +294,23 @@ def request_for(surface: Surface, scan: Scan, args: Any, choices: Choices) -> Re
     choices.choose('flips', 'yes' if flips else 'no', 'given' if args.no_flips else 'reduces the angles between faces' if flips else 'recon-mesh was not found')
     if steps:
         choices.choose('steps', steps, 'given' if args.steps is not None else f'noise {noise:.2g} at spacing {apart:.2g}')
-        choices.choose('within', f'{within:g}', 'given' if args.within is not None else 'twice the noise' if 2 * noise >= least_move
+        choices.choose('detail', given_back.value, 'given' if args.no_detail else 'recon-mesh cannot do it' if not has_command('move') else 'no lines of sight are known' if scan.cloud.is_made_up else
+                       f'noise {noise:.2g} at spacing {apart:.2g}')
+        choices.choose('within', f'{within:g}', 'given' if args.within is not None else 'three times the noise' if 3 * noise >= least_move
                        else f'a tenth of the spacing {apart:.2g}')
     else:
         choices.choose('steps', 0, 'given' if args.steps == 0 else 'recon-mesh was not found' if not kept else 'it would exceed --patience' if within else
                        f'the noise {noise:.2g} is small compared to the spacing {apart:.2g}')
-    return Request(kept or None, flips=flips, steps=steps, within=within if steps else 0.0, unit=scan.unit, origin=scan.origin.tolist(), seen=True)
+    return replace(request, pieces=kept or None, flips=flips, steps=steps, within=within if steps else 0.0, unit=scan.unit, origin=scan.origin.tolist(),
+                   seen=True, given_back=given_back if steps else GivenBack.NOTHING)
+
+
+def given_back_for(scan: Scan, args: Any) -> GivenBack:
+    """What of the residuals of smoothing is given back: detail and noise cannot be separated where noise is large, or where lines of sight are made up."""
+    if args.no_detail or not has_command('move'):
+        return GivenBack.NOTHING
+    is_unclear = scan.cloud.is_made_up or scan.texture.noise > LARGE_NOISE * scan.texture.distance
+    return GivenBack.MEANS if is_unclear else GivenBack.MEANS_AND_DETAIL
 
 
 def colored(mesh: Finished, surface: Surface, cloud: Cloud) -> np.ndarray | None:
@@ -334,7 +350,7 @@ def made(args: Any, choices: Choices, folder: Path) -> Made:
         request = request_for(surface, scan, args, choices)
         choices.tell(f'finishing {len(surface.faces):,} faces')
         surface.views = scan.cloud.views().take(surface.source)
-        with step('finishing', seconds=len(surface.faces) * (2 + request.steps) / SMOOTHED_A_SECOND):
+        with step('finishing', seconds=len(surface.faces) * request.passes() / SMOOTHED_A_SECOND):
             mesh, report = finished(os.fspath(surface.mesh), request, mesh=surface.whole(), views=surface.views)
         colors = colored(mesh, surface, scan.cloud)
         choices.timed('finish')
@@ -387,6 +403,7 @@ def parser() -> argparse.ArgumentParser:
     group.add_argument('--no-flips', action='store_true', help='do not flip edges')
     group.add_argument('--steps', type=within(0, MOST_STEPS), metavar='N', help='number of smoothing steps')
     group.add_argument('--within', type=length, metavar='D', help='the most that smoothing may move a vertex')
+    group.add_argument('--no-detail', action='store_true', help='give nothing back of what smoothing takes away')
     group.add_argument('--patience', type=length, default=120.0, metavar='SECONDS', help='skip smoothing that would take longer (default: %(default)g)')
     group.add_argument('--faces', type=within(4, 10 ** 9), metavar='N', help='also write MESH-light, a mesh of N faces from vertices of MESH, and show it first')
     group.add_argument('--faces-within', type=length, metavar='D', help='the most that a vertex of MESH may be from MESH-light, which has more than N faces '

@@ -59,8 +59,8 @@ class Measure(InFolder):
         status, said, error = call('bench', 'surfaces', 'compare', 'cube.off', 'same.ply', 'open.ply', 'samples=500')
         lines = [line.split(' | ') for line in said.splitlines()]
         equal((status, error), (0, ''))
-        equal(lines[1][1:], ['0.000 / 0.00 / 0.0', '0.000 / 0.00 / 0.0', '0', '0', '1', '60.0', '0', '12'])
-        equal((lines[2][1], lines[2][3:]), ('7.000 / 7.00 / 7.0', ['4', '0', '1', '0.0', '0', '2']))
+        equal(lines[1][1:], ['0.000 / 0.00 / 0.0', '0.000 / 0.00 / 0.0', '0', '0', '1', '60.0', '0.0', '0', '12'])
+        equal((lines[2][1], lines[2][3:]), ('7.000 / 7.00 / 7.0', ['4', '0', '1', '0.0', '0.0', '0', '2']))
 
     @unittest.skipUnless(np is not None, 'numpy is not here')
     def test_scans_of_an_object_are_seen_from_outside(self) -> None:
