@@ -4,16 +4,16 @@ usage: dev/bench others RECON FOLDER [objects=PATH,..] [points=N] [noise=F,F,..]
 
   RECON        the built program; recon-mesh is beside it
   FOLDER       where scans and meshes are kept; a scan that is there is not made again
-  objects      triangle meshes, OFF or PLY (default: bunny00, armadillo and refined_elephant of CGAL's package, if it is
-               installed, and the furnished room of recon-make-scan)
+  objects      triangle meshes, OFF or PLY (default: six of CGAL's package, if it is installed, and the furnished room of
+               recon-make-scan)
   points       how many points a scan has (default: 42000)
   noise        standard deviations of the error along the lines of sight, in diagonals of the object (default: 0.0005,0.002)
 
 An object is scanned from 12 positions around it, the room from 4 positions in it, without outliers; coordinates are in thousandths of the
 object's diagonal.
 
-- recon: `build unit=1000 smooth=1`. Then `recon-mesh finish pieces=1`: edge flips; with smooth=3 and smooth=6, no vertex farther than twice the
-  noise.
+- recon: `build unit=1000 smooth=1`. Then `recon-finish pieces=1`: edge flips; with smooth=3, or 6 where the noise is over a third of the spacing,
+  and detail= as `recon-surface` chooses it, no vertex farther than three times the noise.
 - CGAL: the advancing front, with its default parameters.
 - COLMAP: delaunay_mesher with visibility_sigma 0.3 and no thinning (max_proj_dist 0), since each point is seen from one position;
   distance_sigma_factor 0.3 and quality_regularization 0.3. Debian's COLMAP lacks it. A build of its source has it, if libcgal-dev is
@@ -47,11 +47,13 @@ from tools_path import PACKAGE
 
 NAMES, OPTIONS = 2, ('objects', 'points', 'noise')
 HERE = os.path.dirname(os.path.abspath(__file__))
-ARCHIVE, MESHES = '/usr/share/doc/libcgal-dev/data.tar.gz', ('bunny00', 'armadillo', 'refined_elephant')
+ARCHIVE, MESHES = '/usr/share/doc/libcgal-dev/data.tar.gz', ('bunny00', 'armadillo', 'refined_elephant', 'fandisk', 'anchor_dense', 'turbine')
 # the diagonal of the room of recon-make-scan
 ROOM_DIAGONAL = (2 ** 2 + 1.6 ** 2 + 1) ** 0.5
 # How COLMAP's mesher is run. By default it is made for points that many pictures show.
 COLMAP = {'visibility_sigma': '0.3', 'max_proj_dist': '0', 'num_threads': '1', 'distance_sigma_factor': '0.3', 'quality_regularization': '0.3'}
+# the noise over which detail cannot be separated from it, a third of the spacing of most of these scans
+LARGE_NOISE = 0.0014
 PYTHON = python_with('scipy')
 MEASURE = [PYTHON, HERE, 'surfaces']
 
@@ -135,11 +137,15 @@ def of_recon(recon: str, scan: Scan) -> List[Row]:
         return []
     program = os.path.join(os.path.dirname(recon), 'recon-mesh')
     rows = [of_mesh('recon, as built', cost, program, mesh)]
-    within = f'within={round(2 * scan.noise * 1e6)}'
-    for name, options in (('flips', []), ('3 steps', ['smooth=3', within]), ('6 steps', ['smooth=6', within])):
-        path = f'{scan.base}.{name.replace(" ", "_")}'
-        finish = tried(program, 'finish', mesh, path, 'pieces=1', 'comments=no', *options)
-        rows += [] if finish is None else [of_mesh(f'recon, {name}', cost.plus(finish), program, path)]
+    flipped = scan.base + '.flips'
+    flips = tried(program, 'finish', mesh, flipped, 'pieces=1', 'comments=no')
+    rows += [] if flips is None else [of_mesh('recon, flips', cost.plus(flips), program, flipped)]
+    steps, detail = ('6', 'means') if scan.noise > LARGE_NOISE else ('3', 'yes')
+    for name, options in ((f'{steps} steps', []), (f'{steps} steps, detail', [f'detail={detail}', f'scan={scan.scan}'])):
+        path = f'{scan.base}.{"detail" if options else "steps"}.ply'
+        words = ['unit=1000', 'pieces=1', f'smooth={steps}', f'within={max(3000 * scan.noise, 0.001)}', *options]
+        finish = tried(PYTHON, PACKAGE, 'finish', mesh, path, *words)
+        rows += [] if finish is None else [Row(f'recon, {name}', cost.plus(finish), path)]
     return rows
 
 
@@ -204,16 +210,16 @@ def of_open3d(scan: Scan) -> List[Row]:
 
 def cells_of(scan: Scan, row: Row) -> List[str]:
     """Returns a line of the table. The mesh is compared with the object here."""
-    cells = [''] * 9
+    cells = [''] * 10
     if row.mesh is not None:
         said = subprocess.run([*MEASURE, 'compare', scan.object, row.mesh], capture_output=True, text=True)
         if said.returncode != 0:
             print(said.stderr.strip(), file=sys.stderr)
-        cells = (next((line.split(' | ')[1:] for line in said.stdout.splitlines() if line.startswith(row.mesh)), []) + cells)[:9]
-    there, back, is_open, edges, _, angle, crossing, faces, *_ = cells
+        cells = (next((line.split(' | ')[1:] for line in said.stdout.splitlines() if line.startswith(row.mesh)), []) + cells)[:10]
+    there, back, is_open, edges, _, angle, turn, crossing, faces, *_ = cells
     faces = f'{int(faces):,}' if faces else ''
     return [scan.name, row.program, f'{row.cost.seconds:.1f}', str(row.cost.megabytes), there, back, is_open, row.non_manifold or edges,
-            row.crossing or crossing, angle, faces]
+            row.crossing or crossing, angle, turn, faces]
 
 
 def all_objects(folder: str) -> List[str]:
@@ -243,7 +249,7 @@ def work(names: Sequence[str], options: Any) -> str:
     scans = [Scan(folder, path, options.points or '42000', noise) for noise in (options.noise or '0.0005,0.002').split(',') for path in objects]
     # programs run one after another, so that their seconds are right; then distances are computed side by side
     made = [(scan, row) for scan in scans for row in of_recon(recon, scan) + of_cgal(folder, scan) + of_colmap(scan) + of_open3d(scan)]
-    printed_head('Scan, noise', 'Program', 's', 'MB', 'To the object', 'From the object', 'Open', 'Non-manifold', 'Crossing pairs', 'Angle', 'Faces')
+    printed_head('Scan, noise', 'Program', 's', 'MB', 'To the object', 'From the object', 'Open', 'Non-manifold', 'Crossing pairs', 'Angle', 'Normals', 'Faces')
     with ThreadPoolExecutor(os.cpu_count()) as pool:
         for cells in pool.map(lambda it: cells_of(*it), made):
             printed_row(*cells)

@@ -16,7 +16,8 @@ usage: dev/bench surfaces scan OBJECT OUT [points=N] [noise=F] [stray=F] [seed=W
 A point is drawn evenly on the object together with a scanner, and kept if that scanner sees it, not at a grazing angle. `room` writes the
 room of recon-make-scan as an object, OFF in thousandths of its length 1. `compare` prints a line for each surface: distances from it to
 the object and from the object to it (mean, 95th percentile, greatest), to exact triangles; the number of open edges, and of edges with more than
-two faces (non-manifold); the number of components by edges; the mean angle between adjacent faces; and the number of pairs of faces that cross.
+two faces (non-manifold); the number of components by edges; the mean angle between adjacent faces; that between the normals of the surface and the
+nearest ones of the object; and the number of pairs of faces that cross.
 """
 from __future__ import annotations
 
@@ -150,21 +151,30 @@ def mean_angle(places: np.ndarray, faces: np.ndarray, one: np.ndarray, other: np
     return np.degrees(np.arccos(np.clip((normals[one] * normals[other]).sum(axis=1), -1, 1))).mean()
 
 
+def mean_turn(normals: np.ndarray, others: np.ndarray) -> float:
+    """Returns the mean angle between lines along normals, in degrees: the sides of a room are not oriented."""
+    lengths = np.linalg.norm(normals, axis=1) * np.linalg.norm(others, axis=1)
+    cosines = (normals * others).sum(axis=1) / np.maximum(lengths, 1e-300)
+    return float(np.degrees(np.arccos(np.minimum(np.abs(cosines), 1))).mean())
+
+
 def compare(names: Sequence[str], options: Any) -> str:
     if len(names) < 2:
         raise Refusal('compare takes an object and a surface or more')
     count = int(number(options.samples, 'samples', '50000', 10 ** 7))
     places, faces = joined(*read_object(names[0])) if yes(options.own, 'own') else placed(names[0])
     surface_of_object = Surface(places, faces)
-    print('surface | to object mean / 95 % / max | object to it | open | touching | pieces | angle | crossing pairs | faces')
+    print('surface | to object mean / 95 % / max | object to it | open | touching | pieces | angle | normals | crossing pairs | faces')
     for name in names[1:]:
         own, own_faces = joined(*read_object(name))
         draw = np.random.default_rng(1)
-        there = surface_of_object.distances(draw_places(draw, own, own_faces, count)[0])[0]
+        drawn, owner = draw_places(draw, own, own_faces, count)
+        there, nearest = surface_of_object.distances(drawn)
+        turn = mean_turn(vectors_across(own, own_faces[owner]), vectors_across(places, faces[nearest]))
         back = Surface(own, own_faces).distances(draw_places(draw, places, faces, count)[0])[0]
         open_edges, many, one, other = edges_of(own_faces)
         print(f'{name} | {told(there)} | {told(back)} | {open_edges} | {many} | {piece_count(own_faces, one, other)} | '
-              f'{mean_angle(own, own_faces, one, other):.1f} | {crossing_pairs(own, own_faces)} | {len(own_faces)}', flush=True)
+              f'{mean_angle(own, own_faces, one, other):.1f} | {turn:.1f} | {crossing_pairs(own, own_faces)} | {len(own_faces)}', flush=True)
     return f'compared {len(names) - 1} with {names[0]}'
 
 
