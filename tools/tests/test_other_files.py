@@ -113,8 +113,8 @@ class OtherFiles(InFolder):
         equal(call('scan', 'in.pcd', 'out.ply')[0], 0)
         holds('out.ply', head(2, PCD_COLUMNS, 1) + '0.5 0.25 1e-07 128 128 224 1.0 2.0 0\n2.0 3.0 4.0 0 0 0 5.0 6.0 0\n1 2 3.5\n')
         write('more.xyz', '7 8 9\n')
-        says('scan', 'read 3 points of 2 files; left out nothing; wrote 3 points and 2 scanners to out.ply', 'in.pcd',
-             'more.xyz=4,4,4', 'out.ply')
+        says('scan', 'read 3 points of 2 files; left out nothing; wrote 3 points and 2 scanners to out.ply; colors left out, since more.xyz '
+             'has none', 'in.pcd', 'more.xyz=4,4,4', 'out.ply')
         equal(read('out.ply').endswith('7 8 9 1\n1 2 3.5\n4 4 4\n'), True)
         spoiled = ((PCD.replace('ascii', 'zipped'), 'unsupported DATA of the PCD: zipped'),
                    (PCD[:-30], 'truncated: line 13, the last one, has no newline'), (PCD.replace(' 5 6', ' 5'), 'point 2 has 5 values'),
