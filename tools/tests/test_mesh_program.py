@@ -127,6 +127,12 @@ def mesh_program(*words: str) -> Any:
     return done.returncode, done.stdout, done.stderr
 
 
+USAGE = ''.join(f'usage: recon-mesh {words}\n' for words in (
+    'finish MESH OUT [pieces=N] [manifold=yes] [flips=no] [smooth=N within=D] [comments=no]',
+    'move MESH TARGETS OUT smooth=N within=D [pieces=N] [manifold=yes] [flips=no] [comments=no]',
+    'simplify MESH OUT within=D [faces=N] [surface=yes] [comments=no]', 'inspect MESH', 'check MESH OUT'))
+
+
 @unittest.skipUnless(RECON_MESH, 'recon-mesh is not built here')
 class MeshProgram(InFolder):
     def setUp(self) -> None:
@@ -149,8 +155,7 @@ class MeshProgram(InFolder):
                       ('check', 'mesh.ply', 'out.ply', 'flips=no'), ('check', 'mesh.ply', 'out.ply', 'other.ply')):
             status, line, error = mesh_program(*words)
             equal((status, line), (2, 'refused words\n'))
-            usage = 'usage: recon-mesh finish MESH OUT [pieces=N] [manifold=yes] [flips=no] [smooth=N within=D] [comments=no]\nusage: recon-mesh move MESH TARGETS OUT smooth=N within=D [pieces=N] [manifold=yes] [flips=no] [comments=no]\nusage: recon-mesh simplify MESH OUT within=D [faces=N] [comments=no]\nusage: recon-mesh inspect MESH\nusage: recon-mesh check MESH OUT\n'
-            equal(usage in error, True)
+            equal(USAGE in error, True)
         equal(os.listdir('.'), ['mesh.ply'])
 
     def test_invalid_meshes(self) -> None:
