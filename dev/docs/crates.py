@@ -57,12 +57,10 @@ def kit_faults(page: str) -> list[str]:
 
 
 def overview(page: str, heads: dict[str, list[str]]) -> str:
-    """Returns README.md with its table: a row for each crate, or for those with the same text. Crates of types or tests alone, with nothing
-    verified, have none."""
+    """Returns README.md with its table: a row for each crate, or for those with the same text."""
     rows: dict[str, list[str]] = {}
     for name, head in heads.items():
-        if not verified_of(head).startswith('nothing'):
-            rows.setdefault(verified_of(head), []).append(f'`{name}`')
+        rows.setdefault(verified_of(head), []).append(f'`{name}`')
     return between(page, BEGIN, END, table(['Crate', 'Verified'], [[', '.join(names), said] for said, names in rows.items()]))
 
 
