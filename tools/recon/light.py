@@ -98,9 +98,9 @@ def spans_unseen(mesh: Finished, fill: float, places: np.ndarray, faces: np.ndar
 
 
 def light_mesh(mesh: Finished, unit: int, origin: Sequence[float], within: float, faces: int, fill: float = 0.0,
-               program: Optional[str] = None) -> Finished:
-    """Returns a mesh of about `faces` faces from which no vertex of a finished mesh is farther than `within`, a length of the scan. Its vertices are
-    some of those of the finished mesh, with their columns. Faces have the column `unseen`: 1 where the open mesh, whose holes are filled up to `fill`, has
+               surface: bool = False) -> Finished:
+    """Returns a mesh of about `faces` faces from which no vertex of a finished mesh is farther than `within`, a length of the scan; with `surface` no
+    point of either mesh is farther from the other. Its vertices are some of those of the finished mesh, with their columns. Faces have the column `unseen`: 1 where the open mesh, whose holes are filled up to `fill`, has
     none. Raises `Refusal` if `within` is less than one unit of the mesh."""
     whole, fine = whole_places(mesh, unit, origin)
     units = min(int(within * unit * fine), FINEST)
@@ -110,7 +110,7 @@ def light_mesh(mesh: Finished, unit: int, origin: Sequence[float], within: float
         path = os.path.join(folder, 'full.ply')
         with open(path, 'w', encoding='ascii') as file:
             file.write(mesh_lines(whole, mesh.faces))
-        places, corners = simplify_mesh(path, units, faces, os.path.join(folder, 'light.ply'), program)
+        places, corners = simplify_mesh(path, units, faces, os.path.join(folder, 'light.ply'), surface=surface)
     row = rows_at(whole, places)
     light = corners.reshape(-1, 3)
     columns = [(name, kind, values[row]) for name, kind, values in mesh.columns]

@@ -202,6 +202,7 @@ def again_words(made: Made) -> list[str]:
     for key in ('divide', 'far', 'origin', 'unit', 'side', 'surround', 'smooth', 'pieces', 'steps', 'within', 'faces', 'faces-within'):
         words += [f'--{key}={chosen[key].value}'] if key in chosen else []
     words += ([f'--max-points={args.max_points}'] if args.max_points else []) + [f'--vote={args.vote}'] + (['--no-flips'] if chosen['flips'].value == 'no' else [])
+    words += ['--faces-surface'] if 'faces-surface' in chosen else []
     return words + ([f'--sweep={args.sweep}'] if args.sweep else []) + ['--force']
 
 

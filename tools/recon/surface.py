@@ -332,9 +332,11 @@ def lightened(mesh: Finished, scan: Scan, args: Any, choices: Choices) -> Finish
     reach = args.faces_within or usual
     choices.choose('faces', args.faces, 'given')
     choices.choose('faces-within', f'{reach:g}', 'given' if args.faces_within else 'the noise' if noise > 0.05 * apart else 'half of the spacing')
-    light = light_mesh(mesh, scan.unit, scan.origin.tolist(), reach, args.faces, args.fill)
+    if args.faces_surface:
+        choices.choose('faces-surface', 'yes', 'given')
+    light = light_mesh(mesh, scan.unit, scan.origin.tolist(), reach, args.faces, args.fill, args.faces_surface)
     if len(light.faces) > args.faces + 1:
-        choices.warn(f'the light mesh has {len(light.faces):,} faces: with fewer a vertex would be farther than {reach:g} from it, or faces would intersect')
+        choices.warn(f'the light mesh has {len(light.faces):,} faces: with fewer a {"point" if args.faces_surface else "vertex"} would be farther than {reach:g} from it, or faces would intersect')
     choices.timed('simplify')
     return light
 
@@ -408,6 +410,8 @@ def parser() -> argparse.ArgumentParser:
     group.add_argument('--faces', type=within(4, 10 ** 9), metavar='N', help='also write MESH-light, a mesh of N faces from vertices of MESH, and show it first')
     group.add_argument('--faces-within', type=length, metavar='D', help='the most that a vertex of MESH may be from MESH-light, which has more than N faces '
                        'where it has to (default: the noise, or half of the spacing)')
+    group.add_argument('--faces-surface', action='store_true', help='keep each point of MESH and MESH-light, not only vertices of MESH, within this distance of the '
+                       'other')
     either = group.add_mutually_exclusive_group()
     either.add_argument('--closed', action='store_true', help='write the closed mesh to MESH, whatever part of it no scanner saw')
     either.add_argument('--seen', action='store_true', help='write the mesh without faces that no scanner saw to MESH')
@@ -471,8 +475,8 @@ def run(words: Sequence[str]) -> int:
         form_of(args.output)
         if args.tiles and (args.sweep or args.side):
             raise Refusal('--tiles cannot be combined with --sweep or --side')
-        if args.faces_within and not args.faces:
-            raise Refusal('--faces-within requires --faces')
+        if (args.faces_within or args.faces_surface) and not args.faces:
+            raise Refusal(f'--faces-{"within" if args.faces_within else "surface"} requires --faces')
         refuse_places(args)
         # what is not finite is looked for where it matters
         warnings.simplefilter('ignore', RuntimeWarning)

@@ -179,6 +179,14 @@ class Outputs(InFolder):
             made('in.ply', '--faces', '200', *words)
             equal((words, self.edges_that_are_open('mesh-light.ply') > 0, self.edges_that_are_open('mesh.ply') > 0), (words, is_open, is_open))
 
+    def test_the_light_mesh_within_both_ways(self) -> None:
+        points = sphere(300)
+        write('in.ply', scan_text(points, SCANNERS, nearest(points)))
+        report = made('in.ply', '--faces', '300', '--faces-within', '0.2', '--faces-surface')
+        equal((chosen(report, 'faces-surface'), os.path.exists('mesh-light.ply')), (['yes'], True))
+        equal(b'--faces-surface' in pathlib.Path('mesh.recon/again.sh').read_bytes(), True)
+        refused('--faces-surface requires --faces', 'in.ply', '-o', 'mesh.ply', '--faces-surface')
+
     def test_holes_of_a_length(self) -> None:
         self.cap()
         made('in.ply')

@@ -157,6 +157,9 @@ class Simplify(InFolder):
         equal(light.face_columns[0][2].any(), False)
         new = [tuple(places[row]) for row in rows], light.faces.tolist()
         equal(faults((places, cut.tolist()), new, 300), [])
+        both = light_mesh(mesh, 1000, (5, 6, 7), 0.3, 200, surface=True)
+        rows = [int(np.flatnonzero((spots == place).all(axis=1))[0]) for place in both.places]
+        equal((len(both.faces) < len(cut), faults((places, cut.tolist()), ([tuple(places[row]) for row in rows], both.faces.tolist()), 300, True)), (True, []))
         self.assertRaisesRegex(Refusal, 'less than one unit', light_mesh, mesh, 1000, (5, 6, 7), 0.0000001, 100)
 
     def test_the_light_mesh_lacks_what_the_open_mesh_lacks(self) -> None:
