@@ -110,7 +110,7 @@ impl Attack {
             .first()
             .map(|x| String::from_utf8_lossy(x).into_owned())
             .unwrap_or_default();
-        let cmd = if ["finish", "check", "inspect"].contains(&first.as_str()) {
+        let cmd = if ["finish", "move", "check", "inspect"].contains(&first.as_str()) {
             first
         } else {
             "other".into()
@@ -254,6 +254,52 @@ impl Attack {
         r: &mut Rng,
     ) -> Option<Mesh> {
         let w = Self::word_list(o, "m.ply", out, r);
+        self.finished(w, bytes, mesh, o, out, r)
+    }
+    /// one run of move with the options of finish, toward random targets for the points of `now`, which the options leave
+    fn moved(
+        &mut self,
+        bytes: &[u8],
+        mesh: &Mesh,
+        now: &Mesh,
+        o: &Opts,
+        r: &mut Rng,
+    ) -> Option<Mesh> {
+        let f = scale_of(now) as i64;
+        let far = *r.pick(&[0, 1, f, 40 * f, LIMIT]);
+        let to = now.points.first().copied().unwrap_or([0; 3]);
+        let all = r.chance(1, 8);
+        let mut points: Vec<_> = now
+            .points
+            .iter()
+            .map(|p| if all { to } else { *p })
+            .collect();
+        for p in points.iter_mut() {
+            for x in p.iter_mut() {
+                *x = (*x * f + r.range(-far, far)).clamp(-LIMIT, LIMIT);
+            }
+        }
+        let faces = if r.chance(1, 4) {
+            now.faces.clone()
+        } else {
+            vec![]
+        };
+        std::fs::write("t.ply", print(&Mesh { points, faces }, None)).unwrap();
+        let mut w = Self::word_list(o, "m.ply", "v.ply", r);
+        w[0] = b"move".to_vec();
+        w.insert(2, b"t.ply".to_vec());
+        self.finished(w, bytes, mesh, o, "v.ply", r)
+    }
+    /// a run of finish or move with options, judged as above
+    fn finished(
+        &mut self,
+        w: Vec<Vec<u8>>,
+        bytes: &[u8],
+        mesh: &Mesh,
+        o: &Opts,
+        out: &str,
+        r: &mut Rng,
+    ) -> Option<Mesh> {
         let before = if r.chance(1, 2) {
             std::fs::write(out, b"old").unwrap();
             true
@@ -415,6 +461,16 @@ impl Attack {
                 return;
             };
             let cb = cc.unwrap_or_else(|| measure::crossings(&cur));
+            if r.chance(1, 2) {
+                if let Some(v) = self.moved(bytes, mesh, &cur, o, r) {
+                    let cv = measure::crossings(&v);
+                    let f = scale_of(&cur);
+                    let l = judge_smooth(&cur, &v, f, d, o.noflips, o.manifold, &cb, &cv);
+                    self.wrongs(&w, l);
+                    let text = std::fs::read("v.ply").unwrap_or_default();
+                    self.check(bytes, mesh, &text, "v.ply");
+                }
+            }
             let now = measure::crossings(&c);
             let l = judge_smooth(
                 &cur,
