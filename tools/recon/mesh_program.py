@@ -14,7 +14,7 @@ from typing import Dict, List, NamedTuple, Optional
 import numpy as np
 
 from recon.program import Refused, found_program, run
-from recon.toolbox.mesh_files import read_mesh
+from recon.toolbox.mesh_files import lines, read_mesh
 from recon.toolbox.ply_text import Refusal
 
 # no coordinate of a smoothed mesh is over it
@@ -56,9 +56,9 @@ def mesh_lines(places: np.ndarray, faces: np.ndarray) -> str:
     """Returns a mesh as `recon build` writes it, the smallest index of each face first."""
     first = faces.argmin(axis=1)
     turned = faces[np.arange(len(faces))[:, None], (first[:, None] + np.arange(3)) % 3]
-    rows = [f'{x} {y} {z}\n' for x, y, z in places.tolist()] + [f'3 {a} {b} {c}\n' for a, b, c in turned.tolist()]
+    rows = b''.join([*lines('%d %d %d\n', places), *lines('3 %d %d %d\n', turned)])
     return (f'ply\nformat ascii 1.0\nelement vertex {len(places)}\nproperty int x\nproperty int y\nproperty int z\n'
-            f'element face {len(faces)}\nproperty list uchar int vertex_indices\nend_header\n' + ''.join(rows))
+            f'element face {len(faces)}\nproperty list uchar int vertex_indices\nend_header\n' + rows.decode('ascii'))
 
 
 def finish_mesh(path: str, options: FinishOptions, out: str, program: Optional[str] = None) -> Whole:

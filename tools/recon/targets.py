@@ -19,6 +19,8 @@ from enum import Enum
 import numpy as np
 from scipy.sparse import csr_matrix
 
+from recon.toolbox.vectors import across, columns_of, dot
+
 # the least variance of an error across the surface, in parts of that along the sight
 FLOOR = 0.15 ** 2
 # squares of residuals are detail where they are over this many times those of the noise
@@ -48,13 +50,23 @@ class Patch:
     def of(cls, places: np.ndarray, faces: np.ndarray) -> Patch:
         """The vertices of a mesh; normals are by area."""
         count = len(places)
-        a, b, c = (places[faces[:, k]] for k in range(3))
-        across = np.cross(b - a, c - a)
-        sums = [np.bincount(faces.ravel(), np.repeat(across[:, k], 3), count) for k in range(3)]
-        normals = np.stack(sums, axis=1) / np.maximum(np.sqrt(sum(part * part for part in sums)), 1e-300)[:, None]
+        columns = columns_of(places)
+        ways = across(*([column[corner] for column in columns] for corner in columns_of(faces)))
+        sums = [np.bincount(faces.ravel(), np.repeat(way, 3), count) for way in ways]
+        long = np.maximum(np.sqrt(sum(part * part for part in sums)), 1e-300)
+        axes = [part / long for part in sums]
         one, other = faces.ravel(), np.roll(faces, -1, axis=1).ravel()
-        alike = np.maximum((normals[one] * normals[other]).sum(axis=1), 0.0) ** 4
-        return cls(normals, *(csr_matrix((values, (other, one)), (count, count)) for values in (np.ones(len(one)), alike)))
+        alike = np.maximum(dot([axis[one] for axis in axes], [axis[other] for axis in axes]), 0.0) ** 4
+        return cls(np.stack(axes, axis=1), *both_of(alike, other, one, count))
+
+
+def both_of(alike: np.ndarray, rows: np.ndarray, columns: np.ndarray, count: int) -> tuple[csr_matrix, csr_matrix]:
+    """Returns a matrix of ones and one of other values, at the same rows and columns: the order of these is found once, where none occurs twice."""
+    order = csr_matrix((np.arange(len(rows)), (rows, columns)), (count, count))
+    ones, form = np.ones(len(rows)), (count, count)
+    if order.nnz < len(rows):
+        return csr_matrix((ones, (rows, columns)), form), csr_matrix((alike, (rows, columns)), form)
+    return csr_matrix((ones, order.indices, order.indptr), form), csr_matrix((alike[order.data], order.indices, order.indptr), form)
 
 
 def averaged(values: np.ndarray, weights: csr_matrix, rounds: int) -> np.ndarray:
@@ -78,8 +90,9 @@ def noise_of(square: np.ndarray, cosine: np.ndarray) -> float:
 
 def square_of_spacing(places: np.ndarray, faces: np.ndarray) -> float:
     """The area of a mesh for each of its vertices, which is that of two faces: of the median one, since faces across unseen space are large."""
-    a, b, c = (places[faces[:, k]] for k in range(3))
-    return float(np.median(np.linalg.norm(np.cross(b - a, c - a), axis=1)))
+    columns = columns_of(places)
+    way = across(*([column[corner] for column in columns] for corner in columns_of(faces)))
+    return float(np.median(np.sqrt(dot(way, way))))
 
 
 def squared_cosines(homes: np.ndarray, normals: np.ndarray, scanners: np.ndarray | None) -> np.ndarray:

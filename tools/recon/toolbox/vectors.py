@@ -1,6 +1,6 @@
 """Vectors of three coordinates, each a column of numpy, or a number.
 
-Names: less, dot, across, unit, normal, angle · axes (columns of an array of places) · turn_of (a turn's matrix).
+Names: less, dot, across, unit, normal, angle · axes (columns of some rows of an array) · columns_of (all of it) · turn_of (a turn's matrix).
 """
 from __future__ import annotations
 
@@ -19,6 +19,11 @@ def axes(places: np.ndarray, numbers: np.ndarray) -> Vector:
     """Columns of coordinates."""
     rows = places[numbers]
     return rows[:, 0], rows[:, 1], rows[:, 2]
+
+
+def columns_of(rows: np.ndarray) -> Vector:
+    """The three columns of an array, each in one piece of memory."""
+    return [np.ascontiguousarray(rows[:, k]) for k in range(3)]
 
 
 def less(a: Vector, b: Vector) -> Vector:
