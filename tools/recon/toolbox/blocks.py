@@ -1,7 +1,7 @@
 """Points in blocks: some thousand rows at a time, as columns of numbers. All fast readers pass these on, to `recon-scan` and to `recon-surface`.
 
 A column has its values twice, each when it is asked for: as numbers, and as words, which keep the digits of a text. Names: Column · Numbers (an array) ·
-TextColumn (words of a text) · Bytes, Finite (colors, other values) · Scaled (whole numbers over a power of ten) · Lists (of scanners) · Block.
+TextColumn (words of a text), Wholes (digits alone) · Bytes, Finite (colors, other values) · Scaled (whole numbers over a power of ten) · Lists (of scanners) · Block.
 """
 from __future__ import annotations
 
@@ -12,7 +12,7 @@ import numpy as np
 
 from recon.toolbox.exact import shifted
 from recon.toolbox.ply_text import IS_NOT_FINITE, IS_NUMBER
-from recon.toolbox.text_columns import EXACT, NotPlain, TextRows
+from recon.toolbox.text_columns import EXACT, FieldRows, NotPlain
 
 ROWS = 1 << 15
 EXACT_POWER = 22
@@ -53,20 +53,24 @@ class Numbers(Column):
 class TextColumn(Column):
     """Words of a text, which stay as they are."""
 
-    def __init__(self, text: TextRows, column: int) -> None:
+    def __init__(self, text: FieldRows, column: int) -> None:
         self.text, self.column = text, column
-        self.values: np.ndarray | None = None
 
     def floats(self) -> np.ndarray:
-        if self.values is None:
-            self.values = self.text.floats(self.column)
-        return self.values
+        return self.text.floats(self.column)
 
     def words(self, rows: np.ndarray | None = None) -> list[str]:
         return self.text.words(self.column, rows)
 
     def decimals(self) -> tuple[np.ndarray, int]:
         return self.text.decimals(self.column)
+
+
+class Wholes(TextColumn):
+    """Whole numbers of a text, of digits alone."""
+
+    def floats(self) -> np.ndarray:
+        return self.text.wholes(self.column)
 
 
 class Bytes(Column):

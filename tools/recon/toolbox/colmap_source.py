@@ -14,14 +14,14 @@ from math import isfinite
 from typing import Any, BinaryIO, Callable, Iterator, List, Sequence, Tuple
 
 import numpy as np
-from numpy.lib.stride_tricks import sliding_window_view
 
-from recon.toolbox.blocks import Block, Lists, Numbers
+from recon.toolbox.blocks import Block, Column, Lists, Numbers, TextColumn, Wholes
 from recon.toolbox.ply_text import IS_NUMBER, ROW_LIMIT, SCANNER_LIMIT, Property, Reader, Refusal, count_in, decimals
-from recon.toolbox.row_columns import columns_of
+from recon.toolbox.read_ahead import all_rows
+from recon.toolbox.row_columns import columns_of, listed_parts
 from recon.toolbox.sieve import Mover, Passage
 from recon.toolbox.sources import Source, refuse_others
-from recon.toolbox.text_columns import NotPlain
+from recon.toolbox.text_columns import FieldRows, LineParts, NotPlain, TextRows
 from recon.toolbox.text_lines import LONGEST
 from recon.toolbox.tool import number_of, yes
 from recon.toolbox.vectors import turn_of
@@ -223,6 +223,7 @@ def sights_of(block: Block, rows: np.ndarray) -> int:
 MODEL = ('points3D.bin', 'points3D.txt')
 TRACK_LIMIT = 1 << 20
 # a point of points3D.bin before its track, packed
+TRACK = np.dtype([('picture', '<u4'), ('point', '<u4')])
 POINT = np.dtype([('id', '<u8'), ('place', '<f8', 3), ('color', 'u1', 3), ('error', '<f8'), ('count', '<u8')])
 Track = Tuple[List[str], List[int]]
 
@@ -249,43 +250,34 @@ def binary_tracks(file: BinaryIO) -> Iterator[Track]:
         raise Refusal('unexpected data after the last point')
 
 
-def track_starts(data: bytes, most: int) -> tuple[list[int], int]:
-    """Returns where the first whole points of points3D.bin begin, at most `most`, and where the last one ends."""
-    starts: list[int] = []
-    count_at, head, end, at = struct.Struct('<Q').unpack_from, POINT.itemsize, len(data), 0
-    for _ in range(min(most, end // head)):
-        if at + head > end:
-            break
-        size, = count_at(data, at + head - 8)
-        after = at + head + 8 * size
-        if after > end:
-            if size > TRACK_LIMIT:
-                raise NotPlain
-            break
-        starts.append(at)
-        at = after
-    return starts, at
-
-
 def track_parts(file: BinaryIO) -> Iterator[tuple[np.ndarray, np.ndarray]]:
     """Yields the points of points3D.bin in blocks (n,), and the numbers of the pictures of all their tracks."""
     head = file.read(8)
-    count, tail = struct.unpack('<Q', head)[0] if len(head) == 8 else 1, b''
-    while count:
-        more = file.read(8 * LISTS)
-        data = tail + more
-        starts, end = track_starts(data, count)
-        if not starts and not more:
-            raise NotPlain
-        first = np.array(starts, np.int64)
-        points = sliding_window_view(np.frombuffer(data, np.uint8, end), POINT.itemsize)[first].view(POINT).ravel() if starts else np.zeros(0, POINT)
-        sizes = points['count'].astype(np.int64)
-        offsets = np.repeat(first + POINT.itemsize - 8 * (np.cumsum(sizes) - sizes), sizes) + 8 * np.arange(int(sizes.sum()))
-        pictures: np.ndarray = np.ndarray(max(end - 3, 0), '<u4', data, 0, (1,))
-        yield points, pictures[offsets]
-        tail, count = data[end:], count - len(starts)
-    if tail or file.read(1):
+    count = struct.unpack('<Q', head)[0] if len(head) == 8 else 1
+    for points, _, track in listed_parts(file, count, POINT, struct.Struct('<Q'), TRACK, TRACK_LIMIT):
+        yield points, track['picture']
+    if file.read(1):
         raise NotPlain
+
+
+def track_rows(part: bytes) -> TextRows:
+    """The rows of some lines of points3D.txt: eight fields and two for each picture of the track."""
+    if b'#' in part:
+        raise NotPlain
+    rows = TextRows(part, 8 + 2 * 3, is_ragged=True, longest=len(part))
+    sizes = rows.line_sizes()
+    if len(sizes) and (int(sizes.min()) < 8 or (sizes % 2).any()):
+        raise NotPlain
+    return rows
+
+
+def rows_of_tracks(file: BinaryIO) -> Iterator[FieldRows]:
+    """Yields the lines of points3D.txt after its remarks."""
+    offset, line = 0, file.readline()
+    while line.startswith(b'#') or line.isspace():
+        offset, line = file.tell(), file.readline()
+    file.seek(offset)
+    return all_rows(LineParts(file, True), track_rows)
 
 
 def text_tracks(file: BinaryIO) -> Iterator[Track]:
@@ -331,15 +323,25 @@ class Sparse(Source):
             raise Refusal(f'point {self.count - 1} is seen by image {missing}, which is not in {self.images}') from None
 
     def blocks(self) -> Iterator[Block]:
-        if not self.path.endswith('.bin'):
-            raise NotPlain
         with open(self.path, 'rb') as file:
+            for columns, lists in self.parts_of(file):
+                is_finite = np.logical_and.reduce([np.isfinite(column.floats()) for column in columns[:3]])
+                self.count += len(lists.counts)
+                self.counts['seen by no image'] += int(np.count_nonzero((lists.counts == 0) & is_finite))
+                yield Block([*columns, lists], len(lists.counts), lists.counts == 0)
+
+    def parts_of(self, file: BinaryIO) -> Iterator[tuple[list[Column], Lists]]:
+        """Yields coordinates and colors of points in blocks, and who saw them."""
+        if self.path.endswith('.bin'):
             for points, pictures in track_parts(file):
-                lists = self.lists_of(points['count'].astype(np.int64), pictures)
-                block = Block([*map(Numbers, points['place'].T), *map(Numbers, points['color'].T), lists], len(points), lists.counts == 0)
-                self.count += len(points)
-                self.counts['seen by no image'] += int(np.count_nonzero((lists.counts == 0) & np.isfinite(points['place']).all(axis=1)))
-                yield block
+                yield [*map(Numbers, points['place'].T), *map(Numbers, points['color'].T)], self.lists_of(points['count'].astype(np.int64), pictures)
+            return
+        for rows in rows_of_tracks(file):
+            counts, track = rows.lists(8)
+            colors = [Wholes(rows, k) for k in (4, 5, 6)]
+            if any(int(color.floats().max(initial=0)) > 255 for color in colors):
+                raise NotPlain
+            yield [*(TextColumn(rows, k) for k in (1, 2, 3)), *colors], self.lists_of(counts // 2, track[::2])
 
     def kept_blocks(self, mover: Mover) -> Iterator[tuple[Block, np.ndarray]]:
         for block, rows in super().kept_blocks(mover):

@@ -16,6 +16,7 @@ import numpy as np
 from recon.toolbox.blocks import Block, Numbers
 from recon.toolbox.ply_text import IS_NOT_FINITE, IS_NUMBER, Property, Refusal
 from recon.toolbox.point_files import has_rows, open_points
+from recon.toolbox.read_ahead import all_rows
 from recon.toolbox.row_columns import columns_of, text_block
 from recon.toolbox.sieve import Mover, Passage, length_of
 from recon.toolbox.sources import Source, refuse_others
@@ -58,11 +59,7 @@ class NumberList:
     def blocks(self) -> Iterator[Block]:
         """Yields the rows in blocks."""
         with open(self.path, 'rb') as file:
-            lines = LineParts(file, self.open_end)
-            part = lines.part()
-            while part:
-                yield text_block(TextRows(part, self.width))
-                part = lines.part()
+            yield from map(text_block, all_rows(LineParts(file, self.open_end), lambda part: TextRows(part, self.width)))
 
 
 class Points:

@@ -140,8 +140,8 @@ class Ptx(Source):
             self.positions.append(list(map(str, station.position(number, self.choice))))
             if number == SCANNER_LIMIT:
                 raise NotPlain
-            for rows in counted_rows(lines, station.count, width):
-                point, is_empty = point_columns(rows, pose)
+            for rows in counted_rows(lines, station.count, width, pose):
+                point, is_empty = point_columns(rows, pose is not None)
                 self.counts['empty'] += int(np.count_nonzero(is_empty))
                 self.count += rows.count
                 columns = [*point, constant(number, rows.count), *extra_columns(rows, self.layout, self.more_names)]

@@ -8,7 +8,7 @@ from typing import Any, Callable, Iterator, Sequence
 
 import numpy as np
 
-from recon.toolbox.blocks import Block, Column, Numbers, constant, finite_points
+from recon.toolbox.blocks import Block, Column, Lists, Numbers, constant, finite_points
 from recon.toolbox.flight import TIMES, Above, Flight
 from recon.toolbox.ply_text import (ARE_THREE, FORMATS, IS_NUMBER, IS_WHOLE, SCANNER_LIMIT, Element, Property, Refusal, decimals, index_text,
                               read_positions)
@@ -226,6 +226,14 @@ class Listed(OfReader):
         self.weight = None if self.weighed is None else self.kept.index(self.weighed)
         for column, axis in zip(self.point, 'xyz'):
             columns[column].name = axis
+
+    def blocks(self) -> Iterator[Block]:
+        for block in self.element_blocks():
+            self.check_weights(block)
+            lists = block.columns[-1]
+            if not isinstance(lists, Lists) or int(lists.numbers.max(initial=0)) >= self.scanners.count or int(lists.numbers.min(initial=0)) < 0:
+                raise NotPlain
+            yield block
 
     def pass_vertices(self, receiver: Passage) -> None:
         row = 0

@@ -10,7 +10,9 @@ from __future__ import annotations
 import os
 from typing import Any, Callable, Iterator, List, Optional, Sequence, Tuple
 
-from recon.toolbox.blocks import Block, TextColumn, constant, finite_points
+import numpy as np
+
+from recon.toolbox.blocks import Block, Numbers, TextColumn, constant, finite_points
 from recon.toolbox.extras import FileExtras, common_extras, extra_words, extras_of, lost_extras
 from recon.toolbox.flight import Above
 from recon.toolbox.ply_text import ARE_THREE, IS_NOT_FINITE, IS_NUMBER, SCANNER_LIMIT, Refusal, decimals, read_positions
@@ -55,7 +57,7 @@ def row_blocks(path: str, open_end: bool, more: Sequence[int]) -> Iterator[Block
     reader = open_points(path, open_end)
     try:
         vertex = reader.element('vertex')
-        if vertex is None:
+        if vertex is None or vertex.has_lists():
             raise NotPlain
         order = [*vertex.point_columns(), *more]
         for element in reader.elements:
@@ -239,9 +241,10 @@ class Stations(Source):
     def blocks(self) -> Iterator[Block]:
         for (path, position), extras in zip(self.files, self.extras):
             if position is None:
-                raise NotPlain
-            self.positions.append(position)
-            yield from self.file_blocks(path, extras, len(self.positions) - 1)
+                yield from self.viewed_blocks(path)
+            else:
+                self.positions.append(position)
+                yield from self.file_blocks(path, extras, len(self.positions) - 1)
 
     def file_blocks(self, path: str, extras: FileExtras, index: int) -> Iterator[Block]:
         """Yields the points of a file in blocks, with this number of a scanner."""
@@ -249,6 +252,26 @@ class Stations(Source):
             self.count += block.count
             block.columns.insert(3, constant(index, block.count))
             yield block
+
+    def viewed_blocks(self, path: str) -> Iterator[Block]:
+        """Yields the points of a PCD in which each point has the position from which it was seen. Positions are numbered in the order of their points."""
+        reader = PcdReader(path, self.open_end)
+        try:
+            order = reader.elements[0].point_columns()
+            for block in columns_of(reader, reader.elements[0]):
+                self.count += block.count
+                place, seen_from = [block.columns[k] for k in order], block.columns[-1].floats()
+                is_seen = np.logical_and.reduce([np.isfinite(column.floats()) for column in place])
+                without = is_seen & np.isnan(seen_from)
+                is_seen &= ~without
+                self.counts['without scanner'] = self.counts.get('without scanner', 0) + int(np.count_nonzero(without))
+                known, first = np.unique(seen_from[is_seen].astype(np.int64), return_index=True)
+                numbers = np.zeros(len(reader.places), np.int64)
+                for local in known[np.argsort(first)].tolist():
+                    numbers[local] = int(self.number_of_view(reader.places[local]))
+                yield Block([*place, Numbers(numbers[np.where(is_seen, seen_from, 0).astype(np.int64)])], block.count, without)
+        finally:
+            reader.close()
 
     def remark(self) -> str:
         return lost_extras(self.extras, [path for path, _ in self.files])

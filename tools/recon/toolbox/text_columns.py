@@ -7,7 +7,7 @@ lines, some at a time) · TextRows.
 from __future__ import annotations
 
 from math import isfinite
-from typing import Any, NamedTuple
+from typing import Any, Dict, NamedTuple, Tuple
 
 import numpy as np
 
@@ -55,6 +55,72 @@ class LineParts:
         self.tail = data[cut:]
         return data[:cut]
 
+    def offset(self) -> int:
+        """Returns where the next lines begin."""
+        return int(self.file.tell()) - len(self.tail)
+
+    def go_to(self, offset: int) -> None:
+        """Makes the lines from an offset the next ones."""
+        self.file.seek(offset)
+        self.tail = b''
+
+
+class FieldRows:
+    """Rows of fields. What was asked of columns is kept, by the question and the column."""
+
+    def __init__(self) -> None:
+        self.width, self.count, self.has_words = 0, 0, False
+        self.asked: Dict[Tuple[str, int], Any] = {}
+
+    def find(self, what: str, column: int) -> Any:
+        """Answers a question. Raises `NotPlain` where the fields are other than these."""
+        raise NotImplementedError
+
+    def ask(self, what: str, column: int) -> Any:
+        if (what, column) not in self.asked:
+            self.asked[what, column] = self.find(what, column)
+        return self.asked[what, column]
+
+    def floats(self, column: int) -> np.ndarray:
+        """Returns the numbers of a column; nan for one that is not finite, and 0 where a line has no such field. Raises `NotPlain` for a word that is no
+        number."""
+        return np.asarray(self.ask('floats', column))
+
+    def longs(self, column: int) -> np.ndarray:
+        """Returns the numbers of a column with 64 bits, each the one nearest to its decimal; nan for one that is not finite. Raises `NotPlain` for a word
+        that is no number."""
+        return np.asarray(self.ask('longs', column))
+
+    def decimals(self, column: int) -> tuple[np.ndarray, int]:
+        """Returns the numbers of a column as whole ones over a power of ten, exactly. Raises `NotPlain` where one has more than eighteen digits."""
+        values, places = self.ask('decimals', column)
+        return values, places
+
+    def wholes(self, column: int) -> np.ndarray:
+        """Returns the whole numbers of a column. Raises `NotPlain` for a word that is not one to eight digits."""
+        return np.asarray(self.ask('wholes', column))
+
+    def lists(self, column: int) -> tuple[np.ndarray, np.ndarray]:
+        """Returns the whole numbers of all fields from a column on: how many each line has, and all. Raises `NotPlain` as `wholes`."""
+        counts, values = self.ask('lists', column)
+        return counts, values
+
+    def words(self, column: int, rows: np.ndarray | None = None) -> list[str]:
+        """Returns the fields of a column, of all rows or of these."""
+        return list(self.to_words(rows).words_of(column, rows))
+
+    def to_words(self, rows: np.ndarray | None) -> Any:
+        """Returns the rows of a text, for words of all or of these."""
+        self.has_words |= not self.are_few(rows)
+        return self.read_here()
+
+    def read_here(self) -> Any:
+        """Returns the rows of a text, which this process has read."""
+        return self
+
+    def are_few(self, rows: np.ndarray | None) -> bool:
+        return rows is not None and len(rows) * FEW < self.count
+
 
 class Parts(NamedTuple):
     """Where words stand: their first digits, their points (their ends where they have none), their ends, which have a minus, and which have two points."""
@@ -65,13 +131,14 @@ class Parts(NamedTuple):
     odd: np.ndarray | None = None
 
 
-class TextRows:
+class TextRows(FieldRows):
     """The fields of a part of a text, which ends with a blank, as rows of `width` fields: of each line, or where lines say nothing of all fields one after
     another. With `is_ragged` a line has as many words as it has, three or more.
 
     `marks` are the offsets of all blanks and points. Where all rows have their points in the same columns, `step` of these belong to a row."""
 
-    def __init__(self, part: bytes, width: int, by_lines: bool = True, is_ragged: bool = False) -> None:
+    def __init__(self, part: bytes, width: int, by_lines: bool = True, is_ragged: bool = False, longest: int = LONGEST_LINE) -> None:
+        super().__init__()
         if width < 1:
             raise NotPlain
         if b'\r' in part:
@@ -79,7 +146,7 @@ class TextRows:
         self.data = b' ' * PAD + part
         self.letters = np.frombuffer(self.data, np.uint8)
         self.windows: np.ndarray = np.ndarray(len(self.data) - WIDTH + 1, '<u8', self.data, 0, (1,))
-        self.width, self.step, self.at = width, 0, np.zeros(0, np.int64)
+        self.longest, self.width, self.step, self.at = longest, width, 0, np.zeros(0, np.int64)
         self.first: np.ndarray | None = None
         self.split: list[str] | None = None
         self.find_marks()
@@ -132,7 +199,7 @@ class TextRows:
         if len(self.at) == self.lines * self.width and int(np.count_nonzero(is_last)) == self.lines and is_last[self.width - 1::self.width].all():
             return
         new = self.marks[self.is_new]
-        if len(new) and int(np.diff(new, prepend=PAD).max()) > LONGEST_LINE:
+        if len(new) and int(np.diff(new, prepend=PAD).max()) > self.longest:
             raise NotPlain
         sizes = np.diff(np.searchsorted(self.marks[self.at], new, 'right'), prepend=0)
         sizes = sizes[sizes > 0]
@@ -201,9 +268,37 @@ class TextRows:
             odd |= (wrong & np.uint64(HIGHEST)) != 0
         return of_digits(digits)
 
-    def floats(self, column: int) -> np.ndarray:
-        """Returns the numbers of a column; nan for one that is not finite, and 0 where a line has no such field. Raises `NotPlain` for a word that is no
-        number."""
+    def find(self, what: str, column: int) -> Any:
+        questions = {'floats': self.find_floats, 'longs': self.find_longs, 'decimals': self.find_decimals, 'wholes': self.find_wholes,
+                     'lists': self.find_lists}
+        return questions[what](column)
+
+    def line_sizes(self) -> np.ndarray:
+        """Returns how many fields each line has."""
+        return np.full(self.count, self.width) if self.first is None else self.sizes
+
+    def find_wholes(self, column: int) -> np.ndarray:
+        return self.wholes_before(2 + self.pattern[column] + np.arange(self.count) * self.step if self.step else self.ends_of(column))
+
+    def find_lists(self, column: int) -> tuple[np.ndarray, np.ndarray]:
+        sizes = self.line_sizes()
+        counts, at = np.maximum(sizes - column, 0), np.flatnonzero(~self.is_dot)[2:] if self.step else self.at
+        # from the number of a field among all of lists to its number among all fields
+        ahead = np.cumsum(sizes) - np.cumsum(counts) - sizes + column + counts
+        return counts, self.wholes_before(at[np.repeat(ahead, counts) + np.arange(int(counts.sum()))])
+
+    def wholes_before(self, at: np.ndarray) -> np.ndarray:
+        """The whole numbers that end at these marks."""
+        ends, odd = self.marks[at], self.is_dot[at - 1]
+        sizes = ends - self.marks[at - 1] - 1
+        if odd.any() or len(sizes) and (int(sizes.min()) < 1 or int(sizes.max()) > WIDTH):
+            raise NotPlain
+        values = self.digits(ends, sizes, odd)
+        if odd.any():
+            raise NotPlain
+        return values.view(np.int64)
+
+    def find_floats(self, column: int) -> np.ndarray:
         if self.first is None or column < 3 or not (self.sizes <= column).any():
             return self.numbers(column) if self.count else np.zeros(0)
         values = np.zeros(self.count)
@@ -306,20 +401,17 @@ class TextRows:
             before = before - is_inside
         return [self.data[start:end].decode('ascii') for start, end in zip((self.marks[before] + 1).tolist(), ends.tolist())]
 
-    def words(self, column: int, rows: np.ndarray | None = None) -> list[str]:
-        """The fields of a column, of all rows or of these."""
+    def words_of(self, column: int, rows: np.ndarray | None) -> list[str]:
         if self.first is not None:
             return self.ragged_words(column, np.arange(self.count) if rows is None else rows)
-        if rows is not None and len(rows) * FEW < self.count and self.split is None:
+        if rows is not None and self.are_few(rows) and self.split is None:
             return self.some_words(column, rows)
         if self.split is None:
             self.split = self.data.decode('ascii').split()
         words = self.split[column::self.width]
         return words if rows is None else [words[row] for row in rows.tolist()]
 
-    def longs(self, column: int) -> np.ndarray:
-        """Returns the numbers of a column with 64 bits, each the one nearest to its decimal; nan for one that is not finite. Raises `NotPlain` for a word
-        that is no number."""
+    def find_longs(self, column: int) -> np.ndarray:
         parts = self.parts(column)
         whole, places = parts.dots - parts.starts, np.maximum(parts.ends - parts.dots - 1, 0)
         odd = np.zeros(self.count, bool) if parts.odd is None else parts.odd
@@ -349,8 +441,7 @@ class TextRows:
         found = iter(self.some_words(column, number[rows[has_word[rows]]]))
         return [next(found) if is_there else '0' for is_there in has_word[rows].tolist()]
 
-    def decimals(self, column: int) -> tuple[np.ndarray, int]:
-        """Returns the numbers of a column as whole ones over a power of ten, exactly. Raises `NotPlain` where one has more than eighteen digits."""
+    def find_decimals(self, column: int) -> tuple[np.ndarray, int]:
         if self.first is not None:
             raise NotPlain
         parts = self.parts(column)

@@ -9,8 +9,11 @@ import re
 from typing import Iterator, List, NamedTuple, Sequence
 
 from recon.toolbox.blocks import Bytes, Column, Finite, TextColumn
+from recon.toolbox.exact import Pose
 from recon.toolbox.ply_text import IS_NOT_FINITE, IS_NUMBER, Refusal
-from recon.toolbox.text_columns import LineParts, NotPlain, TextRows
+from recon.toolbox.posed import PosedRows
+from recon.toolbox.read_ahead import all_rows
+from recon.toolbox.text_columns import FieldRows, LineParts, NotPlain, TextRows
 from recon.toolbox.text_layout import COLORS, Layout, layout_of, named
 from recon.toolbox.text_lines import DECIMAL_COMMAS, Lines
 
@@ -79,15 +82,11 @@ def list_start(lines: Lines) -> ListStart | None:
     return ListStart(offset, sign, len(rows[0]), layout_of(rows, heading), headings)
 
 
-def list_rows(path: str, open_end: bool, start: ListStart) -> Iterator[TextRows]:
+def list_rows(path: str, open_end: bool, start: ListStart) -> Iterator[FieldRows]:
     """Yields the rows of a list of numbers."""
     with open(path, 'rb') as file:
         file.seek(start.offset)
-        lines = LineParts(file, open_end)
-        part = lines.part()
-        while part:
-            yield text_rows(part, start)
-            part = lines.part()
+        yield from all_rows(LineParts(file, open_end), lambda part: text_rows(part, start))
 
 
 def text_rows(part: bytes, start: ListStart) -> TextRows:
@@ -128,18 +127,12 @@ def scanner_layout(path: str, skipped: int) -> Layout:
     return layout_of([row for row in rows if len(row) >= 3], is_of_scanner=True)
 
 
-def counted_rows(lines: LineParts, count: int, width: int) -> Iterator[TextRows]:
-    """Yields the given number of rows, whose lines have three words or more."""
-    while count:
-        part = lines.part(count, 6)
-        if not part:
-            raise NotPlain
-        rows = TextRows(part, width, is_ragged=True)
-        count -= rows.count
-        yield rows
+def counted_rows(lines: LineParts, count: int, width: int, pose: Pose | None = None) -> Iterator[FieldRows]:
+    """Yields the given number of rows, whose lines have three words or more, moved by a matrix if there is one."""
+    return all_rows(lines, lambda part: TextRows(part, width, is_ragged=True) if pose is None else PosedRows(part, width, pose), count, 6)
 
 
-def pts_rows(path: str, open_end: bool, width: int) -> Iterator[TextRows]:
+def pts_rows(path: str, open_end: bool, width: int) -> Iterator[FieldRows]:
     """Yields the rows of a PTS, whose lines have `width` words or others."""
     with open(path, 'rb') as file:
         lines = LineParts(file, open_end)
@@ -155,7 +148,7 @@ def pts_rows(path: str, open_end: bool, width: int) -> Iterator[TextRows]:
             words = head.next_words()
 
 
-def extra_columns(rows: TextRows, layout: Layout, names: Sequence[str]) -> list[Column]:
+def extra_columns(rows: FieldRows, layout: Layout, names: Sequence[str]) -> list[Column]:
     """Returns the columns of these names. Colors are whole numbers from 0 to 255."""
     most = 1.0 if layout.are_parts else 255.0
     return [Bytes(TextColumn(rows, layout.places[name]), most) if name in COLORS else Finite(TextColumn(rows, layout.places[name]))
