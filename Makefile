@@ -86,10 +86,12 @@ bench: recon recon-mesh reference
 	$(PYTHON) dev/bench phases ./recon bench_scans $(if $(BESIDE),beside=$(BESIDE))
 	$(MAKE) --no-print-directory bench-others
 
-# Seconds, memory and distance to the object of other programs on the same scans: CGAL, COLMAP and Open3D, if they are installed (Debian: libcgal-dev,
+# Distance to the object, seconds and memory of other programs on the same scans: CGAL, COLMAP and Open3D, if they are installed (Debian: libcgal-dev,
 # libcgal-demo, colmap, python3-open3d). Then what recon-surface chooses for the clouds that Debian packs (also opencv-doc), beside Open3D.
 bench-others: recon recon-mesh
 	$(PYTHON) dev/bench others ./recon bench_scans
+	$(PYTHON) dev/bench simplified ./recon bench_scans
+	$(PYTHON) dev/bench weights ./recon bench_scans
 	$(PYTHON) dev/bench clouds ./recon bench_scans/clouds
 	$(PYTHON) dev/bench clouds_beside bench_scans/clouds
 

@@ -5,11 +5,12 @@
 
   RECON              the built program
   FOLDER             where the pictures are written
-  PICTURE            inside, sight, room, smooth, unit, scanner, slice, finish, kitten, figurine, seen; all of them where none
-                     is named
+  PICTURE            inside, sight, room, smooth, unit, scanner, slice, finish, kitten, figurine, seen, nearest; all of them where
+                     none is named
 
 Scans are made by recon-make-scan, and drawn by render.py: points on white, surfaces with their outer side warm and their
-inner side blue. `finish` and `kitten` are of objects that Debian's package libcgal-demo has. Some minutes.
+inner side blue. `finish` and `kitten` are of objects that Debian's package libcgal-demo has, `nearest` of the meshes that `make bench-others` has
+left in bench_scans. Some minutes.
 """
 from __future__ import annotations
 
@@ -34,7 +35,7 @@ from PIL import Image  # noqa: E402
 
 import render  # noqa: E402
 from tools_path import PACKAGE  # noqa: E402
-from bench import objects, sites, unseen  # noqa: E402
+from bench import objects, sites, surfaces, unseen  # noqa: E402
 
 DEV = os.path.dirname(os.path.abspath(__file__))
 CGAL = '/usr/share/doc/libcgal-dev/data.tar.gz'
@@ -299,6 +300,22 @@ def finish(folder: str, recon: str, work: str) -> None:
     side_by_side(images, titles, folder, 'finish')
 
 
+def nearest(folder: str, recon: str, work: str) -> None:
+    """What `recon` and other programs make of a scan with noise of an object, beside the object, in flat shading."""
+    kinds = {'recon': 'surface.ply', 'COLMAP': 'colmap.ply', 'advancing front': 'front.off', 'Poisson': 'poisson.ply'}
+    strips = []
+    for name, toward, centre, reach in (('armadillo', (0, 0.15, 1), (0, 250, 0), 190), ('fandisk', (0.6, -0.5, -0.6), (0, 0, 0), 330)):
+        base = os.path.join(os.path.dirname(DEV), 'bench_scans', f'{name}.42000.0.0005.')
+        meshes = [surfaces.placed(debian(work, f'meshes/{name}.off')), *(objects.read_object(base + kind) for kind in kinds.values())]
+        view = upright(render.View(toward, centre, reach, 480))
+        images = [half(render.mesh_image(view, *mesh, is_flat=True)) for mesh in meshes]
+        strips.append(np.concatenate(images, axis=1))
+    width = strips[0].shape[1] // (1 + len(kinds))
+    whole = np.concatenate([trimmed(strip) for strip in strips])
+    parts = [title(whole[:, k * width:(k + 1) * width], text) for k, text in enumerate(['object', *kinds])]
+    save(np.concatenate(parts, axis=1), folder, 'nearest')
+
+
 def upright(view: render.View) -> render.View:
     """Returns the view with y up."""
     view.right = np.cross(view.toward, [0.0, 1.0, 0.0])
@@ -371,7 +388,7 @@ def colored_mesh(path: str) -> tuple[np.ndarray, np.ndarray, np.ndarray]:
 
 
 PICTURES = {'inside': inside, 'sight': sight, 'room': room, 'smooth': smooth, 'unit': unit,
-            'scanner': scanner, 'slice': sliced, 'finish': finish, 'kitten': kitten, 'figurine': figurine, 'seen': seen}
+            'scanner': scanner, 'slice': sliced, 'finish': finish, 'kitten': kitten, 'figurine': figurine, 'seen': seen, 'nearest': nearest}
 
 
 def main() -> None:

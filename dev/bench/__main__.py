@@ -8,6 +8,8 @@ usage: dev/bench TABLE ARGUMENTS      (dev/bench TABLE --help lists the argument
   one_command     recon-surface and the programs that it runs
   phases          instructions and cache misses of build by phase
   others          other programs on the same scans, and distances to the object
+  weights         distances to the object at several area weights
+  simplified      simplified meshes, beside Open3D and CGAL
   clouds          what recon-surface chooses for the clouds that Debian packs
   clouds_beside   Open3D on these clouds
   seams           what tiles change in a mesh
@@ -30,7 +32,7 @@ if not __package__:
 
 from report import begun  # noqa: E402
 
-TABLES = ('build', 'commands', 'one_command', 'phases', 'others', 'clouds', 'clouds_beside', 'seams', 'surfaces', 'unseen', 'reading')
+TABLES = ('build', 'commands', 'one_command', 'phases', 'others', 'weights', 'simplified', 'clouds', 'clouds_beside', 'seams', 'surfaces', 'unseen', 'reading')
 
 
 def main() -> None:

@@ -1,17 +1,19 @@
 """Makes scans of a known object, and measures how far surfaces are from that object. Needs numpy and scipy.
 
-usage: dev/bench surfaces scan OBJECT OUT [points=N] [noise=F] [stray=F] [seed=WORD]
-       dev/bench surfaces compare OBJECT MESH .. [samples=N] [own=yes]
+usage: dev/bench surfaces scan OBJECT OUT .. [points=N] [noise=F,..] [stray=F] [seed=WORD]
+       dev/bench surfaces compare OBJECT MESH .. [samples=N] [own=yes] [crossing=no] [vertices=yes]
        dev/bench surfaces room OUT
 
   OBJECT             a triangle mesh, OFF or PLY; it is scaled so that its box has the diagonal 1000, but not with own=yes
   OUT                a scan of it from 12 positions around it, for `recon build` with unit=1000
   MESH               surfaces to be compared, in the scan's units, as recon-finish and recon-mesh-to-floats write them
   points=N           the number of points of the scan (default: 42000)
-  noise=F            the standard deviation of a point's error along its sight, in diagonals (default: 0.0005)
+  noise=F,..         the standard deviation of a point's error along its sight, in diagonals, of each OUT (default: 0.0005)
   stray=F            the part of the points that are outliers, half of them too short on their sight, half anywhere (default: 0)
   seed=WORD          the seed of the generator (default: 1)
   samples=N          the number of points that are drawn for distances, each way (default: 50000)
+  crossing=no        do not count pairs of faces that cross
+  vertices=yes       also print the greatest distance of a vertex of OBJECT to the surface
 
 A point is drawn evenly on the object together with a scanner, and kept if that scanner sees it, not at a grazing angle. `room` writes the
 room of recon-make-scan as an object, OFF in thousandths of its length 1. `compare` prints a line for each surface: distances from it to
@@ -25,6 +27,8 @@ import zlib
 from typing import Any, Sequence
 
 import numpy as np
+from scipy.sparse import coo_matrix
+from scipy.sparse.csgraph import connected_components
 
 from bench import triangles
 from bench.objects import Camera, Surface, draw_places, joined, read_object, vectors_across
@@ -33,7 +37,7 @@ from recon.toolbox.output_files import whole_file
 from recon.toolbox.ply_text import IS_NUMBER, Property, Refusal, Writer
 from recon.toolbox.tool import yes
 
-NAMES, OPTIONS = None, ('points', 'noise', 'stray', 'seed', 'samples', 'own')
+NAMES, OPTIONS = None, ('points', 'noise', 'stray', 'seed', 'samples', 'own', 'crossing', 'vertices')
 
 DIAGONAL = 1000.0
 GRAZING = 0.08
@@ -82,12 +86,21 @@ def seen_points(draw: np.random.Generator, places: np.ndarray, faces: np.ndarray
 
 
 def make_scan(names: Sequence[str], options: Any) -> str:
-    if len(names) != 2:
-        raise Refusal('scan takes an object and the file to be written')
-    count = int(number(options.points, 'points', '42000', 10 ** 7))
-    noise, stray = number(options.noise, 'noise', '0.0005', 1), number(options.stray, 'stray', '0', 1)
+    noises = [number(word, 'noise', '', 1) for word in (options.noise or '0.0005').split(',')]
+    if len(names) != 1 + len(noises):
+        raise Refusal('scan takes an object and the files to be written, as many as noises')
+    count, stray = int(number(options.points, 'points', '42000', 10 ** 7)), number(options.stray, 'stray', '0', 1)
     draw = np.random.default_rng(zlib.crc32((options.seed or '1').encode()))
-    points, indices, scanners = seen_points(draw, *placed(names[0]), count)
+    seen, state = seen_points(draw, *placed(names[0]), count), draw.bit_generator.state
+    for name, noise in zip(names[1:], noises):
+        draw.bit_generator.state = state
+        write_scan(name, draw, *seen, noise, stray)
+    return f'wrote {count} points and {len(seen[2])} scanners to {", ".join(names[1:])}'
+
+
+def write_scan(name: str, draw: np.random.Generator, points: np.ndarray, indices: np.ndarray, scanners: np.ndarray, noise: float, stray: float) -> None:
+    """Writes points that one of the scanners saw, with noise and outliers."""
+    count = len(points)
     sight = scanners[indices] - points
     long = np.linalg.norm(sight, axis=1)[:, None]
     seen = points + sight / long * draw.normal(0, noise * DIAGONAL, (count, 1))
@@ -96,13 +109,12 @@ def make_scan(names: Sequence[str], options: Any) -> str:
     anywhere = draw.uniform(-0.6 * DIAGONAL, 0.6 * DIAGONAL, (count, 3))
     seen[kind < stray] = short[kind < stray]
     seen[kind < stray / 2] = anywhere[kind < stray / 2]
-    with whole_file(names[1]) as file:
+    with whole_file(name) as file:
         writer = Writer(file, [Property(axis, 'double') for axis in 'xyz'] + [Property('scanner', 'int')], 'bench')
         writer.begin(True)
         for point, index in zip(seen.tolist(), indices.tolist()):
             writer.row([f'{word:.6f}' for word in point] + [str(index)])
         writer.finish([[f'{word:.6f}' for word in place] for place in scanners.tolist()])
-    return f'wrote {count} points and {len(scanners)} scanners to {names[1]}'
 
 
 def told(values: np.ndarray) -> str:
@@ -123,15 +135,7 @@ def edges_of(faces: np.ndarray) -> tuple[int, int, np.ndarray, np.ndarray]:
 
 def piece_count(faces: np.ndarray, one: np.ndarray, other: np.ndarray) -> int:
     """Returns how many pieces hang together by edges of two faces."""
-    piece = np.arange(len(faces))
-    while True:
-        least = piece.copy()
-        np.minimum.at(least, one, piece[other])
-        np.minimum.at(least, other, piece[one])
-        least = least[least]
-        if np.array_equal(least, piece):
-            return len(np.unique(piece))
-        piece = least
+    return int(connected_components(coo_matrix((np.ones(len(one)), (one, other)), (len(faces),) * 2), directed=False)[0])
 
 
 def crossing_pairs(places: np.ndarray, faces: np.ndarray) -> int:
@@ -171,10 +175,13 @@ def compare(names: Sequence[str], options: Any) -> str:
         drawn, owner = draw_places(draw, own, own_faces, count)
         there, nearest = surface_of_object.distances(drawn)
         turn = mean_turn(vectors_across(own, own_faces[owner]), vectors_across(places, faces[nearest]))
-        back = Surface(own, own_faces).distances(draw_places(draw, places, faces, count)[0])[0]
+        surface = Surface(own, own_faces)
+        back = surface.distances(draw_places(draw, places, faces, count)[0])[0]
+        far = f' | {surface.distances(places)[0].max():.3f}' if yes(options.vertices, 'vertices') else ''
         open_edges, many, one, other = edges_of(own_faces)
+        crossing = crossing_pairs(own, own_faces) if options.crossing is None or yes(options.crossing, 'crossing') else ''
         print(f'{name} | {told(there)} | {told(back)} | {open_edges} | {many} | {piece_count(own_faces, one, other)} | '
-              f'{mean_angle(own, own_faces, one, other):.1f} | {turn:.1f} | {crossing_pairs(own, own_faces)} | {len(own_faces)}', flush=True)
+              f'{mean_angle(own, own_faces, one, other):.1f} | {turn:.1f} | {crossing} | {len(own_faces)}{far}', flush=True)
     return f'compared {len(names) - 1} with {names[0]}'
 
 

@@ -5,7 +5,7 @@ usage: COMMAND | python3 dev/docs printed PAGE NAME
   PAGE     a page with a line `<!-- printed: NAME -->` and, somewhere after it, `<!-- end -->`; what stands between them is replaced
   NAME     how the page names the block, as "make bench-short"
 
-Of the input the lines of tables alone are taken: those that begin with `|`.
+Of the input the lines of tables alone are taken, those that begin with `|`, and empty lines between tables.
 """
 from __future__ import annotations
 
@@ -24,7 +24,7 @@ def main(words: list[str]) -> int:
     if len(words) != 2:
         print((__doc__ or '').strip(), file=sys.stderr)
         return 2
-    path, table = Path(words[0]), ''.join(line for line in sys.stdin if line.startswith('|'))
+    path, table = Path(words[0]), ''.join(line for line in sys.stdin if line.startswith('|') or line == '\n').strip('\n') + '\n'
     try:
         path.write_text(replaced(path.read_text(encoding='utf-8'), words[1], table), encoding='utf-8')
     except ValueError as error:
