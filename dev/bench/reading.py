@@ -6,7 +6,8 @@ usage: dev/bench reading FOLDER [rows=N] [runs=N] [only=PART]
   rows=N       the rows of each file (default: 2000000)
   runs=N       runs of each; the fastest counts (default: 3)
   only=PART    only the kinds with PART in their name
-  one=WHAT     reads or converts the file FOLDER once (read, convert), and prints seconds and MB, as the table needs them
+  helpers=yes  print the table of large texts: read by one process, and with helpers
+  one=WHAT     reads or converts the file FOLDER once (read, alone, convert), and prints seconds, those of helpers, and MB, as the tables need them
   option=WORD  an option of recon-scan for that
 
 Each file has the same points, with colors and intensity where the format has them. *Read* is `recon.tables.read_table`, by which recon-surface reads:
@@ -28,9 +29,10 @@ from bench.runs import printed_head, printed_row
 from samples import E57_END, E57_ROOT, e57, las_head, packet, physical, section, station_xml
 from recon import scan
 from recon.tables import read_table
+from recon.toolbox import read_ahead
 from recon.toolbox.tool import Options
 
-NAMES, OPTIONS = 1, ('rows', 'runs', 'only', 'one', 'option')
+NAMES, OPTIONS = 1, ('rows', 'runs', 'only', 'helpers', 'one', 'option')
 CHUNK = 100_000
 IDENTITY = ('1 0 0 0', '0 1 0 0', '0 0 1 0', '0 0 0 1')
 TURNED = ('0.6 0.8 0 0', '-0.8 0.6 0 0', '0 0 1 0', '448262.512345 5411932.75 118.25 1')
@@ -145,6 +147,45 @@ def sparse_file(path: Path, rows: int) -> None:
     images_file(path.with_name('images.bin'))
 
 
+def sparse_text(path: Path, rows: int) -> None:
+    """Writes points3D.txt, each point with a track of five pictures."""
+    text_file(path, rows, '%d %.4f %.4f %.4f %d %d %d %.2f' + ' %d %d' * 5 + '\n', lambda points, intensities, colors: np.c_[
+        np.arange(len(points)), points, colors, intensities, np.repeat(colors.sum(axis=1)[:, None] % 5 + np.arange(1, 6), 2, axis=1)], '# 3D points\n')
+    images_file(path.with_name('images.bin'))
+
+
+def list_head(kind: str, rows: int) -> str:
+    columns = [f'property double {axis}' for axis in 'xyz']
+    return '\n'.join(['ply', f'format {kind} 1.0', f'element vertex {rows}', *columns, 'property list uchar int scanner', f'element scanner {IMAGES}', *columns, 'end_header', ''])
+
+
+def list_text(path: Path, rows: int) -> None:
+    """Writes a PLY of points, each with a list of three scanners."""
+    text_file(path, rows, '%.4f %.4f %.4f 3 %d %d %d\n', lambda points, _, colors: np.c_[points, colors % IMAGES], list_head('ascii', rows))
+    with open(path, 'a', encoding='ascii') as file:
+        file.write('1 2 3\n' * IMAGES)
+
+
+def list_binary(path: Path, rows: int) -> None:
+    """Writes the same in binary."""
+    with open(path, 'wb') as file:
+        file.write(list_head('binary_little_endian', rows).encode('ascii'))
+        for points, _, colors in parts(rows):
+            records = np.zeros(len(points), [('p', '<f8', 3), ('n', 'u1'), ('s', '<i4', 3)])
+            records['p'], records['n'], records['s'] = points, 3, colors % IMAGES
+            file.write(records.tobytes())
+        file.write(np.ones((IMAGES, 3), '<f8').tobytes())
+
+
+def view_file(path: Path, rows: int) -> None:
+    """Writes a binary PCD of points that say from where they were seen, a thousand from each place."""
+    fields = 'VERSION 0.7\nFIELDS x y z vp_x vp_y vp_z\nSIZE 4 4 4 4 4 4\nTYPE F F F F F F\nCOUNT 1 1 1 1 1 1\n'
+    with open(path, 'wb') as file:
+        file.write(f'{fields}WIDTH {rows}\nHEIGHT 1\nVIEWPOINT 0 0 0 1 0 0 0\nPOINTS {rows}\nDATA binary\n'.encode('ascii'))
+        for points, _, __ in parts(rows):
+            file.write(np.c_[points, np.repeat(points[::1000], 1000, axis=0)[:len(points)]].astype('<f4').tobytes())
+
+
 def flight_file(path: Path, rows: int) -> None:
     """Writes a LAS with times, and the table of its flight."""
     with open(path, 'wb') as file:
@@ -173,40 +214,64 @@ KINDS: Dict[str, tuple[Any, ...]] = {
     'text with normals': ('normals.txt', lambda path, rows: text_file(path, rows, '%.4f %.4f %.4f %.3f %.3f %.3f\n', lambda p, *_: np.c_[p, normals_of(p)]), '=' + STATION),
     'LAS and its flight': ('flight.las', flight_file, '', 'flight=flight.txt'),
     'COLMAP, `fused.ply`': ('fused.ply', dense_file, '', 'images=images.bin'),
-    'COLMAP, `points3D.bin`': ('points3D.bin', sparse_file, '', 'images=images.bin')}
+    'COLMAP, `points3D.bin`': ('points3D.bin', sparse_file, '', 'images=images.bin'),
+    'COLMAP, `points3D.txt`': ('points3D.txt', sparse_text, '', 'images=images.bin'), 'PLY with lists, text': ('lists.ply', list_text, ''),
+    'PLY with lists, binary': ('lists_binary.ply', list_binary, ''), 'PCD with viewpoints': ('views.pcd', view_file, '')}
 
 
-def measured(words: Sequence[str]) -> tuple[float, int]:
-    """Runs this program with other arguments, and returns the seconds and the peak of memory in MB that it prints."""
+# those of them that helpers read, where they are large
+TEXTS = ('text, `X Y Z`', 'text, `X Y Z R G B`', 'CSV with a heading', 'text, 17 digits', 'PTS', 'PTX', 'PTX with a matrix', 'PLY, text')
+
+
+def measured(words: Sequence[str]) -> tuple[float, float, int]:
+    """Runs this program with other arguments, and returns the seconds, those of helpers, and the peak of memory in MB that it prints."""
     done = subprocess.run([sys.executable, os.path.dirname(os.path.abspath(__file__)), 'reading', *words], stdout=subprocess.PIPE, text=True, check=True)
-    seconds, peak = done.stdout.split()[-2:]
-    return float(seconds), int(peak)
+    seconds, of_helpers, peak = done.stdout.split()[-3:]
+    return float(seconds), float(of_helpers), int(peak)
 
 
 def one(what: str, name: str, given: str) -> str:
-    """Reads or converts a file, and prints seconds and MB."""
+    """Reads or converts a file, and prints seconds, those of helpers, and MB."""
     folder = os.path.dirname(name)
     key, _, value = given.partition('=')
     more = {key: value if value == 'yes' else os.path.join(folder, value)} if key else {}
+    if what == 'alone':
+        read_ahead.processors = lambda: 0
     start = time.process_time()
-    if what == 'read':
+    if what in ('read', 'alone'):
         table, _ = read_table([name], **more)
         table.colors()
     elif what == 'convert':
         options: Any = Options(scan.KEYS)
         vars(options).update(more)
         scan.work([name, os.path.join(folder, 'converted.ply')], options)
-    return f'{time.process_time() - start} {resource.getrusage(resource.RUSAGE_SELF).ru_maxrss // 1024}'
+    helpers = resource.getrusage(resource.RUSAGE_CHILDREN)
+    return f'{time.process_time() - start} {helpers.ru_utime + helpers.ru_stime} {resource.getrusage(resource.RUSAGE_SELF).ru_maxrss // 1024}'
 
 
 def speed(rows: int, seconds: float) -> str:
     return f'{rows / seconds / 1e6:.2f}'
 
 
+def with_helpers(folder: Path, rows: int, runs: int, only: str) -> str:
+    """Prints the table of large texts."""
+    printed_head(f'{rows:,} rows of', 'MB', 'one process, million rows/s', 'with helpers, million rows/s', 'helpers together, million rows/s')
+    for kind in (kind for kind in TEXTS if only in kind):
+        file, make, given = KINDS[kind][:3]
+        path = folder / f'{rows}_{file}'
+        if not path.exists():
+            make(path, rows)
+        (alone, _, _), (seconds, of_helpers, _) = (min(measured([f'{path}{given}', f'one={what}']) for _ in range(runs)) for what in ('alone', 'read'))
+        printed_row(kind, f'{path.stat().st_size / 1e6:,.0f}', speed(rows, alone), speed(rows, seconds), speed(rows, max(of_helpers, 1e-9)))
+    return f'{len(TEXTS)} texts'
+
+
 def work(names: Sequence[str], options: Any) -> str:
     """Measures all kinds, and prints the table."""
     if options.one:
         return one(options.one, names[0], options.option or '')
+    if options.helpers:
+        return with_helpers(Path(names[0]), int(options.rows or 2_000_000), int(options.runs or 3), options.only or '')
     folder, rows, runs = Path(names[0]), int(options.rows or 2_000_000), int(options.runs or 3)
     folder.mkdir(parents=True, exist_ok=True)
     printed_head(f'{rows:,} rows of', 'MB', 'read, million rows/s', 'peak MB', 'converted, million rows/s', 'peak MB')
@@ -218,7 +283,7 @@ def work(names: Sequence[str], options: Any) -> str:
         if not path.exists():
             make(path, rows)
         found = [min(measured([f'{path}{given}', f'one={what}', *(f'option={word}' for word in more)]) for _ in range(runs)) for what in ('read', 'convert')]
-        cells = [cell for seconds, peak in found for cell in (speed(rows, seconds), f'{peak:,}')]
+        cells = [cell for seconds, of_helpers, peak in found for cell in (speed(rows, seconds + of_helpers), f'{peak:,}')]
         printed_row(kind, f'{path.stat().st_size / 1e6:,.0f}', *cells)
         count += 1
     return f'{count} kinds'
