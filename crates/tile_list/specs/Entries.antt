@@ -1,11 +1,15 @@
 -- The text of a list of tiles.
 --
 --   axis_code axis         the letter of an axis
+--   IsCornerCoordinate z   a coordinate of the box
+--   IsBoxedCorner p, IsBoxedTile tile, IsBoxedEntry entry   all coordinates of a corner are so, of a tile, and of an entry
 --   corner_fields p end    three coordinates, each with the byte that ends it
 --   cut_line cut, tile_line tile, entry_line entry   the line of each
---   IsTileList text entries   the text states a number of tiles, from 1 to the most, and has one cut fewer than tiles: these entries
-use Rattle.std.specs.Prelude.{ℕ, ◌≡◌, ◌+◌, ◌*◌, ◌≤◌, List, ◌∷◌, ◌++◌, codes, length}
+--   IsTileList text entries   the text states a number of tiles, from 1 to the most, and has one cut fewer than tiles: these
+--                          entries, in the box
+use Rattle.std.specs.Prelude.{ℕ, ℤ, unsigned_abs, All, ⊤, ◌≡◌, ◌+◌, ◌*◌, ◌≤◌, List, ◌∷◌, ◌++◌, codes, length}
 use Rattle.std.specs.List.{flat_map}
+use Rattle.geo_sign.specs.declared.point.TheConstants.{BOX_LIMIT}
 use Rattle.line_text.specs.Numbers.{counted, signed_ended}
 use Rattle.tile_list.specs.declared.read.TheConstants.{TILE_LIMIT}
 use Rattle.tile_list.specs.declared.entry.Axis.{Axis}
@@ -21,6 +25,23 @@ abbrev pub axis_code : Axis → ℕ
 axis_code X = 120
 axis_code Y = 121
 axis_code Z = 122
+
+-- a coordinate of the box
+abbrev pub IsCornerCoordinate : ℤ → Type 0
+IsCornerCoordinate z = unsigned_abs z ≤ BOX_LIMIT
+
+-- a corner in the box
+abbrev pub IsBoxedCorner : Corner → Type 0
+IsBoxedCorner p = IsCornerCoordinate p.x × IsCornerCoordinate p.y × IsCornerCoordinate p.z
+
+-- a tile whose corners are in the box
+abbrev pub IsBoxedTile : TileLine → Type 0
+IsBoxedTile tile = IsBoxedCorner tile.low × IsBoxedCorner tile.high
+
+-- a cut, or such a tile
+abbrev pub IsBoxedEntry : Entry → Type 0
+IsBoxedEntry (entries.Cut cut) = ⊤
+IsBoxedEntry (entries.Tile tile) = IsBoxedTile tile
 
 -- three coordinates: after the first two a space, after the third this byte
 abbrev pub corner_fields : Corner → (end : ℕ) → List ℕ
@@ -45,4 +66,5 @@ pub record IsTileList (text : List ℕ) (list : List Entry) : Type 0 where
   pub least : 1 ≤ tiles
   pub most : tiles ≤ TILE_LIMIT
   pub lines : length list + 1 ≡ 2 * tiles
+  pub boxed : All IsBoxedEntry list
   pub text_is : text ≡ counted (codes "tiles ") tiles ++ flat_map entry_line list

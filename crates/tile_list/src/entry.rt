@@ -2,7 +2,7 @@
 
 ghost use Rattle.std.specs.Prelude.{◌≡◌, ◌<◌, ◌++◌, ◌∷◌, IfSome};
 ghost use Rattle.line_text.specs.Numbers.{signed_ended};
-ghost use Rattle.tile_list.specs.Entries.{axis_code, corner_fields, cut_line, entry_line, tile_line};
+ghost use Rattle.tile_list.specs.Entries.{axis_code, corner_fields, cut_line, entry_line, tile_line, IsBoxedEntry, IsBoxedCorner, IsBoxedTile, IsCornerCoordinate};
 
 use geo_sign::BOX_LIMIT;
 use line_text::{behind, cut_at, signed_first};
@@ -42,7 +42,7 @@ pub struct Corner {
 #[derive(Clone, Copy, Debug)]
 pub struct TileLine<'a> {
     /// The name of its mesh file.
-    pub file: &'a [u8],
+    pub file: &'a str,
     /// The least coordinates of its core.
     pub low: Corner,
     /// The first coordinates beyond its core.
@@ -61,7 +61,7 @@ pub enum Entry<'a> {
 /// Returns a coordinate of the box at the start of a text, and the text after its end.
 fn coordinate_first(text: &[u8], end: u8) -> Option<(i64, &[u8])>
     requires { end < 45 }
-    ensures { IfSome result (λ read. text.now ≡ signed_ended read.0 end ++ read.1.now) }
+    ensures { IfSome result (λ read. IsCornerCoordinate read.0 × (text.now ≡ signed_ended read.0 end ++ read.1.now)) }
 {
     signed_first(text, end, -(BOX_LIMIT as i64), BOX_LIMIT as i64)
 }
@@ -69,7 +69,8 @@ fn coordinate_first(text: &[u8], end: u8) -> Option<(i64, &[u8])>
 /// Returns the corner of a core at the start of a text, and the text after its end.
 fn corner_first(text: &[u8], end: u8) -> Option<(Corner, &[u8])>
     requires { end < 45 }
-    ensures { IfSome result (λ read. text.now ≡ corner_fields read.0 end ++ read.1.now) }
+    ensures boxed { IfSome result (λ read. IsBoxedCorner read.0) }
+    ensures text { IfSome result (λ read. text.now ≡ corner_fields read.0 end ++ read.1.now) }
 {
     let (x, rest) = coordinate_first(text, b' ')?;
     let (y, rest) = coordinate_first(rest, b' ')?;
@@ -110,13 +111,18 @@ fn is_file_name(name: &[u8]) -> bool {
 
 /// Returns the tile in the first line of a text, and the text after the line.
 fn tile_first(text: &[u8]) -> Option<(TileLine<'_>, &[u8])>
-    ensures { IfSome result (λ read. text.now ≡ tile_line read.0 ++ read.1.now) }
+    ensures boxed { IfSome result (λ read. IsBoxedTile read.0) }
+    ensures text { IfSome result (λ read. text.now ≡ tile_line read.0 ++ read.1.now) }
 {
     let rest = behind(text, b"tile ")?;
     let (file, rest) = cut_at(rest, b' ')?;
     if !is_file_name(file) {
         return None;
     }
+    let file = match str::from_utf8(file) {
+        Ok(file) => file,
+        Err(_) => return None,
+    };
     let (low, rest) = corner_first(rest, b' ')?;
     let (high, rest) = corner_first(rest, b'\n')?;
     Some((TileLine { file, low, high }, rest))
@@ -124,7 +130,8 @@ fn tile_first(text: &[u8]) -> Option<(TileLine<'_>, &[u8])>
 
 /// Returns the entry in the first line of a text, and the text after the line.
 pub(crate) fn entry_first(text: &[u8]) -> Option<(Entry<'_>, &[u8])>
-    ensures { IfSome result (λ read. text.now ≡ entry_line read.0 ++ read.1.now) }
+    ensures boxed { IfSome result (λ read. IsBoxedEntry read.0) }
+    ensures text { IfSome result (λ read. text.now ≡ entry_line read.0 ++ read.1.now) }
 {
     if let Some((cut, rest)) = cut_first(text) {
         return Some((Entry::Cut(cut), rest));

@@ -1,8 +1,8 @@
 //! Reads the list.
 
-ghost use Rattle.std.specs.Prelude.{◌≡◌, ◌++◌, IfOk, length};
+ghost use Rattle.std.specs.Prelude.{◌≡◌, ◌++◌, IfOk, All, length};
 ghost use Rattle.std.specs.List.{flat_map};
-ghost use Rattle.tile_list.specs.Entries.{entry_line, IsTileList};
+ghost use Rattle.tile_list.specs.Entries.{entry_line, IsBoxedEntry, IsTileList};
 
 use crate::entry::{Entry, entry_first};
 use line_text::{LineRefusal, counted_within, refusal_of};
@@ -17,7 +17,8 @@ fn entries_first(
     text: &[u8],
     count: u64,
 ) -> Result<(Vec<Entry<'_>>, &[u8]), LineRefusal>
-    ensures { IfOk result (λ read. (length read.0.items ≡ count) × (text.now ≡ flat_map entry_line read.0.items ++ read.1.now)) }
+    ensures text { IfOk result (λ read. (length read.0.items ≡ count) × (text.now ≡ flat_map entry_line read.0.items ++ read.1.now)) }
+    ensures boxed { IfOk result (λ read. All IsBoxedEntry read.0.items) }
 {
     let mut entries = Vec::new(alloc);
     let mut rest = text;
