@@ -1,0 +1,2 @@
+mod FileReads
+mod JoinReplies
