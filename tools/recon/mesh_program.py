@@ -105,8 +105,10 @@ def has_command(name: str) -> bool:
 
 
 def run_join(tiles: str, out: str) -> Dict[str, int]:
-    """Joins the meshes of a list of tiles into another file, and returns the numbers of the program's line."""
+    """Joins the meshes of a list of tiles, which are in its folder, into another file, and returns the numbers of the program's line."""
+    folder, name = os.path.split(os.path.abspath(tiles))
+    program = mesh_program_path()
     try:
-        return run(['join', tiles, out], mesh_program_path())
+        return run(['join', name, os.path.abspath(out)], os.path.abspath(program) if program and os.sep in program else program, folder=folder)
     except Refused as error:
         raise Refusal(f'recon-mesh: {error}') from None

@@ -56,12 +56,14 @@ def found_program(name: str, crate: str) -> str | None:
     return shutil.which(name)
 
 
-def run(words: Sequence[object], program: str | None = None, is_shown: bool = False, watch: Callable[[str], None] | None = None) -> dict[str, int]:
+def run(words: Sequence[object], program: str | None = None, is_shown: bool = False, watch: Callable[[str], None] | None = None,
+        folder: str | None = None) -> dict[str, int]:
     """Runs the program with these arguments, and returns the numbers of the line that it prints, by their keys: `points 4 faces 4`
     is {'points': 4, 'faces': 4}. Raises `Refused` if it ends with another status than 0. With `is_shown` its progress goes to
-    standard error; with `watch` that gets the text of its progress."""
+    standard error; with `watch` that gets the text of its progress. It runs in the given folder, or where this process does."""
     command = [program_path(program), *map(str, words)]
-    done = run_watched(command, watch) if watch else run_child(command, stdout=subprocess.PIPE, stderr=None if is_shown else subprocess.PIPE)
+    done = (run_watched(command, watch) if watch else
+            run_child(command, stdout=subprocess.PIPE, stderr=None if is_shown else subprocess.PIPE, cwd=folder))
     if done.returncode:
         said = [line[7:] if line.startswith('recon: ') else line for line in (done.stderr or '').splitlines()]
         raise Refused(done.returncode, done.stdout.strip(), '; '.join(said))

@@ -127,10 +127,12 @@ def mesh_program(*words: str) -> Any:
     return done.returncode, done.stdout, done.stderr
 
 
+TILES = ('tiles 2\ncut x 4000\ntile a.ply -2097152 -2097152 -2097152 4000 2097152 2097152\n'
+         'tile b.ply 4000 -2097152 -2097152 2097152 2097152 2097152\n')
 USAGE = ''.join(f'usage: recon-mesh {words}\n' for words in (
     'finish MESH OUT [pieces=N] [manifold=yes] [flips=no] [smooth=N within=D] [comments=no]',
     'move MESH TARGETS OUT smooth=N within=D [pieces=N] [manifold=yes] [flips=no] [comments=no]',
-    'simplify MESH OUT within=D [faces=N] [surface=yes] [comments=no]', 'inspect MESH', 'check MESH OUT'))
+    'simplify MESH OUT within=D [faces=N] [surface=yes] [comments=no]', 'join TILES OUT', 'inspect MESH', 'check MESH OUT'))
 
 
 @unittest.skipUnless(RECON_MESH, 'recon-mesh is not built here')
@@ -151,6 +153,7 @@ class MeshProgram(InFolder):
                       ('move', 'mesh.ply', 'mesh.ply', 'out.ply', *MOVING), ('move', 'mesh.ply', 'to.ply', 'to.ply', *MOVING),
                       ('move', 'mesh.ply', 'to.ply', 'out.ply', 'smooth=1'), ('move', 'mesh.ply', '', 'out.ply', *MOVING),
                       ('Finish', 'mesh.ply', 'out.ply'), ('inspect',), ('inspect', ''), ('inspect', 'mesh.ply', 'out.ply'),
+                      ('join',), ('join', 'mesh.ply'), ('join', 'mesh.ply', 'mesh.ply'), ('join', 'mesh.ply', 'out.ply', 'comments=no'),
                       ('check',), ('check', 'mesh.ply'), ('check', 'mesh.ply', 'mesh.ply'), ('check', '', 'out.ply'), ('check', 'mesh.ply', ''),
                       ('check', 'mesh.ply', 'out.ply', 'flips=no'), ('check', 'mesh.ply', 'out.ply', 'other.ply')):
             status, line, error = mesh_program(*words)
@@ -332,6 +335,41 @@ class MeshProgram(InFolder):
             equal(mesh_program('finish', 'mesh.ply', 'out.ply', f'within={within}', 'manifold=yes', 'smooth=100'), (0, line, ''))
             moves = [difference([fine * x for x in p], q) for p, q in zip(points, mesh_of(read('out.ply'))[0])]
             equal(all(sum(x * x for x in move) <= (fine * within) ** 2 for move in moves), True)
+
+    def test_tiles_are_joined(self) -> None:
+        for name, (points, faces) in (('a.ply', (POINTS, FACES)), ('b.ply', (moved(POINTS, (9000, 0, 0)), FACES))):
+            write(name, mesh_text(points, faces))
+        write('list', TILES)
+        equal(mesh_program('join', 'list', 'out.ply'), (0, 'joined tiles 2 points 8 faces 8 moved 0 filled 0\n', ''))
+        equal(mesh_program('inspect', 'out.ply')[1], f'inspected points 8 faces 8 closed yes nonmanifold_edges 0 nonmanifold_vertices 0 pieces 2 flat_faces 0 '
+              f'{NO_PAIR} volume 32000000/6\n')
+        # a mesh that both tiles have is there once
+        write('b.ply', read('a.ply'))
+        equal(mesh_program('join', 'list', 'same.ply')[:2], (0, 'joined tiles 2 points 4 faces 4 moved 0 filled 0\n'))
+        equal(mesh_program('inspect', 'same.ply')[1].endswith('volume 16000000/6\n'), True)
+
+    def test_tiles_that_are_not_joined(self) -> None:
+        good = mesh_text(POINTS, FACES)
+        write('a.ply', good)
+        write('out.ply', 'as it was')
+        lines = TILES.splitlines(keepends=True)
+        for text, line in ((TILES[:-1], 'refused 38 tiles_cut'), ('', 'refused 38 tiles_cut'), (TILES + '\n', 'refused 37 tiles_line line 5'),
+                           (TILES.replace('cut x', 'cut w'), 'refused 37 tiles_line line 2'), (TILES.replace('s 2', 's 0'), 'refused 37 tiles_line line 1'),
+                           (TILES.replace('b.ply', '../b.ply'), 'refused 37 tiles_line line 4'), (''.join(lines[:3]), 'refused 38 tiles_cut')):
+            write('list', text)
+            status, said, error = mesh_program('join', 'list', 'out.ply')
+            equal((status, said, error.startswith('recon-mesh: ')), (3, line + '\n', True))
+        write('list', TILES)
+        flat = mesh_text([(0, 0, 0), (0, 0, 0), (1, 0, 0), (0, 1, 0)], [(0, 1, 2)])
+        for text, line in ((good[:-1], 'refused 40 tile_cut tile 1'), (good + '\n', 'refused 39 tile_line tile 1 line 18'),
+                           (good.replace('3 0 1 2', '3 0 1 4'), 'refused 39 tile_line tile 1 line 14'), (flat, 'refused 41 flat_tile tile 1')):
+            write('b.ply', text)
+            status, said, error = mesh_program('join', 'list', 'out.ply')
+            equal((status, said, error.startswith('recon-mesh: ')), (3, line + '\n', True))
+        os.remove('b.ply')
+        equal(mesh_program('join', 'list', 'out.ply')[:2], (4, ''))
+        equal(mesh_program('join', 'none', 'out.ply')[:2], (4, ''))
+        equal(read('out.ply'), 'as it was')
 
     def test_a_mesh_that_is_not_closed(self) -> None:
         write('mesh.ply', mesh_text(POINTS, FACES[1:]))

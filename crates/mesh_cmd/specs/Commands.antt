@@ -5,6 +5,7 @@
 --                                options
 --   move_of words                what the arguments after `move` ask for: three names, and options of `finish` with smoothing
 --   inspect_of words             what the argument after `inspect` asks for: one name that is not empty
+--   join_of words                what the arguments after `join` ask for: two names, not empty and not equal
 --   confirm_of words             what the arguments after `check` ask for: two names, not empty and not equal
 --   command_of words             the command that the arguments ask for, if they are valid
 --   asked command                a command as the program holds it
@@ -22,6 +23,7 @@ use Rattle.command_run.specs.Outcome.{Run}
 use Rattle.command_run.specs.Words.{Names, are_names}
 use Rattle.command_run.specs.declared.status.Status.{Status}
 use Rattle.command_run.specs.declared.status.Status.TheVariants.{Done, No, BadArguments, Refused, Failed, NoMemory}
+use Rattle.join_cmd.specs.Join.{join_names, join_task}
 use Rattle.mesh_cmd.specs.Check.{confirm_names, confirm_task}
 use Rattle.mesh_cmd.specs.Finish.{finish_names, finish_task}
 use Rattle.mesh_cmd.specs.Inspect.{inspect_task}
@@ -39,6 +41,7 @@ pub data Asked : Type 0 where
   finish : Names → FinishRequest → Asked
   move : MoveNames → FinishRequest → Asked
   simplify : Names → SimplifyRequest → Asked
+  join : Names → Asked
   inspect : List ℕ → Asked
   check : Names → Asked
 
@@ -70,6 +73,14 @@ simplify_of (mesh ∷ output ∷ options) =
     then option_map (simplify (record { input = mesh; output = output })) (simplify_request options)
     else None
 
+-- two names
+abbrev pub join_of : List (List ℕ) → Option Asked
+join_of [] = None
+join_of (tiles ∷ []) = None
+join_of (tiles ∷ output ∷ []) =
+    if are_names (tiles ∷ output ∷ []) then Some (join (record { input = tiles; output = output })) else None
+join_of (tiles ∷ output ∷ other ∷ words) = None
+
 -- one name
 abbrev pub inspect_of : List (List ℕ) → Option Asked
 inspect_of [] = None
@@ -91,6 +102,7 @@ command_of (word ∷ words) =
     if bytes_eq word (codes "finish") then finish_of words
     else if bytes_eq word (codes "move") then move_of words
     else if bytes_eq word (codes "simplify") then simplify_of words
+    else if bytes_eq word (codes "join") then join_of words
     else if bytes_eq word (codes "inspect") then inspect_of words
     else if bytes_eq word (codes "check") then confirm_of words
     else None
@@ -100,6 +112,7 @@ abbrev pub asked : Command → Asked
 asked (commands.Finish words) = finish (finish_names words) words.request
 asked (commands.Move words) = move (move_names words) words.request
 asked (commands.Simplify words) = simplify (simplify_names words) words.request
+asked (commands.Join words) = join (join_names words)
 asked (commands.Inspect words) = inspect words.mesh.now
 asked (commands.Check words) = check (confirm_names words)
 
@@ -108,6 +121,7 @@ abbrev pub task_of : Asked → Task
 task_of (finish names request) = finish_task names request
 task_of (move names request) = move_task names request
 task_of (simplify names request) = simplify_task names request
+task_of (join names) = join_task names
 task_of (inspect name) = inspect_task name
 task_of (check names) = confirm_task names
 

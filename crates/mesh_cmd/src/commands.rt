@@ -8,6 +8,7 @@ ghost use Rattle.mesh_cmd.specs.Commands.{command_of, asked, task_of};
 mod check;
 mod finish;
 mod inspect;
+mod join;
 mod moving;
 mod simplify;
 
@@ -19,6 +20,8 @@ use finish::{finish_command, reply_to_finish};
 use host::Host;
 use inspect::{inspect_command, reply_to_inspect};
 pub use inspect::{InspectWords, Measures};
+use join::join_command;
+use join_cmd::{JoinWords, reply_to_join};
 pub use moving::MoveWords;
 use moving::{move_command, reply_to_move};
 pub use simplify::SimplifyWords;
@@ -39,6 +42,9 @@ pub enum Command<'a> {
     /// stays at most D units from a face, down to N faces, and writes the result with its provenance. With `surface=yes` each point of
     /// either mesh is at most D units from the other.
     Simplify(SimplifyWords<'a>),
+    /// `join TILES OUT`: reads the list of the tiles of a scan and the mesh of each, and writes one closed mesh. Each edge takes the faces
+    /// of one tile.
+    Join(JoinWords<'a>),
     /// `inspect MESH`: reads the mesh and says its measures.
     Inspect(InspectWords<'a>),
     /// `check MESH OUT`: reads the mesh and a finished or simplified one, and says whether the second is what its comments state, of the first.
@@ -58,6 +64,7 @@ pub fn understand(words: &[String]) -> Option<Command<'_>>
         "finish" => finish_command(words),
         "move" => move_command(words),
         "simplify" => simplify_command(words),
+        "join" => join_command(words),
         "inspect" => inspect_command(words),
         "check" => check_command(words),
         _ => None,
@@ -79,6 +86,7 @@ pub fn reply_to<'a, H: Host>(
         Command::Finish(words) => reply_to_finish(alloc, host, words),
         Command::Move(words) => reply_to_move(alloc, host, words),
         Command::Simplify(words) => reply_to_simplify(alloc, host, words),
+        Command::Join(words) => reply_to_join(alloc, host, words),
         Command::Inspect(words) => reply_to_inspect(alloc, host, words),
         Command::Check(words) => reply_to_check(alloc, host, words),
     }

@@ -7,7 +7,7 @@
 //! a file of its own there and in `src/commands`. What a run does to its host is stated once for all commands, in `command_run`.
 //!
 //! It depends on `command_run` (answers and what a run does), `mesh_finish` (finished meshes), `mesh_check` (what such a mesh has to
-//! be), `mesh_measures` and `mesh_crossings` (measures), `mesh_provenance` (their text, with where they come from) and `sha2`.
+//! be), `join_cmd` (joins), `mesh_measures` and `mesh_crossings` (measures), `mesh_provenance` (their text, with where they come from) and `sha2`.
 #![tactic(auto)]
 
 mod commands;
@@ -24,6 +24,7 @@ pub use commands::{
 };
 pub use finish_options::{FinishOptions, SimplifyOptions};
 pub use input::{InputMesh, InputReading, Role, read_input};
+pub use join_cmd::JoinWords;
 pub use laws::the_limits_are_these;
 pub use mesh_provenance::Provenance;
 pub use options::FinishRequest;

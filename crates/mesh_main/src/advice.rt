@@ -4,7 +4,7 @@
 use real_host::Advice;
 
 /// The commands, each with its arguments.
-const USES: [(&str, &str); 5] = [
+const USES: [(&str, &str); 6] = [
     (
         "finish",
         "MESH OUT [pieces=N] [manifold=yes] [flips=no] [smooth=N within=D] [comments=no]",
@@ -17,12 +17,13 @@ const USES: [(&str, &str); 5] = [
         "simplify",
         "MESH OUT within=D [faces=N] [surface=yes] [comments=no]",
     ),
+    ("join", "TILES OUT"),
     ("inspect", "MESH"),
     ("check", "MESH OUT"),
 ];
 
 /// How the line of an error begins, and how to fix what caused it.
-const CURES: [(&[u8], &str); 20] = [
+const CURES: [(&[u8], &str); 29] = [
     (
         b"refused 19 too_long mesh",
         "over 4 GiB, so most likely another file than was meant",
@@ -70,6 +71,42 @@ const CURES: [(&[u8], &str); 20] = [
     (
         b"refused 36 targets_count",
         "the targets are t points, and the mesh would have p: take the vertices of finish with the same options",
+    ),
+    (
+        b"refused 19 too_long tiles",
+        "over 4 GiB, so most likely another file than was meant",
+    ),
+    (
+        b"refused 19 too_long tile",
+        "the mesh of this tile, counted from 0, is over 4 GiB: split the scan into smaller tiles",
+    ),
+    (
+        b"refused 37 tiles_line",
+        "this line is not as recon-tiles split wrote it: take that file",
+    ),
+    (
+        b"refused 38 tiles_cut",
+        "the list of tiles is truncated: take the file that recon-tiles split wrote",
+    ),
+    (
+        b"refused 39 tile_line",
+        "the mesh of this tile, counted from 0, is not as recon build wrote it: run its job again",
+    ),
+    (
+        b"refused 40 tile_cut",
+        "the mesh of this tile, counted from 0, is truncated: run its job again",
+    ),
+    (
+        b"refused 41 flat_tile",
+        "the mesh of this tile, counted from 0, has a face with two vertices at one place: take the mesh that recon build wrote",
+    ),
+    (
+        b"refused 42 too_many_places",
+        "the meshes have 4,294,967,296 vertices or more: join fewer tiles",
+    ),
+    (
+        b"refused 43 open_join",
+        "the tiles do not fit together, or the mesh of one is not closed: take those of one run of recon-tiles split, with more overlap",
     ),
     (
         b"no 1 not_stated",
