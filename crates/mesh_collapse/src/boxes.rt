@@ -2,7 +2,8 @@
 //! level below. Boxes only grow, so each contains, at any time, all faces below it.
 
 use crate::NoMemory;
-use crate::surface::Surface;
+use crate::surface::hull_among;
+use geo_sign::Point;
 use hull_tree::Hull;
 use std::alloc::Global;
 
@@ -64,11 +65,15 @@ impl Boxes {
         })
     }
 
-    /// Returns the boxes of the faces that are left.
-    pub(crate) fn of(alloc: Global, surface: &Surface) -> Result<Boxes, NoMemory> {
-        let mut boxes = Boxes::empty(alloc, surface.faces.len())?;
-        for (f, face) in surface.faces.iter().enumerate() {
-            boxes.cover(f, surface.hull(*face));
+    /// Returns the boxes of faces, those that are gone left out.
+    pub(crate) fn of(
+        alloc: Global,
+        points: &[Point],
+        faces: &[[u32; 3]],
+    ) -> Result<Boxes, NoMemory> {
+        let mut boxes = Boxes::empty(alloc, faces.len())?;
+        for (f, face) in faces.iter().enumerate() {
+            boxes.cover(f, hull_among(points, *face));
         }
         Ok(boxes)
     }

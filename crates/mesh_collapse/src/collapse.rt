@@ -7,10 +7,12 @@ use crate::commit::commit;
 use crate::costs::cheapest;
 use crate::fan::Fan;
 use crate::fans::find_fans;
+use crate::given::Given;
 use crate::homes::collapsed_of;
 use crate::link::Marks;
 use crate::numbers::{NONE, number_at, put};
 use crate::order::{Ordered, along_curve, first_numbers};
+use crate::over::are_over;
 use crate::passes::make_passes;
 use crate::reach::{Lists, keeps_points};
 use crate::shape::has_shape;
@@ -52,7 +54,6 @@ pub(crate) struct Work {
     pub(crate) cheapest: Vec<u32>,
     /// Up to which cost collapses of each vertex have failed.
     pub(crate) floors: Vec<f64>,
-    pub(crate) within: f64,
     /// The number of each given vertex along the curve.
     pub(crate) vertices: Vec<u32>,
 }
@@ -69,10 +70,13 @@ pub(crate) fn try_edge(work: &mut Work, fan: &mut Fan, edge: u32) -> Result<bool
     if !has_shape(&work.surface, fan, u, v)? {
         return Ok(false);
     }
-    if !keeps_points(&work.surface, &work.lists, fan, u, work.within)? {
+    if !keeps_points(&work.surface, &work.lists, fan, u)? {
         return Ok(false);
     }
     if !is_clear(&work.surface, &work.boxes, fan, v) {
+        return Ok(false);
+    }
+    if !are_over(&work.lists.given, &work.surface, fan, v) {
         return Ok(false);
     }
     commit(work, fan, u, v);
@@ -103,7 +107,7 @@ pub(crate) fn cost_of(work: &mut Work, u: u32) -> f64 {
 }
 
 /// Returns the work on a mesh.
-fn work_on(alloc: Global, ordered: Ordered, within: u32) -> Result<Work, NoMemory> {
+fn work_on(alloc: Global, ordered: Ordered, given: Given) -> Result<Work, NoMemory> {
     let Ordered {
         vertices,
         places,
@@ -124,8 +128,8 @@ fn work_on(alloc: Global, ordered: Ordered, within: u32) -> Result<Work, NoMemor
     };
     find_fans(alloc, &mut surface)?;
     Ok(Work {
-        lists: Lists::empty(alloc, &surface.places, live)?,
-        boxes: Boxes::of(alloc, &surface)?,
+        lists: Lists::of(alloc, given, live)?,
+        boxes: Boxes::of(alloc, &surface.places, &surface.faces)?,
         marks: Marks {
             marks: vec![in alloc; 0; count]?,
             stamp: 0,
@@ -133,10 +137,39 @@ fn work_on(alloc: Global, ordered: Ordered, within: u32) -> Result<Work, NoMemor
         costs: vec![in alloc; -1.0; count]?,
         cheapest: vec![in alloc; NONE; count]?,
         floors: vec![in alloc; -1.0; count]?,
-        within: f64::from(within),
         vertices,
         surface,
     })
+}
+
+/// Returns the limits of vertices in their order, the same one for all if none are given.
+fn limits_of(
+    alloc: Global,
+    vertices: &[u32],
+    within: u32,
+    limits: &[u32],
+) -> Result<Vec<u32>, NoMemory> {
+    let mut list = Vec::with_capacity(alloc, vertices.len())?;
+    for v in vertices {
+        list.push(limits.get(*v as usize).copied().unwrap_or(within))?;
+    }
+    Ok(list)
+}
+
+/// Returns the given mesh in its order, with its faces if limits are given.
+fn given_of(
+    alloc: Global,
+    ordered: &Ordered,
+    within: u32,
+    limits: &[u32],
+) -> Result<Given, NoMemory> {
+    let list = limits_of(alloc, &ordered.vertices, within, limits)?;
+    let faces = if limits.is_empty() {
+        &[]
+    } else {
+        &ordered.faces[..]
+    };
+    Given::of(alloc, &ordered.places, faces, list)
 }
 
 /// Collapses edges of a mesh while its given vertices stay within a distance of the faces, down to a number of faces.
@@ -147,9 +180,11 @@ pub fn collapse_edges(
     points: &[Point],
     faces: &[[u32; 3]],
     request: Request,
+    limits: &[u32],
 ) -> Result<Collapsed, NoMemory> {
     let ordered = along_curve(alloc, points, faces)?;
-    let mut work = work_on(alloc, ordered, request.within)?;
+    let given = given_of(alloc, &ordered, request.within, limits)?;
+    let mut work = work_on(alloc, ordered, given)?;
     let mut fan = Fan::empty(alloc);
     make_passes(alloc, &mut work, &mut fan, request.faces as usize)?;
     collapsed_of(alloc, &work)

@@ -18,7 +18,7 @@ fn note(work: &Work, homes: &mut [u32], point: u32, face: u32) {
 /// Notes the face of the points on its list.
 fn note_list(work: &Work, homes: &mut [u32], f: u32, face: u32) {
     let mut point = number_at(&work.lists.head, f);
-    for _ in 0..homes.len() {
+    for _ in 0..work.lists.next.len() {
         if point == NONE {
             return;
         }

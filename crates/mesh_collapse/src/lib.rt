@@ -2,10 +2,11 @@
 //!
 //! Verified: `collapse_edges` is safe and ends. Nothing is stated about its result.
 //!
-//! [`collapse_edges`] merges a vertex into a neighbor again and again. The cost of a collapse is how far the neighbor is from the planes
-//! of the faces around the vertex, by area (Garland and Heckbert, 1997, without memory of former faces: Lindstrom and Turk, 1998). A
-//! collapse is left out if it changes how faces are connected, turns a face, makes a sliver, leaves a given point farther than a distance
-//! from the new faces, or makes two faces meet. Passes over all vertices along a curve take the cheapest quarter each.
+//! [`collapse_edges`] merges a vertex into a neighbor again and again. The cost of a collapse is how far the neighbor is from the
+//! planes of the faces around the vertex, by area (Garland and Heckbert, 1997, without memory of former faces: Lindstrom and Turk,
+//! 1998). A collapse is left out if it changes how faces are connected, turns a face, makes a sliver, leaves a given point farther than
+//! a distance from the new faces, or makes two faces meet. If all points have to stay near, points on edges and the middles of faces
+//! are looked at too, of the given mesh and of the new faces. Passes over all vertices along a curve take the cheapest quarter each.
 //!
 //! No clause says anything of the result but that the call ends. Callers test what they need.
 //!
@@ -20,10 +21,12 @@ mod commit;
 mod costs;
 mod fan;
 mod fans;
+mod given;
 mod homes;
 mod link;
 mod numbers;
 mod order;
+mod over;
 mod pack;
 mod passes;
 mod reach;

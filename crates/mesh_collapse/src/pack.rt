@@ -152,7 +152,7 @@ pub(crate) fn pack(alloc: Global, work: &mut Work) -> Result<(), NoMemory> {
     pack_faces(work, &numbers);
     work.marks.marks.fill(0);
     work.marks.stamp = 0;
-    work.boxes = Boxes::of(alloc, &work.surface)?;
+    work.boxes = Boxes::of(alloc, &work.surface.places, &work.surface.faces)?;
     Ok(())
 }
 

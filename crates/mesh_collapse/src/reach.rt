@@ -2,18 +2,18 @@
 
 use crate::NoMemory;
 use crate::fan::{Fan, Moved};
+use crate::given::{Given, ON_EDGE};
 use crate::numbers::{NONE, after, number_at, put};
+use crate::order::short;
 use crate::surface::{Surface, between};
-use face_near::{Corners, nearest_on, spot};
-use geo_sign::Point;
+use face_near::{Corners, nearest_on};
 use mesh_flips::Way;
 use std::alloc::Global;
 
-/// The given points, and for each face a list of those that are near it. A point at which a vertex is left is on no list.
+/// The given mesh, and for each face a list of its places that are near it. A vertex that is left is on no list.
 #[derive(Drop)]
 pub(crate) struct Lists {
-    /// The given points, along the curve.
-    pub(crate) points: Vec<Point>,
+    pub(crate) given: Given,
     /// The first point of each face's list.
     pub(crate) head: Vec<u32>,
     /// The point after each one in its list.
@@ -93,17 +93,9 @@ fn nearest_face(fan: &Fan, two: &Beside, p: Way, within: f64) -> Best {
 }
 
 /// Finds a face that a point is near, and returns whether there is one.
-fn place_point(
-    lists: &Lists,
-    fan: &mut Fan,
-    two: &Beside,
-    point: u32,
-    within: f64,
-) -> Result<bool, NoMemory> {
-    let Some(p) = lists.points.get(point as usize) else {
-        return Ok(false);
-    };
-    let best = nearest_face(fan, two, spot(*p), within);
+fn place_point(lists: &Lists, fan: &mut Fan, two: &Beside, point: u32) -> Result<bool, NoMemory> {
+    let probe = lists.given.probe(point);
+    let best = nearest_face(fan, two, probe.at, probe.limit);
     if !best.is_near() {
         return Ok(false);
     }
@@ -115,19 +107,13 @@ fn place_point(
 }
 
 /// Finds faces that the points of a face's list are near, and returns whether there is one for each.
-fn place_list(
-    lists: &Lists,
-    fan: &mut Fan,
-    two: &Beside,
-    face: u32,
-    within: f64,
-) -> Result<bool, NoMemory> {
+fn place_list(lists: &Lists, fan: &mut Fan, two: &Beside, face: u32) -> Result<bool, NoMemory> {
     let mut point = number_at(&lists.head, face);
     for _ in 0..lists.next.len() {
         if point == NONE {
             break;
         }
-        if !place_point(lists, fan, two, point, within)? {
+        if !place_point(lists, fan, two, point)? {
             return Ok(false);
         }
         point = number_at(&lists.next, point);
@@ -141,17 +127,16 @@ pub(crate) fn keeps_points(
     lists: &Lists,
     fan: &mut Fan,
     u: u32,
-    within: f64,
 ) -> Result<bool, NoMemory> {
     fan.moved.clear();
     let two = faces_beside(surface, fan);
-    if !place_point(lists, fan, &two, number_at(&surface.origin, u), within)? {
+    if !place_point(lists, fan, &two, number_at(&surface.origin, u))? {
         return Ok(false);
     }
     for i in 0..fan.ring.len() {
         if i < fan.ring.len() {
             let face = fan.ring[i] / 3;
-            if !place_list(lists, fan, &two, face, within)? {
+            if !place_list(lists, fan, &two, face)? {
                 return Ok(false);
             }
         }
@@ -160,15 +145,44 @@ pub(crate) fn keeps_points(
 }
 
 impl Lists {
-    /// Returns empty lists.
-    pub(crate) fn empty(alloc: Global, places: &[Point], faces: usize) -> Result<Lists, NoMemory> {
-        let mut points = Vec::with_capacity(alloc, places.len())?;
-        points.extend_from_slice(places)?;
-        Ok(Lists {
-            points,
+    /// Returns the lists at the start: the middle of each face and places on its sides, if these have to stay near.
+    pub(crate) fn of(alloc: Global, given: Given, faces: usize) -> Result<Lists, NoMemory> {
+        let mut lists = Lists {
             head: vec![in alloc; NONE; faces]?,
-            next: vec![in alloc; NONE; places.len()]?,
-        })
+            next: vec![in alloc; NONE; given.count()]?,
+            given,
+        };
+        for f in 0..lists.given.faces.len() {
+            lists.begin(short(f));
+        }
+        Ok(lists)
+    }
+
+    /// Appends a place to the list of a face.
+    fn note(&mut self, face: u32, point: u32) {
+        let first = number_at(&self.head, face);
+        put(&mut self.next, point, first);
+        put(&mut self.head, face, point);
+    }
+
+    /// Begins the list of a face with its middle and the places on its sides.
+    fn begin(&mut self, f: u32) {
+        let middle = self.given.middle(f);
+        self.note(f, middle);
+        for k in 0..3 {
+            let h = f.saturating_mul(3).saturating_add(k);
+            if self.given.is_first(h) {
+                let first = self.given.side(h);
+                self.note_side(f, first);
+            }
+        }
+    }
+
+    /// Appends the places on an edge to the list of a face.
+    fn note_side(&mut self, f: u32, first: u32) {
+        for k in 0..ON_EDGE {
+            self.note(f, first.saturating_add(k));
+        }
     }
 
     /// Moves points to the lists of the faces that they are near.
@@ -177,9 +191,7 @@ impl Lists {
             put(&mut self.head, *h / 3, NONE);
         }
         for moved in &fan.moved {
-            let first = number_at(&self.head, moved.face);
-            put(&mut self.next, moved.point, first);
-            put(&mut self.head, moved.face, moved.point);
+            self.note(moved.face, moved.point);
         }
     }
 }

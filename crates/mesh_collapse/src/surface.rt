@@ -58,38 +58,53 @@ impl Surface {
 
     /// Returns the place of a vertex, the origin past the end.
     pub(crate) fn spot_at(&self, v: u32) -> Way {
-        match self.places.get(v as usize) {
-            Some(p) => spot(*p),
-            None => Way::NONE,
-        }
+        spot_among(&self.places, v)
     }
 
     /// Returns the places of a face's corners.
     pub(crate) fn corners(&self, face: [u32; 3]) -> Corners {
-        let [a, b, c] = face;
-        Corners {
-            a: self.spot_at(a),
-            b: self.spot_at(b),
-            c: self.spot_at(c),
-        }
+        corners_among(&self.places, face)
     }
 
     /// Returns the smallest box that contains a face, empty if it is gone.
     pub(crate) fn hull(&self, face: [u32; 3]) -> Hull {
-        let [a, b, c] = face;
-        match (
-            self.places.get(a as usize),
-            self.places.get(b as usize),
-            self.places.get(c as usize),
-        ) {
-            (Some(p), Some(q), Some(r)) => Hull::of_points(*p, *q, *r),
-            _ => Hull::empty(),
-        }
+        hull_among(&self.places, face)
     }
 
     /// Returns whether a vertex may collapse.
     pub(crate) fn is_free(&self, v: u32) -> bool {
         self.edge_at(v) != NONE
+    }
+}
+
+/// Returns the place of a vertex, the origin past the end.
+fn spot_among(points: &[Point], v: u32) -> Way {
+    match points.get(v as usize) {
+        Some(p) => spot(*p),
+        None => Way::NONE,
+    }
+}
+
+/// Returns the places of the corners of a face.
+pub(crate) fn corners_among(points: &[Point], face: [u32; 3]) -> Corners {
+    let [a, b, c] = face;
+    Corners {
+        a: spot_among(points, a),
+        b: spot_among(points, b),
+        c: spot_among(points, c),
+    }
+}
+
+/// Returns the smallest box that contains a face, empty if it is gone.
+pub(crate) fn hull_among(points: &[Point], face: [u32; 3]) -> Hull {
+    let [a, b, c] = face;
+    match (
+        points.get(a as usize),
+        points.get(b as usize),
+        points.get(c as usize),
+    ) {
+        (Some(p), Some(q), Some(r)) => Hull::of_points(*p, *q, *r),
+        _ => Hull::empty(),
     }
 }
 

@@ -20,7 +20,7 @@ mod place;
 mod uncovered;
 
 use std::alloc::AllocError;
-pub use uncovered::find_uncovered;
+pub use uncovered::{find_uncovered, list_uncovered};
 
 /// Out of memory.
 pub type NoMemory = AllocError;

@@ -129,6 +129,16 @@ fn first_of_faces(
     Ok(None)
 }
 
+/// Returns what helps to find faces of a mesh.
+fn search_of(alloc: Global, onto: &Mesh) -> Result<Search, NoMemory> {
+    let order = faces_in_order(alloc, &onto.points, &onto.faces)?;
+    Ok(Search {
+        tree: tree_in_order(alloc, &onto.points, &onto.faces, &order)?,
+        order,
+        found: Vec::new(alloc),
+    })
+}
+
 /// Returns the number of the first face of a mesh that has a point not shown to be within reach of a face of another mesh. `None` only if
 /// each point of each face is at most the distance from a point of a face of the other.
 ///
@@ -144,11 +154,34 @@ pub fn find_uncovered(
     requires onto { IsMesh onto.now.points.items onto.now.faces.items }
     ensures { IfOk result (λ i. IfNone i (IsCovered within home.now.points.items home.now.faces.items onto.now.points.items onto.now.faces.items)) }
 {
-    let order = faces_in_order(alloc, &onto.points, &onto.faces)?;
-    let mut search = Search {
-        tree: tree_in_order(alloc, &onto.points, &onto.faces, &order)?,
-        order,
-        found: Vec::new(alloc),
-    };
+    let mut search = search_of(alloc, onto)?;
     first_of_faces(&home.points, &home.faces, onto, hints, within, &mut search)
+}
+
+/// Returns the numbers of all such faces. Nothing is stated of them: they are hints.
+pub fn list_uncovered(
+    alloc: Global,
+    home: &Mesh,
+    onto: &Mesh,
+    hints: &[u32],
+    within: u32,
+) -> Result<Vec<usize>, NoMemory>
+    requires home { IsMesh home.now.points.items home.now.faces.items }
+    requires onto { IsMesh onto.now.points.items onto.now.faces.items }
+{
+    let mut search = search_of(alloc, onto)?;
+    let mut list = Vec::new(alloc);
+    for i in 0..home.faces.len() {
+        if !is_face_covered(
+            &home.points,
+            home.faces[i],
+            onto,
+            hints,
+            within,
+            &mut search,
+        )? {
+            list.push(i)?;
+        }
+    }
+    Ok(list)
 }

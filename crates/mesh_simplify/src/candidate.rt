@@ -108,12 +108,13 @@ pub(crate) fn find_candidate(
     alloc: Global,
     mesh: &Mesh,
     request: Request,
+    limits: &[u32],
 ) -> Result<Candidate, NoMemory> {
     let Collapsed {
         faces,
         source,
         homes,
-    } = collapse_edges(alloc, &mesh.points, &mesh.faces, request)?;
+    } = collapse_edges(alloc, &mesh.points, &mesh.faces, request, limits)?;
     let Used { from, numbers } = used_vertices(alloc, mesh.points.len(), &faces)?;
     Ok(Candidate {
         faces: renumbered(alloc, &faces, &numbers)?,

@@ -10,7 +10,7 @@ ghost use Rattle.mesh_simplify.specs.Tested.{IsGood};
 
 use crate::NoMemory;
 use crate::candidate::{Candidate, find_candidate};
-use crate::surface::is_near_if_asked;
+use crate::surface::{first_limits, is_near_if_asked, lower, push_far};
 use crate::tests::{Hints, is_simplified};
 use crate::valid::{is_mesh, points_of};
 use mesh::Mesh;
@@ -18,14 +18,8 @@ use mesh_collapse::Request;
 use mesh_edges::{UnbalancedEdge, first_unbalanced};
 use std::alloc::Global;
 
-/// The whole distance, in quarters.
-const WHOLE: u32 = 4;
-
-/// Returns a number of quarters of a distance, at least 1.
-fn part_of(within: u32, quarters: u32) -> u32 {
-    let part = u64::from(within) * u64::from(quarters) / u64::from(WHOLE);
-    part.max(1).min(u64::from(u32::MAX)) as u32
-}
+/// How many searches are made.
+const ROUNDS: usize = 6;
 
 /// Why a mesh is not simplified.
 #[derive(Clone, Copy, Debug, PartialEq, Eq)]
@@ -36,13 +30,15 @@ pub enum SimplifyError {
     NoMemory,
 }
 
-/// Returns the mesh of a candidate, if it is valid and simplified, and near if that is asked.
+/// Returns the mesh of a candidate, if it is valid and simplified, and near if that is asked. If only that fails, old vertices around the
+/// points that are not shown to be near are appended to `far`.
 fn tested(
     alloc: Global,
     old: &Mesh,
     new: Candidate,
     within: u32,
     surface: bool,
+    far: &mut Vec<u32>,
 ) -> Result<Option<Mesh>, NoMemory>
     requires { IsMesh old.now.points.items old.now.faces.items }
     ensures { IfOk result (λ new. IfSome new (λ m. IsGood surface within old.now.points.items old.now.faces.items m.points.items m.faces.items)) }
@@ -69,31 +65,14 @@ fn tested(
         return Ok(None);
     }
     if !is_near_if_asked(alloc, old, &mesh, &homes, within, surface)? {
+        push_far(alloc, old, &mesh, &hints, within, far)?;
         return Ok(None);
     }
     Ok(Some(mesh))
 }
 
-/// Returns what the search finds with a part of the distance, in quarters, if it passes all tests with the whole distance.
-fn found_within(
-    alloc: Global,
-    mesh: &Mesh,
-    request: Request,
-    surface: bool,
-    quarters: u32,
-) -> Result<Option<Mesh>, NoMemory>
-    requires { IsMesh mesh.now.points.items mesh.now.faces.items }
-    ensures { IfOk result (λ new. IfSome new (λ m. IsGood surface request.within mesh.now.points.items mesh.now.faces.items m.points.items m.faces.items)) }
-{
-    let search = Request {
-        within: part_of(request.within, quarters),
-        faces: request.faces,
-    };
-    let new = find_candidate(alloc, mesh, search)?;
-    tested(alloc, mesh, new, request.within, surface)
-}
-
-/// Returns what the search finds, if it passes all tests. If all points have to be near, it searches with shorter distances too.
+/// Returns what the search finds, if it passes all tests. If all points have to be near, it searches again, with shorter distances around
+/// those that are not.
 fn found(
     alloc: Global,
     mesh: &Mesh,
@@ -103,12 +82,19 @@ fn found(
     requires { IsMesh mesh.now.points.items mesh.now.faces.items }
     ensures { IfOk result (λ new. IfSome new (λ m. IsGood surface request.within mesh.now.points.items mesh.now.faces.items m.points.items m.faces.items)) }
 {
-    let least = if surface { 1 } else { WHOLE };
-    for less in 0..WHOLE - least + 1 {
-        let new = found_within(alloc, mesh, request, surface, WHOLE - less)?;
+    let mut limits = first_limits(alloc, mesh.points.len(), request.within, surface)?;
+    let mut far = Vec::new(alloc);
+    for _ in 0..ROUNDS {
+        let new = find_candidate(alloc, mesh, request, &limits)?;
+        let new = tested(alloc, mesh, new, request.within, surface, &mut far)?;
         if let Some(new) = new {
             return Ok(Some(new));
         }
+        if far.is_empty() {
+            return Ok(None);
+        }
+        lower(&mut limits, &far);
+        far.clear();
     }
     Ok(None)
 }
