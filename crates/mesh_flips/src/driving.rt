@@ -91,7 +91,7 @@ fn try_flip(
         return Ok(());
     }
     turn(points, faces, tree, one, other, quad);
-    hints.turn(edge, twin, weighed)
+    hints.turn(points, faces, edge, twin, weighed)
 }
 
 /// Tries all edges that may gain, and again those around each flip, until no edge waits.
@@ -204,6 +204,7 @@ pub fn flip_edges(
     let mut hints = hints_of(alloc, points, faces, twins)?;
     let longest = longest_side(alloc, points, faces)?;
     lower_area(points, faces, &mut tree, &mut hints, longest, order)?;
+    hints.measure_all(alloc, points, faces)?;
     for least in LEAST_GAINS {
         flip_pass(points, faces, &mut tree, &mut hints, Aim::Angle(least))?;
     }

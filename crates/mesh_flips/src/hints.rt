@@ -3,7 +3,7 @@
 
 use crate::NoMemory;
 use crate::falls::{Falls, fall};
-use crate::quad::{Quad, quad_at};
+use crate::quad::{Quad, quad_at, turned};
 use crate::way::Way;
 use geo_sign::Point;
 use std::alloc::Global;
@@ -14,6 +14,8 @@ use std::collections::VecDeque;
 pub(crate) struct Hints {
     pub(crate) twins: Vec<u32>,
     pub(crate) normals: Vec<Way>,
+    /// The angle at each half edge times the edge's length; empty while the area is lowered.
+    pub(crate) bends: Vec<f64>,
     pub(crate) waits: Vec<bool>,
     /// Whether a flip of the edge gained anything when it was last weighed. All that it depends on is weighed again after each flip.
     pub(crate) gains: Vec<bool>,
@@ -121,6 +123,58 @@ impl Hints {
         self.join(far, h);
     }
 
+    /// Returns the angle at a half edge times the edge's length.
+    fn bend(&self, h: u32) -> f64 {
+        self.bends.get(h as usize).copied().unwrap_or(0.0)
+    }
+
+    fn set_bend(&mut self, h: u32, bend: f64) {
+        if (h as usize) < self.bends.len() {
+            self.bends[h as usize] = bend;
+        }
+    }
+
+    /// Computes the angle at an edge times its length, by one of its half edges.
+    fn measure(&mut self, points: &[Point], faces: &[[u32; 3]], h: u32) {
+        if let Some(face) = faces.get((h / 3) as usize) {
+            let [from, to, _] = turned(*face, h % 3);
+            let far = self.twin(h);
+            let angle = self.normal_at(h).angle(self.normal_at(far));
+            let bend = angle * way(points, from, to).length();
+            self.set_bend(h, bend);
+            self.set_bend(far, bend);
+        }
+    }
+
+    /// Computes the angles at all edges times their lengths.
+    pub(crate) fn measure_all(
+        &mut self,
+        alloc: Global,
+        points: &[Point],
+        faces: &[[u32; 3]],
+    ) -> Result<(), NoMemory> {
+        self.bends = vec![in alloc; 0.0; self.twins.len()]?;
+        for h in 0..self.twins.len().min(u32::MAX as usize) {
+            let h = h as u32;
+            if h <= self.twin(h) {
+                self.measure(points, faces, h);
+            }
+        }
+        Ok(())
+    }
+
+    /// Computes the angles at the edges of two faces with a common edge times their lengths.
+    fn measure_around(&mut self, points: &[Point], faces: &[[u32; 3]], one: u32, other: u32) {
+        if self.bends.is_empty() {
+            return;
+        }
+        self.measure(points, faces, one);
+        self.measure(points, faces, one.saturating_add(1));
+        self.measure(points, faces, one.saturating_add(2));
+        self.measure(points, faces, other);
+        self.measure(points, faces, other.saturating_add(1));
+    }
+
     pub(crate) fn look(&mut self, face: u32, normal: Way) {
         if (face as usize) < self.normals.len() {
             self.normals[face as usize] = normal;
@@ -207,8 +261,15 @@ impl Hints {
         self.wait(first.saturating_add(2))
     }
 
-    /// Updates opposites, normals and queue after the flip of the edge between two faces.
-    pub(crate) fn turn(&mut self, edge: u32, twin: u32, weighed: Weighed) -> Result<(), NoMemory> {
+    /// Updates opposites, normals, angles and queue after the flip of the edge between two faces.
+    pub(crate) fn turn(
+        &mut self,
+        points: &[Point],
+        faces: &[[u32; 3]],
+        edge: u32,
+        twin: u32,
+        weighed: Weighed,
+    ) -> Result<(), NoMemory> {
         let (one, other) = (edge / 3, twin / 3);
         let (ca, ad) = (self.twin(before(edge)), self.twin(after(twin)));
         let (db, bc) = (self.twin(before(twin)), self.twin(after(edge)));
@@ -220,6 +281,7 @@ impl Hints {
         self.pair(one_side.saturating_add(1), other_side.saturating_add(2));
         self.look(one, weighed.left);
         self.look(other, weighed.right);
+        self.measure_around(points, faces, one_side, other_side);
         self.wait_around(one)?;
         self.wait_around(other)?;
         self.wait_around(ca / 3)?;
@@ -250,24 +312,28 @@ pub(crate) fn gain(hints: &Hints, points: &[Point], edge: u32, twin: u32, quad: 
         return Weighed::NONE;
     }
     let (left, right) = (left.unit(), right.unit());
-    let (one, other) = (hints.normal_at(edge), hints.normal_at(twin));
+    let now = hints.bend(edge)
+        + hints.bend(after(edge))
+        + hints.bend(before(edge))
+        + hints.bend(after(twin))
+        + hints.bend(before(twin));
+    // what is added to the sum is never negative, so it is left as soon as it shows that nothing is gained
+    let then = left.angle(right) * dc.length();
+    if then >= now {
+        return Weighed::NONE;
+    }
     let on_bc = hints.normal_at(hints.twin(after(edge)));
     let on_ca = hints.normal_at(hints.twin(before(edge)));
     let on_ad = hints.normal_at(hints.twin(after(twin)));
     let on_db = hints.normal_at(hints.twin(before(twin)));
-    let (bc, ca) = (Way::between(b, c).length(), ac.length());
-    let (ad, db) = (ad.length(), db.length());
-    let now = one.angle(other) * Way::between(a, b).length()
-        + one.angle(on_bc) * bc
-        + one.angle(on_ca) * ca
-        + other.angle(on_ad) * ad
-        + other.angle(on_db) * db;
-    let then = left.angle(right) * dc.length()
-        + right.angle(on_bc) * bc
-        + left.angle(on_ca) * ca
-        + left.angle(on_ad) * ad
-        + right.angle(on_db) * db;
-    let part = if now > 0.0 { (now - then) / now } else { 0.0 };
+    let then = then
+        + right.angle(on_bc) * Way::between(b, c).length()
+        + left.angle(on_ca) * ac.length();
+    if then >= now {
+        return Weighed::NONE;
+    }
+    let then = then + left.angle(on_ad) * ad.length() + right.angle(on_db) * db.length();
+    let part = (now - then) / now;
     Weighed { part, left, right }
 }
 
@@ -289,6 +355,7 @@ pub(crate) fn hints_of(
         falls: Falls::new(alloc, twins.len())?,
         twins,
         normals,
+        bends: Vec::new(alloc),
         waits,
         gains,
         queue: VecDeque::new(alloc),

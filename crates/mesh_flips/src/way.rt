@@ -13,19 +13,15 @@ pub struct Way {
     pub z: f64,
 }
 
-/// Coefficients of the arc cosine with an error below 2e-8 (Abramowitz and Stegun, 4.4.46), the highest first.
-const ARC_COSINE: [f64; 8] = [
-    -0.0012624911,
-    0.0066700901,
-    -0.0170881256,
-    0.0308918810,
-    -0.0501743046,
-    0.0889789874,
-    -0.2145988016,
-    1.5707963050,
-];
-
 const HALF_TURN: f64 = 3.141592653589793;
+
+/// Returns the arc cosine of a number from 0 to 1, divided by the root of its distance from 1, with an error below 2e-8 (Abramowitz and
+/// Stegun, 4.4.46).
+fn arc_part(x: f64) -> f64 {
+    let high = ((-0.0012624911 * x + 0.0066700901) * x - 0.0170881256) * x + 0.0308918810;
+    let middle = (high * x - 0.0501743046) * x + 0.0889789874;
+    (middle * x - 0.2145988016) * x + 1.5707963050
+}
 
 impl Way {
     /// The zero vector.
@@ -99,11 +95,7 @@ impl Way {
     pub(crate) fn angle(self, other: Way) -> f64 {
         let cosine = self.dot(other);
         let near = cosine.abs().min(1.0);
-        let mut sum = 0.0;
-        for factor in ARC_COSINE {
-            sum = sum * near + factor;
-        }
-        let acute = (1.0 - near).sqrt() * sum;
+        let acute = (1.0 - near).sqrt() * arc_part(near);
         if cosine < 0.0 {
             HALF_TURN - acute
         } else {
