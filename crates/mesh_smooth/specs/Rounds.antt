@@ -4,6 +4,7 @@
 --   KeepsFlags old new             no flag is taken back
 --   IsStill old new f              the corners of a face have the same points in both lists
 --   IsTested points faces crosses i j   two faces are apart, or both are marked
+--   IsTestedAmong .. found f       face f and each of a list that it is to be tested against
 --   AreTested .. f                 face f and each other that it is to be tested against
 --   AreAllTested ..                each face that is to be tested again (`AreAsked`), against each other face
 --   HasGoneBack before old new flags more    some points went back to where they were before, and are flagged
@@ -11,7 +12,7 @@
 --   IsAskedAt back asked f face    the same of one face
 --   AreKeptApart before points faces asked   faces that were apart are, unless one of the two is asked
 --   HasRest points faces tree asked     the tree has a box of each face that is not asked
-use Rattle.std.specs.Prelude.{ℕ, ◌≡◌, ◌≢◌, ◌<◌, ◌≤◌, ◌*◌, ◌⊎◌, Bool, true, false, List, [], ◌∷◌, length, slice_index_or}
+use Rattle.std.specs.Prelude.{ℕ, ◌≡◌, ◌≢◌, ◌<◌, ◌≤◌, ◌*◌, ◌⊎◌, Bool, true, false, List, [], ◌∷◌, length, slice_index_or, Contains}
 use Rattle.geo_sign.specs.Point.{Point}
 use Rattle.mesh.specs.Meshes.{point_at}
 use Rattle.mesh_edges.specs.Edges.{face_at}
@@ -42,6 +43,11 @@ IsTested points faces crosses i j =
 abbrev pub AreTested : List Point → List (List ℕ) → (asked crosses : List Bool) → (f : ℕ) → Type 0
 AreTested points faces asked crosses f =
     (j : ℕ) → j < length faces → j ≢ f → (j < f → flag asked j ≡ false) → IsTested points faces crosses f j
+
+-- the same of those of a list
+abbrev pub IsTestedAmong : List Point → List (List ℕ) → (asked crosses : List Bool) → (found : List ℕ) → (f : ℕ) → Type 0
+IsTestedAmong points faces asked crosses found f =
+    (j : ℕ) → Contains found j → j < length faces → j ≢ f → (j < f → flag asked j ≡ false) → IsTested points faces crosses f j
 
 -- each face that is asked, against each other
 abbrev pub AreAllTested : List Point → List (List ℕ) → (asked crosses : List Bool) → Type 0

@@ -1,18 +1,21 @@
 //! Marks faces that are not known to be apart from another.
 
-ghost use Rattle.std.specs.Prelude.{◌≡◌, ◌≢◌, ◌<◌, ℕ, All, Contains, OnOk, length, true, false};
+ghost use Rattle.std.specs.Prelude.{◌≡◌, ◌≢◌, ◌<◌, ◌≤◌, ◌+◌, ℕ, All, Contains, OnOk, length, true, false};
 ghost use Rattle.std.specs.Bool.{OnTrue, OnFalse};
 ghost use Rattle.mesh_edges.specs.Edges.{face_at};
 ghost use Rattle.triangle_gap.specs.Gaps.{AreFacesApart};
 ghost use Rattle.mesh_flips.specs.Turns.{IsTriangle};
 ghost use Rattle.mesh_flips.specs.Fields.{HoldsFace, IsTreeOf};
-ghost use Rattle.mesh_smooth.specs.Rounds.{flag, KeepsFlags, IsTested, AreTested, AreAllTested};
+ghost use Rattle.mesh_smooth.specs.Rounds.{flag, KeepsFlags, IsTested, IsTestedAmong, AreTested, AreAllTested};
 
 use crate::NoMemory;
 use geo_sign::Point;
 use hull_tree::{Hull, HullTree};
 use mesh_flips::hull_of;
 use triangle_gap::are_apart;
+
+/// How many consecutive faces are searched for at once: as many as share a leaf of the tree.
+const RUN: usize = 4;
 
 /// Returns whether two faces are known to be apart. `hull` is a box of the first.
 fn is_gap(points: &[Point], face: [u32; 3], other: [u32; 3], hull: Hull) -> bool
@@ -96,39 +99,125 @@ fn mark_found(
     requires face { face < length faces.now }
     requires hull { HoldsFace points.now hull (face_at faces.now face) }
     ensures kept { KeepsFlags crosses.old crosses.new }
-    ensures tested { (j : ℕ) → Contains found.now j → j < length faces.now → j ≢ face → (j < face → flag asked.now j ≡ false) → IsTested points.now faces.now crosses.new face j }
+    ensures tested { IsTestedAmong points.now faces.now asked.now crosses.new found.now face }
 {
     for other in found {
         mark_pair(points, faces, asked, crosses, face, *other, hull);
     }
 }
 
-/// Marks a face and all that are not known to be apart from it, if the face is asked.
+/// Marks a face and those of some others that are not known to be apart from it, if the face is asked.
+fn mark_asked(
+    points: &[Point],
+    faces: &[[u32; 3]],
+    asked: &[bool],
+    crosses: &mut [bool],
+    face: usize,
+    found: &[usize],
+)
+    requires each { All (IsTriangle (length points.now)) faces.now }
+    requires asked { length asked.now ≡ length faces.now }
+    requires marks { length crosses.old ≡ length faces.now }
+    requires face { face < length faces.now }
+    ensures kept { KeepsFlags crosses.old crosses.new }
+    ensures tested { flag asked.now face ≡ true → IsTestedAmong points.now faces.now asked.now crosses.new found.now face }
+{
+    if !asked[face] {
+        return;
+    }
+    let hull = hull_of(points, faces[face]);
+    mark_found(points, faces, asked, crosses, face, found, hull);
+}
+
+/// Marks the asked faces of a run and those of some others that are not known to be apart from them.
+fn mark_run(
+    points: &[Point],
+    faces: &[[u32; 3]],
+    asked: &[bool],
+    crosses: &mut [bool],
+    from: usize,
+    to: usize,
+    found: &[usize],
+)
+    requires each { All (IsTriangle (length points.now)) faces.now }
+    requires asked { length asked.now ≡ length faces.now }
+    requires marks { length crosses.old ≡ length faces.now }
+    requires to { to ≤ length faces.now }
+    ensures kept { KeepsFlags crosses.old crosses.new }
+    ensures tested { (f : ℕ) → from ≤ f → f < to → flag asked.now f ≡ true → IsTestedAmong points.now faces.now asked.now crosses.new found.now f }
+{
+    for face in from..to {
+        mark_asked(points, faces, asked, crosses, face, found);
+    }
+}
+
+/// Returns whether a face of a run is asked.
+fn is_any_asked(asked: &[bool], from: usize, to: usize) -> bool
+    requires { to ≤ length asked.now }
+    ensures { OnFalse result ((f : ℕ) → from ≤ f → f < to → flag asked.now f ≡ false) }
+{
+    for face in from..to {
+        if asked[face] {
+            return true;
+        }
+    }
+    false
+}
+
+/// Returns a box that contains the faces of a run.
+fn hull_of_run(points: &[Point], faces: &[[u32; 3]], from: usize, to: usize) -> Hull
+    requires each { All (IsTriangle (length points.now)) faces.now }
+    requires to { to ≤ length faces.now }
+    ensures { (f : ℕ) → from ≤ f → f < to → HoldsFace points.now result (face_at faces.now f) }
+{
+    let mut hull = Hull::empty();
+    for face in from..to {
+        let own = hull_of(points, faces[face]);
+        let more = hull.joined(own);
+        hull = more;
+    }
+    hull
+}
+
+/// Marks the asked faces of a run and all that are not known to be apart from them. The tree is searched once for all: consecutive faces
+/// are near each other.
 fn mark_near(
     points: &[Point],
     faces: &[[u32; 3]],
     tree: &HullTree,
     asked: &[bool],
     crosses: &mut [bool],
-    face: usize,
+    from: usize,
+    to: usize,
     found: &mut Vec<usize>,
 ) -> Result<(), NoMemory>
     requires each { All (IsTriangle (length points.now)) faces.now }
     requires tree { IsTreeOf points.now faces.now tree.now }
     requires asked { length asked.now ≡ length faces.now }
     requires marks { length crosses.old ≡ length faces.now }
-    requires face { face < length faces.now }
+    requires to { to ≤ length faces.now }
     ensures kept { KeepsFlags crosses.old crosses.new }
-    ensures tested { OnOk result (flag asked.now face ≡ true → AreTested points.now faces.now asked.now crosses.new face) }
+    ensures tested { OnOk result ((f : ℕ) → from ≤ f → f < to → flag asked.now f ≡ true → AreTested points.now faces.now asked.now crosses.new f) }
 {
-    if !asked[face] {
+    if !is_any_asked(asked, from, to) {
         return Ok(());
     }
     found.clear();
-    let hull = hull_of(points, faces[face]);
-    tree.near(hull, found)?;
-    mark_found(points, faces, asked, crosses, face, found, hull);
+    tree.near(hull_of_run(points, faces, from, to), found)?;
+    mark_run(points, faces, asked, crosses, from, to, found);
     Ok(())
+}
+
+/// Returns the end of a run.
+fn end_of(from: usize, count: usize) -> usize
+    requires { from ≤ count }
+    ensures within { result ≤ count }
+    ensures far { result < count → result ≡ from + 4 }
+{
+    if count - from < RUN {
+        return count;
+    }
+    from + RUN
 }
 
 /// Marks each asked face that is not known to be apart from all others, and those others.
@@ -146,8 +235,10 @@ pub(crate) fn mark_crossing(
     requires marks { length crosses.old ≡ length faces.now }
     ensures { OnOk result (AreAllTested points.now faces.now asked.now crosses.new) }
 {
-    for face in 0..faces.len() {
-        mark_near(points, faces, tree, asked, crosses, face, found)?;
+    for run in 0..faces.len() / RUN + 1 {
+        let from = RUN * run;
+        let to = end_of(from, faces.len());
+        mark_near(points, faces, tree, asked, crosses, from, to, found)?;
     }
     Ok(())
 }
