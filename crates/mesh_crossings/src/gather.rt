@@ -1,8 +1,10 @@
 //! Tests each pair of faces whose boxes overlap.
 
 ghost use Rattle.std.specs.Prelude.{◌≡◌, ◌<◌, ℕ, All, Contains, IfOk, OnOk, length, map};
+ghost use Rattle.std.specs.Bool.{OnTrue};
 ghost use Rattle.mesh.specs.Meshes.{IsMesh};
 ghost use Rattle.mesh_edges.specs.Edges.{face_at};
+ghost use Rattle.triangle_gap.specs.Gaps.{AreFacesApart};
 ghost use Rattle.mesh_flips.specs.Turns.{IsTriangle};
 ghost use Rattle.mesh_flips.specs.Fields.{IsReady};
 ghost use Rattle.mesh_crossings.specs.Crossings.{AreCrossing, AreCrossingPairs, AreOrdered};
@@ -28,6 +30,19 @@ pub struct Crossings {
     pub undecided: Vec<Pair>,
 }
 
+/// Returns whether the boxes of two faces are disjoint.
+fn are_off(points: &[Point], one: [u32; 3], other: [u32; 3]) -> bool
+    requires one_in { IsTriangle (length points.now) one }
+    requires other_in { IsTriangle (length points.now) other }
+    ensures { OnTrue result (AreFacesApart points.now one other) }
+{
+    let hull = hull_of(points, one);
+    if !hull.meets(hull_of(points, other)) {
+        return true;
+    }
+    false
+}
+
 /// Tests a pair of faces, and lists it if the two are not known to be apart.
 fn test_ordered(
     points: &[Point],
@@ -47,6 +62,9 @@ fn test_ordered(
 {
     let one = faces[pair.first as usize];
     let other = faces[pair.second as usize];
+    if are_off(points, one, other) {
+        return Ok(());
+    }
     match judge(points, one, other) {
         Verdict::Apart => Ok(()),
         Verdict::Crossing => {
