@@ -51,7 +51,8 @@ fn points_of(
     points: &[Point],
     origin: &[u32],
 ) -> Result<Option<Vec<Point>>, NoMemory>
-    ensures { IfOk result (λ list. IfSome list (λ new. new.items ≡ map (point_at points.now) origin.now)) }
+    ensures originals { IfOk result (λ list. IfSome list (λ new. All (λ v. v < length points.now) origin.now)) }
+    ensures places { IfOk result (λ list. IfSome list (λ new. new.items ≡ map (point_at points.now) origin.now)) }
 {
     let mut list = Vec::with_capacity(alloc, origin.len())?;
     for v in origin {

@@ -22,6 +22,7 @@ module _ (points : List Point) (faces : List (List ℕ)) (each : All (IsFace (le
         origin = origin;
         copy =
             record {
+              originals = origin_in (length points) faces each twins roots paired um numbers origin holders num new re;
               places = places;
               corners = new_corners (length points) faces each twins roots paired um numbers origin holders num new re;
             };
