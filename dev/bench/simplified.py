@@ -8,8 +8,8 @@ usage: dev/bench simplified RECON FOLDER [objects=PATH,..] [points=N] [samples=N
   samples      how many points are drawn for distances, each way (default: 20000)
   options      options of a second run of `recon-mesh simplify`
 
-Each scan has a noise of 0.5 (thousandths of the object's diagonal, as all lengths). Its mesh is that of `recon build smooth=1`, of which
-`recon-mesh finish` keeps the largest component and smooths it in 3 steps. `recon-mesh simplify` has within= 3 thousandths; Open3D decimates by quadrics;
+Each scan has a noise of 0.5 (thousandths of the object's diagonal, as all lengths). Its mesh is that of `recon build smooth=1`.
+`recon-mesh finish` keeps its largest component and smooths it in 3 steps. `recon-mesh simplify` has within= 3 thousandths; Open3D decimates by quadrics;
 CGAL collapses edges by Lindstrom and Turk's costs and places, after it has split what is not manifold. Distances between a simplified mesh and the mesh
 before are means; the next column is the greatest distance of a vertex before. Crossing pairs are those of `dev/bench surfaces compare`.
 """
