@@ -16,7 +16,8 @@ use Rattle.finish_options.specs.declared.options.SmoothOptions.{SmoothOptions}
 use Rattle.finish_options.specs.declared.options.TheConstants.{MOST_STEPS, FARTHEST}
 use Rattle.mesh_provenance.specs.Options.{AreOptions, IsSmoothing}
 use Rattle.command_run.specs.Words.{Names, are_names, is_name, is_other}
-use Rattle.mesh_cmd.specs.Commands.{Asked, finish, move, simplify, inspect, check, command_of, finish_of, move_of, simplify_of, inspect_of, confirm_of}
+use Rattle.mesh_cmd.specs.Commands.{Asked, finish, move, simplify, join, inspect, check, command_of, finish_of, move_of, simplify_of}
+use Rattle.mesh_cmd.specs.Commands.{join_of, inspect_of, confirm_of}
 use Rattle.mesh_cmd.specs.Moving.{move_request}
 use Rattle.mesh_cmd.specs.Options.{limited, whole_number, limited_in, first_number}
 use Rattle.mesh_cmd.specs.Options.{with_pieces, with_steps, with_within, with_option, with_options, smoothing_given, options_given}
@@ -204,14 +205,21 @@ check_in (mesh ∷ []) = tt
 check_in (mesh ∷ finished ∷ []) = chosen (are_names (mesh ∷ finished ∷ [])) _ _ tt tt
 check_in (mesh ∷ finished ∷ other ∷ words) = tt
 
+join_in : (words : List (List ℕ)) → IfSome (join_of words) Fits
+join_in [] = tt
+join_in (tiles ∷ []) = tt
+join_in (tiles ∷ output ∷ []) = chosen (are_names (tiles ∷ output ∷ [])) _ _ tt tt
+join_in (tiles ∷ output ∷ other ∷ words) = tt
+
 command_in : (words : List (List ℕ)) → IfSome (command_of words) Fits
 command_in [] = tt
 command_in (word ∷ words) =
     chosen (bytes_eq word (codes "finish")) _ _ (finish_in words)
     (chosen (bytes_eq word (codes "move")) _ _ (move_in words)
     (chosen (bytes_eq word (codes "simplify")) _ _ (simplify_in words)
+    (chosen (bytes_eq word (codes "join")) _ _ (join_in words)
     (chosen (bytes_eq word (codes "inspect")) _ _ (inspect_in words)
-    (chosen (bytes_eq word (codes "check")) _ _ (check_in words) tt))))
+    (chosen (bytes_eq word (codes "check")) _ _ (check_in words) tt)))))
 
 pub finish_given : (words : List (List ℕ)) (names : Names) (request : FinishRequest) → command_of words ≡ Some (finish names request)
     → IsGiven names request
