@@ -231,7 +231,11 @@ def built(scan: Scan, args: Any, folder: Path, choices: Choices) -> Surface:
     choices.choose('smooth', surface.smooth, why)
     choices.timed('build')
     if not surface.counts['faces']:
-        raise NoSurface(why_empty(cloud, scan.texture, args, folder))
+        why = why_empty(cloud, scan.texture, args, folder)
+        if 'tiles' in choices.chosen:
+            # there is nothing to go on with
+            shutil.rmtree(tiles_folder(args), ignore_errors=True)
+        raise NoSurface(why)
     choices.verdict = looked_at(surface, cloud, scan.texture, args, folder, choices)
     return surface
 

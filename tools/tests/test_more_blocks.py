@@ -185,6 +185,14 @@ class Ahead(InFolder):
         equal((rows, begun[0].pids), (700, []))
 
 
+class Counts(InFolder):
+    def test_a_count_of_many_digits(self) -> None:
+        for name, text in (('in.pts', '1' * 4301 + '\n1 2 3\n'), ('in.ptx', '1\n' + '1' * 4301 + '\n1 2 3\n')):
+            write(name, text)
+            names = [name] if name == 'in.ptx' else [f'{name}=1,2,3']
+            equal((gathered_with(names, {}, True), gathered_with(names, {}, False)), (None, None))
+
+
 class Ways(InFolder):
     def rows(self) -> list[list[float]]:
         draw = random.Random(3)

@@ -13,7 +13,7 @@ from recon.toolbox.exact import Pose
 from recon.toolbox.ply_text import IS_NOT_FINITE, IS_NUMBER, Refusal
 from recon.toolbox.posed import PosedRows
 from recon.toolbox.read_ahead import all_rows
-from recon.toolbox.text_columns import FieldRows, LineParts, NotPlain, TextRows
+from recon.toolbox.text_columns import LONGEST_LINE, FieldRows, LineParts, NotPlain, TextRows
 from recon.toolbox.text_layout import COLORS, Layout, layout_of, named
 from recon.toolbox.text_lines import DECIMAL_COMMAS, Lines
 
@@ -116,6 +116,8 @@ class HeadLines:
         part = self.lines.part(1)
         while part and not part.split():
             part = self.lines.part(1)
+        if len(part) > LONGEST_LINE:
+            raise NotPlain
         return part.decode('latin-1').split() if part else None
 
 
