@@ -113,10 +113,18 @@ fn are_whole(w: Weights) -> bool
     u64::from(w.a) + u64::from(w.b) + u64::from(w.c) == TOTAL
 }
 
+/// How near a face has to be to a place, and how many units of the place one unit of the face has.
+#[derive(Clone, Copy)]
+pub(crate) struct Reach {
+    pub(crate) within: u32,
+    pub(crate) scale: u64,
+}
+
 /// Returns whether the mean of three corners with these weights is within reach of a place.
-fn is_near_by(scale: u64, q: Place, a: Point, b: Point, c: Point, w: Weights, within: u32) -> bool
-    ensures { OnTrue result (IsNearBy within scale q a b c w.a w.b w.c) }
+fn is_near_by(reach: Reach, q: Place, a: Point, b: Point, c: Point, w: Weights) -> bool
+    ensures { OnTrue result (IsNearBy reach.within reach.scale q a b c w.a w.b w.c) }
 {
+    let Reach { within, scale } = reach;
     if !are_whole(w) {
         return false;
     }
@@ -147,22 +155,20 @@ fn point_of(points: &[Point], v: u32) -> Point
 pub(crate) fn is_corner_near(
     points: &[Point],
     face: [u32; 3],
-    scale: u64,
+    reach: Reach,
     q: Place,
     w: Weights,
-    within: u32,
 ) -> bool
     requires { All (λ v. v < length points.now) face }
-    ensures { OnTrue result (IsCornerNear within points.now scale q face) }
+    ensures { OnTrue result (IsCornerNear reach.within points.now reach.scale q face) }
 {
     let [a, b, c] = face;
     is_near_by(
-        scale,
+        reach,
         q,
         point_of(points, a),
         point_of(points, b),
         point_of(points, c),
         w,
-        within,
     )
 }

@@ -14,7 +14,6 @@
 mod cover;
 mod exact;
 mod near;
-mod order;
 mod part;
 mod place;
 mod uncovered;

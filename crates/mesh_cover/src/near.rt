@@ -6,7 +6,7 @@ ghost use Rattle.mesh.specs.Meshes.{IsFace};
 ghost use Rattle.mesh_cover.specs.Covers.{IsTriangleCovered};
 ghost use Rattle.mesh_cover.specs.Parts.{IsCornerNear};
 
-use crate::exact::is_corner_near;
+use crate::exact::{Reach, is_corner_near};
 use crate::part::Part;
 use crate::place::Place;
 use face_near::{Corners, nearest_on, spot, weights_of};
@@ -37,27 +37,20 @@ pub(crate) fn corners_of(points: &[Point], face: [u32; 3]) -> Corners {
 struct Target {
     face: [u32; 3],
     corners: Corners,
-    within: u32,
+    reach: Reach,
 }
 
 /// Returns whether a place is shown to be within reach of a face. The nearest point is found by rounded numbers, and tested exactly.
-fn is_near_target(points: &[Point], target: &Target, scale: u64, q: Place, spot: Way) -> bool
+fn is_near_target(points: &[Point], target: &Target, q: Place, spot: Way) -> bool
     requires { All (λ v. v < length points.now) target.now.face }
-    ensures { OnTrue result (IsCornerNear target.now.within points.now scale q target.now.face) }
+    ensures { OnTrue result (IsCornerNear target.now.reach.within points.now target.now.reach.scale q target.now.face) }
 {
     let near = nearest_on(spot, &target.corners);
-    let reach = f64::from(target.within);
-    if near.square > reach * reach {
+    let within = f64::from(target.reach.within);
+    if near.square > within * within {
         return false;
     }
-    is_corner_near(
-        points,
-        target.face,
-        scale,
-        q,
-        weights_of(&near),
-        target.within,
-    )
+    is_corner_near(points, target.face, target.reach, q, weights_of(&near))
 }
 
 /// Returns whether all of a part is shown to be within reach of a face.
@@ -72,13 +65,16 @@ pub(crate) fn is_part_near(onto: &Mesh, i: usize, part: &Part, within: u32) -> b
     let target = Target {
         face,
         corners: corners_of(&onto.points, face),
-        within,
+        reach: Reach {
+            within,
+            scale: part.scale,
+        },
     };
-    if !is_near_target(&onto.points, &target, part.scale, part.a, part.spots.a) {
+    if !is_near_target(&onto.points, &target, part.a, part.spots.a) {
         return false;
     }
-    if !is_near_target(&onto.points, &target, part.scale, part.b, part.spots.b) {
+    if !is_near_target(&onto.points, &target, part.b, part.spots.b) {
         return false;
     }
-    is_near_target(&onto.points, &target, part.scale, part.c, part.spots.c)
+    is_near_target(&onto.points, &target, part.c, part.spots.c)
 }

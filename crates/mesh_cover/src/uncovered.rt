@@ -8,13 +8,12 @@ ghost use Rattle.mesh_cover.specs.Covers.{IsCovered, IsFaceCovered, IsTriangleCo
 use crate::NoMemory;
 use crate::cover::is_covered;
 use crate::near::{corners_of, is_part_near};
-use crate::order::{faces_in_order, take_faces, tree_in_order};
 use crate::part::Part;
 use crate::place::Place;
 use geo_sign::Point;
-use hull_tree::{Hull, HullTree, Span};
+use hull_tree::{Hull, Span};
 use mesh::Mesh;
-use mesh_flips::hull_of;
+use mesh_flips::{FaceOrder, faces_in_order, hull_of};
 use std::alloc::Global;
 
 /// How often parts are cut in four.
@@ -23,8 +22,7 @@ const DEPTH: u32 = 8;
 /// What helps to find faces.
 #[derive(Drop)]
 struct Search {
-    order: Vec<usize>,
-    tree: HullTree,
+    order: FaceOrder,
     found: Vec<usize>,
 }
 
@@ -65,6 +63,16 @@ fn whole(points: &[Point], a: u32, b: u32, c: u32) -> Part
     }
 }
 
+/// Puts the numbers of faces in the place of their positions in an order.
+fn take_faces(numbers: &[u32], found: &mut [usize]) {
+    for at in 0..found.len() {
+        found[at] = match numbers.get(found[at]) {
+            Some(number) => *number as usize,
+            None => usize::MAX,
+        };
+    }
+}
+
 /// Returns whether all of a part is shown to be within reach of the hinted face of a vertex.
 fn is_near_hint(onto: &Mesh, part: &Part, within: u32, hints: &[u32], v: u32) -> bool
     requires { All (IsFace (length onto.now.points.items)) onto.now.faces.items }
@@ -102,8 +110,8 @@ fn is_face_covered(
     }
     search.found.clear();
     let hull = widened(hull_of(points, face), within);
-    search.tree.near(hull, &mut search.found)?;
-    take_faces(&search.order, &mut search.found);
+    search.order.tree.near(hull, &mut search.found)?;
+    take_faces(&search.order.numbers, &mut search.found);
     let covered = is_covered(onto, &part, within, &mut search.found, 0, DEPTH)?;
     Ok(covered)
 }
@@ -130,11 +138,11 @@ fn first_of_faces(
 }
 
 /// Returns what helps to find faces of a mesh.
-fn search_of(alloc: Global, onto: &Mesh) -> Result<Search, NoMemory> {
-    let order = faces_in_order(alloc, &onto.points, &onto.faces)?;
+fn search_of(alloc: Global, onto: &Mesh) -> Result<Search, NoMemory>
+    requires { IsMesh onto.now.points.items onto.now.faces.items }
+{
     Ok(Search {
-        tree: tree_in_order(alloc, &onto.points, &onto.faces, &order)?,
-        order,
+        order: faces_in_order(alloc, onto)?,
         found: Vec::new(alloc),
     })
 }

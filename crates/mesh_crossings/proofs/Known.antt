@@ -1,10 +1,9 @@
 -- What is known of pairs while lists grow, and at last.
-use Rattle.std.proofs.Common.{ℕ, ◌≡◌, ◌*◌, ◌<◌, ◌≤◌, ◌⊎◌, inl, inr, ap, sym, ◌∙◌, subst, arith, List, [], ◌∷◌, length, get_or, map}
+use Rattle.std.proofs.Common.{ℕ, ◌≡◌, ◌*◌, ◌<◌, ◌≤◌, ◌⊎◌, inl, inr, ap, ◌∙◌, subst, arith, List, [], length, get_or, map}
 use Rattle.std.specs.List.{All, Contains}
 use Rattle.std.proofs.lemmas.Bool.{cases_lt}
 use Rattle.std.proofs.lemmas.List.{get_or-map, get_or_default, length-map}
 use Rattle.geo_sign.specs.Point.{Point}
-use Rattle.mesh.specs.Meshes.{IsFace}
 use Rattle.mesh_edges.specs.Edges.{face_at}
 use Rattle.mesh_edges.specs.declared.pair.Pair.{Pair}
 use Rattle.hull_tree.specs.Hulls.{AreOff}
@@ -13,10 +12,10 @@ use Rattle.hull_tree.specs.declared.hull.Hull.{Hull}
 use Rattle.hull_tree.specs.declared.tree.HullTree.{HullTree}
 use Rattle.triangle_gap.specs.Gaps.{AreFacesApart}
 use Rattle.mesh_flips.specs.Fields.{HoldsFace, IsTreeOf}
-use Rattle.mesh_flips.specs.Turns.{IsTriangle}
+use Rattle.mesh_flips.specs.Orders.{Covers}
 use Rattle.mesh_flips.proofs.Off.{apart_back, off_apart}
 use Rattle.mesh_crossings.specs.Crossings.{AreCrossing, AreCrossingPairs, AreOrdered, IsRising}
-use Rattle.mesh_crossings.specs.Tested.{AreAllKnown, AreRanksKnown, AreSamePairs, Covers, IsKnown, IsKnownEither, KeepsPairs}
+use Rattle.mesh_crossings.specs.Tested.{AreAllKnown, AreRanksKnown, AreSamePairs, IsKnown, IsKnownEither, KeepsPairs}
 
 -- one list after another
 pub kept_on : (a b c : List Pair) → KeepsPairs a b → KeepsPairs b c → KeepsPairs a c
@@ -138,25 +137,3 @@ module _ (points : List Point) (faces : List (List ℕ)) where
                   absurd (omega (arith, place i r, place j s, ap (λ (k : ℕ). get_or numbers k 0) e))
             ]
           ]
-
--- faces are triangles
-pub face_triangle : (n : ℕ) (f : List ℕ) → IsFace n f → IsTriangle n f
-face_triangle n [] o = absurd o
-face_triangle n (a ∷ []) o = absurd o
-face_triangle n (a ∷ b ∷ []) o = absurd o
-face_triangle n (a ∷ b ∷ c ∷ d ∷ x) o = absurd o
-face_triangle n (a ∷ b ∷ c ∷ []) (ab, ac, bc, nb, nc) =
-    (λ e. omega (arith, ab, e), bc, λ e. omega (arith, ac, e), omega (arith, ab, nb), nb, nc)
-
--- all faces are, and so those with some numbers
-pub triangles : (n : ℕ) (faces : List (List ℕ)) → All (IsFace n) faces → All (IsTriangle n) faces
-triangles n faces each i d l = face_triangle n (get_or faces i d) (each i d l)
-
-pub sorted_triangles : (n : ℕ) (faces sorted : List (List ℕ)) (numbers : List ℕ) → sorted ≡ map (face_at faces) numbers
-    → All (λ i. i < length faces) numbers → All (IsFace n) faces → All (IsTriangle n) sorted
-sorted_triangles n faces sorted numbers is below each =
-    subst (All (IsTriangle n)) (sym is)
-    (λ i d l.
-    let m : i < length numbers = omega (arith, l, length-map numbers (face_at faces)) in
-    subst (IsTriangle n) (sym (get_or-map (face_at faces) numbers i 0 d m))
-    (triangles n faces each (get_or numbers i 0) [] (below i 0 m)))

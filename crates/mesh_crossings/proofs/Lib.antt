@@ -1,4 +1,3 @@
 pub mod Witnessed
 pub mod Known
 pub mod Tidied
-pub mod Covered

@@ -1,7 +1,7 @@
 -- Weights that give one point of two faces, off their common corners.
 use Rattle.std.proofs.Common.{ℕ, ◌≡◌, ◌+◌, inl, inr, ap, sym, ◌∙◌, List, [], ◌∷◌, ℤ, FitsSigned}
 use Rattle.std.proofs.lemmas.Int.{to_z-of_z}
-use mir.Syntax.{w32}
+use mir.Syntax.{w32, w128}
 use Rattle.geo_sign.proofs.Bounds.{kept}
 use Rattle.geo_sign.specs.Point.{Point, point}
 use Rattle.mesh.specs.Meshes.{point_at}
@@ -34,17 +34,19 @@ read_sum a b c r u v w p q t e =
     e ∙ sum_same u v w (kept w32 a) (kept w32 b) (kept w32 c) a b c (to_z-of_z w32 a p) (to_z-of_z w32 b q) (to_z-of_z w32 c t)
 
 -- two equal sums of coordinates as they are passed
-pub read_same : (u v w x y z : ℕ) (a b c d e f k l m n o p : ℤ) → FitsSigned w32 a → FitsSigned w32 b → FitsSigned w32 c
-    → FitsSigned w32 d → FitsSigned w32 e → FitsSigned w32 f → a ≡ k → b ≡ l → c ≡ m → d ≡ n → e ≡ o → f ≡ p
-    → weighted_sum (kept w32 a) (kept w32 b) (kept w32 c) u v w ≡ weighted_sum (kept w32 d) (kept w32 e) (kept w32 f) x y z
-    → weighted_sum k l m u v w ≡ weighted_sum n o p x y z
-read_same u v w x y z a b c d e f k l m n o p fa fb fc fd fe ff ak bl cm dn eo fp same =
+pub read_same : (u v w x y z : ℕ) (r a b c d e f k l m n o p : ℤ) → FitsSigned w128 r → FitsSigned w32 a → FitsSigned w32 b
+    → FitsSigned w32 c → FitsSigned w32 d → FitsSigned w32 e → FitsSigned w32 f → a ≡ k → b ≡ l → c ≡ m → d ≡ n → e ≡ o → f ≡ p
+    → r ≡ weighted_sum (kept w32 a) (kept w32 b) (kept w32 c) u v w
+    → kept w128 r ≡ weighted_sum (kept w32 d) (kept w32 e) (kept w32 f) x y z → weighted_sum k l m u v w ≡ weighted_sum n o p x y z
+read_same u v w x y z r a b c d e f k l m n o p fr fa fb fc fd fe ff ak bl cm dn eo fp is same =
     sym
-    (sum_same u v w (kept w32 a) (kept w32 b) (kept w32 c) k l m (to_z-of_z w32 a fa ∙ ak) (to_z-of_z w32 b fb ∙ bl)
+    (is
+    ∙ sum_same u v w (kept w32 a) (kept w32 b) (kept w32 c) k l m (to_z-of_z w32 a fa ∙ ak) (to_z-of_z w32 b fb ∙ bl)
     (to_z-of_z w32 c fc ∙ cm))
+    ∙ (sym (to_z-of_z w128 r fr)
     ∙ (same
     ∙ sum_same x y z (kept w32 d) (kept w32 e) (kept w32 f) n o p (to_z-of_z w32 d fd ∙ dn) (to_z-of_z w32 e fe ∙ eo)
-    (to_z-of_z w32 f ff ∙ fp))
+    (to_z-of_z w32 f ff ∙ fp)))
 
 pub crossed : (points : List Point) (f g : List ℕ) (s t : Corners) (u v w x y z : ℕ) → IsCornersOf points f s → IsCornersOf points g t
     → u + v + w ≡ x + y + z → weighted s.a s.b s.c u v w ≡ weighted t.a t.b t.c x y z → (IsCommon f g u v w → ⊥)

@@ -1,9 +1,8 @@
 -- What is known of pairs that were tested.
 --
 --   IsCornersOf points f c         c has the points of a face
+--   AreSmallWeights w              weights are small enough to be multiplied
 --   IsVerdictOn points f g verdict what a verdict says of two faces
---   Covers n numbers               each number below n is listed, and no other
---   face_number ranked             the number of a face with a key
 --   KeepsPairs old new             a list still has all pairs that it had
 --   IsOneMore old p new            a list has no other pairs than before and p
 --   AreSamePairs old new           two lists have the same pairs
@@ -12,7 +11,7 @@
 --   IsKnownEither ..               the same of two numbers, the smaller first
 --   AreRanksKnown .. numbers .. r s   the same of the numbers at two indices
 --   AreAllKnown .. numbers .. n    the same of all before index n
-use Rattle.std.specs.Prelude.{ℕ, ◌≡◌, ◌<◌, ◌⊎◌, ⊤, List, [], ◌∷◌, All, Contains, slice_index, slice_index_or}
+use Rattle.std.specs.Prelude.{ℕ, ◌≡◌, ◌<◌, ◌≤◌, ◌^◌, ◌⊎◌, ⊤, List, [], ◌∷◌, Contains, slice_index, slice_index_or}
 use Rattle.geo_sign.specs.Point.{Point}
 use Rattle.mesh.specs.Meshes.{point_at}
 use Rattle.mesh_edges.specs.Edges.{face_at}
@@ -21,28 +20,23 @@ use Rattle.triangle_gap.specs.Gaps.{AreFacesApart}
 use Rattle.mesh_crossings.specs.Crossings.{IsListedPair}
 use Rattle.mesh_crossings.specs.declared.judge.Verdict.{Verdict}
 use Rattle.mesh_crossings.specs.declared.judge.Verdict.TheVariants.{Apart, Crossing, Undecided}
-use Rattle.mesh_crossings.specs.declared.order.Ranked.{Ranked}
 use Rattle.mesh_crossings.specs.declared.witness.Corners.{Corners}
+use Rattle.mesh_crossings.specs.declared.witness.Weights.{Weights}
 
 -- c has the points of the face
 abbrev pub IsCornersOf : List Point → List ℕ → Corners → Type 0
 IsCornersOf points (a ∷ b ∷ c ∷ []) t = (t.a ≡ point_at points a) × (t.b ≡ point_at points b) × (t.c ≡ point_at points c)
 IsCornersOf points _ t = ⊥
 
+-- the weights are small enough to be multiplied
+abbrev pub AreSmallWeights : Weights → Type 0
+AreSmallWeights w = (w.a ≤ 2 ^ 80) × (w.b ≤ 2 ^ 80) × (w.c ≤ 2 ^ 80)
+
 -- what a verdict says of two faces
 abbrev pub IsVerdictOn : List Point → (f g : List ℕ) → Verdict → Type 0
 IsVerdictOn points f g Apart = AreFacesApart points f g
 IsVerdictOn points f g Crossing = ¬ AreFacesApart points f g
 IsVerdictOn points f g Undecided = ⊤
-
--- each number below n is listed, and no other
-pub record Covers (n : ℕ) (numbers : List ℕ) : Type 0 where
-  pub below : All (λ i. i < n) numbers
-  pub all : (i : ℕ) → i < n → Contains numbers i
-
--- the number of a face with a key
-abbrev pub face_number : Ranked → ℕ
-face_number ranked = ranked.number
 
 -- the list still has all pairs that it had
 abbrev pub KeepsPairs : (old new : List Pair) → Type 0

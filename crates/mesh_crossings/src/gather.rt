@@ -1,24 +1,22 @@
 //! Tests each pair of faces whose boxes overlap.
 
-ghost use Rattle.std.specs.Prelude.{◌≡◌, ◌<◌, ℕ, All, Contains, IfOk, OnOk, length, map};
+ghost use Rattle.std.specs.Prelude.{◌<◌, ℕ, All, Contains, IfOk, OnOk, length};
 ghost use Rattle.std.specs.Bool.{OnTrue};
 ghost use Rattle.mesh.specs.Meshes.{IsMesh};
-ghost use Rattle.mesh_edges.specs.Edges.{face_at};
 ghost use Rattle.triangle_gap.specs.Gaps.{AreFacesApart};
 ghost use Rattle.mesh_flips.specs.Turns.{IsTriangle};
-ghost use Rattle.mesh_flips.specs.Fields.{IsReady};
+ghost use Rattle.mesh_flips.specs.Orders.{AreInOrder};
 ghost use Rattle.mesh_crossings.specs.Crossings.{AreCrossing, AreCrossingPairs, AreOrdered};
 ghost use Rattle.mesh_crossings.specs.Tested.{AreAllKnown, AreRanksKnown, IsKnown, IsKnownEither, KeepsPairs};
 
 use crate::NoMemory;
 use crate::judge::{Verdict, judge};
-use crate::order::{faces_of, in_order};
 use crate::tidy::tidied;
 use geo_sign::Point;
 use hull_tree::HullTree;
 use mesh::Mesh;
 use mesh_edges::Pair;
-use mesh_flips::{hull_of, tree_of};
+use mesh_flips::{FaceOrder, faces_in_order, hull_of};
 use std::alloc::Global;
 
 /// Pairs of faces by their numbers, the smaller first.
@@ -174,33 +172,37 @@ fn test_found(
     Ok(())
 }
 
+/// Faces by rank: their numbers, the faces, and a tree of their boxes.
+#[derive(Clone, Copy)]
+struct Ranks<'a> {
+    numbers: &'a [u32],
+    faces: &'a [[u32; 3]],
+    tree: &'a HullTree,
+}
+
 /// Tests the face of a rank with all of ranks before it.
 fn test_rank(
     points: &[Point],
     faces: &[[u32; 3]],
-    numbers: &[u32],
-    sorted: &[[u32; 3]],
-    tree: &HullTree,
+    ranks: &Ranks<'_>,
     found: &mut Vec<usize>,
     lists: &mut Crossings,
     r: usize,
 ) -> Result<(), NoMemory>
     requires each { All (IsTriangle (length points.now)) faces.now }
-    requires numbers { All (λ i. i < length faces.now) numbers.now }
-    requires sorted { sorted.now ≡ map (face_at faces.now) numbers.now }
-    requires ready { IsReady points.now sorted.now tree.now }
-    requires within { r < length numbers.now }
+    requires ranks { AreInOrder points.now faces.now ranks.now.numbers.now ranks.now.faces.now ranks.now.tree.now }
+    requires within { r < length ranks.now.numbers.now }
     requires crossing { All (AreCrossing points.now faces.now) lists.old.crossing.items }
     requires undecided { All (AreOrdered faces.now) lists.old.undecided.items }
     ensures crossing { OnOk result (All (AreCrossing points.now faces.now) lists.new.crossing.items) }
     ensures undecided { OnOk result (All (AreOrdered faces.now) lists.new.undecided.items) }
     ensures kept { OnOk result (KeepsPairs lists.old.crossing.items lists.new.crossing.items × KeepsPairs lists.old.undecided.items lists.new.undecided.items) }
-    ensures known { OnOk result ((s : ℕ) → s < r → AreRanksKnown points.now faces.now numbers.now lists.new.crossing.items lists.new.undecided.items r s) }
+    ensures known { OnOk result ((s : ℕ) → s < r → AreRanksKnown points.now faces.now ranks.now.numbers.now lists.new.crossing.items lists.new.undecided.items r s) }
 {
     found.clear();
-    let hull = hull_of(points, sorted[r]);
-    tree.near(hull, found)?;
-    test_found(points, faces, numbers, lists, r, found)?;
+    let hull = hull_of(points, ranks.faces[r]);
+    ranks.tree.near(hull, found)?;
+    test_found(points, faces, ranks.numbers, lists, r, found)?;
     Ok(())
 }
 
@@ -209,27 +211,21 @@ fn test_all(
     alloc: Global,
     points: &[Point],
     faces: &[[u32; 3]],
-    numbers: &[u32],
-    sorted: &[[u32; 3]],
-    tree: &HullTree,
+    ranks: &Ranks<'_>,
 ) -> Result<Crossings, NoMemory>
     requires each { All (IsTriangle (length points.now)) faces.now }
-    requires numbers { All (λ i. i < length faces.now) numbers.now }
-    requires sorted { sorted.now ≡ map (face_at faces.now) numbers.now }
-    requires ready { IsReady points.now sorted.now tree.now }
+    requires ranks { AreInOrder points.now faces.now ranks.now.numbers.now ranks.now.faces.now ranks.now.tree.now }
     ensures crossing { IfOk result (λ lists. All (AreCrossing points.now faces.now) lists.crossing.items) }
     ensures undecided { IfOk result (λ lists. All (AreOrdered faces.now) lists.undecided.items) }
-    ensures known { IfOk result (λ lists. AreAllKnown points.now faces.now numbers.now lists.crossing.items lists.undecided.items (length numbers.now)) }
+    ensures known { IfOk result (λ lists. AreAllKnown points.now faces.now ranks.now.numbers.now lists.crossing.items lists.undecided.items (length ranks.now.numbers.now)) }
 {
     let mut lists = Crossings {
         crossing: Vec::new(alloc),
         undecided: Vec::new(alloc),
     };
     let mut found = Vec::new(alloc);
-    for r in 0..numbers.len() {
-        test_rank(
-            points, faces, numbers, sorted, tree, &mut found, &mut lists, r,
-        )?;
+    for r in 0..ranks.numbers.len() {
+        test_rank(points, faces, ranks, &mut found, &mut lists, r)?;
     }
     Ok(lists)
 }
@@ -243,13 +239,20 @@ pub fn find_crossings(alloc: Global, mesh: &Mesh) -> Result<Crossings, NoMemory>
     requires { IsMesh mesh.now.points.items mesh.now.faces.items }
     ensures { IfOk result (λ lists. AreCrossingPairs mesh.now.points.items mesh.now.faces.items lists.crossing.items lists.undecided.items) }
 {
-    let numbers = in_order(alloc, &mesh.points, &mesh.faces)?;
-    let sorted = faces_of(alloc, &mesh.faces, &numbers)?;
-    let tree = tree_of(alloc, &mesh.points, &sorted)?;
+    let FaceOrder {
+        numbers,
+        faces,
+        tree,
+    } = faces_in_order(alloc, mesh)?;
+    let ranks = Ranks {
+        numbers: &numbers,
+        faces: &faces,
+        tree: &tree,
+    };
     let Crossings {
         crossing,
         undecided,
-    } = test_all(alloc, &mesh.points, &mesh.faces, &numbers, &sorted, &tree)?;
+    } = test_all(alloc, &mesh.points, &mesh.faces, &ranks)?;
     Ok(Crossings {
         crossing: tidied(alloc, crossing)?,
         undecided: tidied(alloc, undecided)?,

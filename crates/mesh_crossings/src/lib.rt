@@ -15,7 +15,6 @@
 mod counts;
 mod gather;
 mod judge;
-mod order;
 mod propose;
 mod tidy;
 mod witness;

@@ -5,7 +5,7 @@ ghost use Rattle.std.specs.Bool.{OnTrue};
 ghost use Rattle.mesh.specs.Meshes.{is_vertex_of, point_at};
 ghost use Rattle.triangle_gap.specs.Gaps.{AreFacesApart, IsCommon};
 ghost use Rattle.triangle_gap.specs.Shared.{weighted, weighted_sum};
-ghost use Rattle.mesh_crossings.specs.Tested.{IsCornersOf};
+ghost use Rattle.mesh_crossings.specs.Tested.{AreSmallWeights, IsCornersOf};
 
 use geo_sign::Point;
 
@@ -23,7 +23,7 @@ const MOST: u128 = 1_208_925_819_614_629_174_706_176;
 impl Weights {
     /// Returns whether all weights are small enough to be multiplied.
     fn are_small(self) -> bool
-        ensures { OnTrue result ((self.a ≤ 2 ^ 80) × (self.b ≤ 2 ^ 80) × (self.c ≤ 2 ^ 80)) }
+        ensures { OnTrue result (AreSmallWeights self) }
     {
         self.a <= MOST && self.b <= MOST && self.c <= MOST
     }
@@ -40,9 +40,7 @@ fn scaled(weight: u128, x: i32) -> i128
 
 /// Returns the sum of three coordinates, each as often as its weight says.
 fn sum_on(w: Weights, x: i32, y: i32, z: i32) -> i128
-    requires a { w.a ≤ 2 ^ 80 }
-    requires b { w.b ≤ 2 ^ 80 }
-    requires c { w.c ≤ 2 ^ 80 }
+    requires { AreSmallWeights w }
     ensures { result ≡ weighted_sum x y z w.a w.b w.c }
 {
     scaled(w.a, x) + scaled(w.b, y) + scaled(w.c, z)
@@ -64,36 +62,30 @@ pub(crate) struct Corners {
     pub(crate) c: Point,
 }
 
-/// Returns whether three coordinates and three others, each as often as its weight says, have one sum.
-fn are_one_sum(u: Weights, p: i32, q: i32, r: i32, v: Weights, x: i32, y: i32, z: i32) -> bool
-    requires a { u.a ≤ 2 ^ 80 }
-    requires b { u.b ≤ 2 ^ 80 }
-    requires c { u.c ≤ 2 ^ 80 }
-    requires d { v.a ≤ 2 ^ 80 }
-    requires e { v.b ≤ 2 ^ 80 }
-    requires h { v.c ≤ 2 ^ 80 }
-    ensures { OnTrue result (weighted_sum p q r u.a u.b u.c ≡ weighted_sum x y z v.a v.b v.c) }
+/// Returns whether a number is the sum of three coordinates, each as often as its weight says.
+fn is_sum_on(sum: i128, w: Weights, x: i32, y: i32, z: i32) -> bool
+    requires { AreSmallWeights w }
+    ensures { OnTrue result (sum ≡ weighted_sum x y z w.a w.b w.c) }
 {
-    sum_on(u, p, q, r) == sum_on(v, x, y, z)
+    sum == sum_on(w, x, y, z)
 }
 
 /// Returns whether the weights of two triangles give one point.
 fn are_one_point(f: &Corners, u: Weights, g: &Corners, x: Weights) -> bool
-    requires a { u.a ≤ 2 ^ 80 }
-    requires b { u.b ≤ 2 ^ 80 }
-    requires c { u.c ≤ 2 ^ 80 }
-    requires d { x.a ≤ 2 ^ 80 }
-    requires e { x.b ≤ 2 ^ 80 }
-    requires h { x.c ≤ 2 ^ 80 }
+    requires u { AreSmallWeights u }
+    requires x { AreSmallWeights x }
     ensures { OnTrue result (weighted f.now.a f.now.b f.now.c u.a u.b u.c ≡ weighted g.now.a g.now.b g.now.c x.a x.b x.c) }
 {
-    if !are_one_sum(u, f.a.x(), f.b.x(), f.c.x(), x, g.a.x(), g.b.x(), g.c.x()) {
+    let sum = sum_on(u, f.a.x(), f.b.x(), f.c.x());
+    if !is_sum_on(sum, x, g.a.x(), g.b.x(), g.c.x()) {
         return false;
     }
-    if !are_one_sum(u, f.a.y(), f.b.y(), f.c.y(), x, g.a.y(), g.b.y(), g.c.y()) {
+    let sum = sum_on(u, f.a.y(), f.b.y(), f.c.y());
+    if !is_sum_on(sum, x, g.a.y(), g.b.y(), g.c.y()) {
         return false;
     }
-    are_one_sum(u, f.a.z(), f.b.z(), f.c.z(), x, g.a.z(), g.b.z(), g.c.z())
+    let sum = sum_on(u, f.a.z(), f.b.z(), f.c.z());
+    is_sum_on(sum, x, g.a.z(), g.b.z(), g.c.z())
 }
 
 /// Returns whether a face has a vertex.

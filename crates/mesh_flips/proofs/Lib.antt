@@ -5,3 +5,4 @@ pub mod Off
 pub mod Crossings
 pub mod Singles
 pub mod Turning
+pub mod Ordered

@@ -4,3 +4,4 @@ pub mod Flips
 pub mod Clear
 pub mod Fields
 pub mod Laws
+pub mod Orders

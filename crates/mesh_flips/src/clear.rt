@@ -16,6 +16,14 @@ use geo_sign::Point;
 use hull_tree::{Hull, HullTree};
 use triangle_gap::are_apart;
 
+/// An edge that may be flipped: the numbers of its two faces, and their corners.
+#[derive(Clone, Copy)]
+pub(crate) struct FlipSite {
+    pub(crate) one: usize,
+    pub(crate) other: usize,
+    pub(crate) quad: Quad,
+}
+
 /// Boxes of the two new faces of a quad, and of both.
 #[derive(Clone, Copy)]
 pub(crate) struct QuadHulls {
@@ -115,20 +123,18 @@ fn is_own_or_clear(
     points: &[Point],
     faces: &[[u32; 3]],
     i: usize,
-    one: usize,
-    other: usize,
     hulls: QuadHulls,
-    quad: Quad,
+    site: FlipSite,
 ) -> bool
     requires each { All (IsTriangle (length points.now)) faces.now }
-    requires corners { HasCorners (length points.now) quad }
-    requires hulls { AreHullsOf points.now hulls quad }
-    ensures { OnTrue result (i < length faces.now → i ≢ one → i ≢ other → IsClear points.now quad (face_at faces.now i)) }
+    requires corners { HasCorners (length points.now) site.quad }
+    requires hulls { AreHullsOf points.now hulls site.quad }
+    ensures { OnTrue result (i < length faces.now → i ≢ site.one → i ≢ site.other → IsClear points.now site.quad (face_at faces.now i)) }
 {
-    if i >= faces.len() || i == one || i == other {
+    if i >= faces.len() || i == site.one || i == site.other {
         return true;
     }
-    is_clear(points, faces[i], hulls, quad)
+    is_clear(points, faces[i], hulls, site.quad)
 }
 
 /// Returns whether each of some faces, but for two, is clear of a quad.
@@ -136,18 +142,16 @@ fn are_clear(
     points: &[Point],
     faces: &[[u32; 3]],
     found: &[usize],
-    one: usize,
-    other: usize,
     hulls: QuadHulls,
-    quad: Quad,
+    site: FlipSite,
 ) -> bool
     requires each { All (IsTriangle (length points.now)) faces.now }
-    requires corners { HasCorners (length points.now) quad }
-    requires hulls { AreHullsOf points.now hulls quad }
-    ensures { OnTrue result ((i : ℕ) → Contains found.now i → i < length faces.now → i ≢ one → i ≢ other → IsClear points.now quad (face_at faces.now i)) }
+    requires corners { HasCorners (length points.now) site.quad }
+    requires hulls { AreHullsOf points.now hulls site.quad }
+    ensures { OnTrue result ((i : ℕ) → Contains found.now i → i < length faces.now → i ≢ site.one → i ≢ site.other → IsClear points.now site.quad (face_at faces.now i)) }
 {
     for i in found {
-        if !is_own_or_clear(points, faces, *i, one, other, hulls, quad) {
+        if !is_own_or_clear(points, faces, *i, hulls, site) {
             return false;
         }
     }
@@ -160,21 +164,19 @@ pub(crate) fn is_free(
     faces: &[[u32; 3]],
     tree: &HullTree,
     found: &mut Vec<usize>,
-    one: usize,
-    other: usize,
-    quad: Quad,
+    site: FlipSite,
 ) -> Result<bool, NoMemory>
     requires each { All (IsTriangle (length points.now)) faces.now }
-    requires corners { HasCorners (length points.now) quad }
+    requires corners { HasCorners (length points.now) site.quad }
     requires tree { IsTreeOf points.now faces.now tree.now }
-    ensures { IfOk result (λ yes. OnTrue yes (IsFree points.now faces.now one other quad)) }
+    ensures { IfOk result (λ yes. OnTrue yes (IsFree points.now faces.now site.one site.other site.quad)) }
 {
     found.clear();
-    let hulls = hulls_of(points, quad);
+    let hulls = hulls_of(points, site.quad);
     tree.near(hulls.both, found)?;
-    if !are_clear(points, faces, found, one, other, hulls, quad) {
+    if !are_clear(points, faces, found, hulls, site) {
         return Ok(false);
     }
-    let Quad { a, b, c, d } = quad;
+    let Quad { a, b, c, d } = site.quad;
     Ok(are_apart(points, [a, d, c], [d, b, c]))
 }

@@ -8,7 +8,7 @@ ghost use Rattle.mesh_flips.specs.Clear.{IsFree};
 ghost use Rattle.mesh_flips.specs.Fields.{IsReady};
 
 use crate::NoMemory;
-use crate::clear::{hull_of, is_free};
+use crate::clear::{FlipSite, hull_of, is_free};
 use crate::falls::longest_side;
 use crate::flips::flip;
 use crate::hints::{Aim, Hints, hints_of};
@@ -43,20 +43,14 @@ const LEAST_GAINS: [f64; 3] = [0.3, 0.1, 0.000000001];
 const LOOKS: usize = 64;
 
 /// Flips an edge and inserts the boxes of the new faces into the tree.
-fn turn(
-    points: &[Point],
-    faces: &mut [[u32; 3]],
-    tree: &mut HullTree,
-    one: usize,
-    other: usize,
-    quad: Quad,
-)
+fn turn(points: &[Point], faces: &mut [[u32; 3]], tree: &mut HullTree, site: FlipSite)
     requires ready { IsReady points.now faces.old tree.old }
-    requires lie { IsQuad faces.old one other quad }
-    requires free { IsFree points.now faces.old one other quad }
+    requires lie { IsQuad faces.old site.one site.other site.quad }
+    requires free { IsFree points.now faces.old site.one site.other site.quad }
     ensures flipped { IsFlipped points.now faces.old faces.new }
     ensures ready { IsReady points.now faces.new tree.new }
 {
+    let FlipSite { one, other, quad } = site;
     let Quad { a, b, c, d } = quad;
     tree.insert(one, hull_of(points, [a, d, c]));
     tree.insert(other, hull_of(points, [d, b, c]));
@@ -85,12 +79,15 @@ fn try_flip(
     if weighed.part <= aim.least() {
         return Ok(());
     }
-    let one = (edge / 3) as usize;
-    let other = (twin / 3) as usize;
-    if !is_free(points, faces, tree, &mut hints.found, one, other, quad)? {
+    let site = FlipSite {
+        one: (edge / 3) as usize,
+        other: (twin / 3) as usize,
+        quad,
+    };
+    if !is_free(points, faces, tree, &mut hints.found, site)? {
         return Ok(());
     }
-    turn(points, faces, tree, one, other, quad);
+    turn(points, faces, tree, site);
     hints.turn(points, faces, edge, twin, weighed)
 }
 

@@ -7,7 +7,7 @@ use Rattle.mesh_cover.proofs.exact.is_near_by.Goals as goal
 pub returns : goal.returns
 returns c =
     let w = c.args.w in
-    let m = c.args.scale in
+    let m = c.args.reach.scale in
     let q = c.args.q in
     let a = c.args.a in
     let b = c.args.b in
@@ -15,7 +15,7 @@ returns c =
     let small : IsWithin (2 ^ 40) q = OnTrue_at c.if-not-is_small.false c.is_small.ensures in
     OnTrue_from _ _
     (λ yes.
-    near_by c.args.within m w.a w.b w.c c.squared_gap-x.result c.squared_gap-y.result c.squared_gap-z.result c.squared_reach.result q a b d
+    near_by c.args.reach.within m w.a w.b w.c c.squared_gap-x.result c.squared_gap-y.result c.squared_gap-z.result c.squared_reach.result q a b d
     (OnTrue_at c.if-not-are_whole.false c.are_whole.ensures)
     (square_read m w.a w.b w.c c.squared_gap-x.result q.x a.x b.x d.x c.x.result c.x-2.result c.x-3.result c.x-4.result
     c.squared_gap-x.ensures.value c.x.ensures c.x-2.ensures c.x-3.ensures c.x-4.ensures small.x_within c.facts.ensures.x_within

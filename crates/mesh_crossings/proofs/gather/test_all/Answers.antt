@@ -23,7 +23,7 @@ loop-r-preserved c =
                 let e : c.loop-r.r ≡ r = omega arith in
                 subst
                 (λ (k : ℕ).
-                AreRanksKnown points faces c.args.numbers.now new.crossing.items new.undecided.items k s)
+                AreRanksKnown points faces c.args.ranks.now.numbers.now new.crossing.items new.undecided.items k s)
                 e (c.in_ok-test_rank.ensures.known s (omega arith))
           ];
     }

@@ -8,5 +8,5 @@ invariant-loop-r l =
     record {
       crossing : All (AreCrossing l.points l.faces) l.lists.crossing.items;
       undecided : All (AreOrdered l.faces) l.lists.undecided.items;
-      known : AreAllKnown l.points l.faces l.numbers l.lists.crossing.items l.lists.undecided.items l.r;
+      known : AreAllKnown l.points l.faces l.ranks.numbers.now l.lists.crossing.items l.lists.undecided.items l.r;
     }

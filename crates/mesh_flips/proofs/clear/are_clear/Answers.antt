@@ -16,13 +16,13 @@ pub loop-i-preserved : goal.loop-i-preserved
 loop-i-preserved c =
     let found = c.args.found.now in
     let P : ℕ → Type 0 =
-    λ i. i < length c.args.faces.now → i ≢ c.args.one → i ≢ c.args.other
-    → IsClear c.args.points.now c.args.quad (face_at c.args.faces.now i) in
+    λ i. i < length c.args.faces.now → i ≢ c.args.site.one → i ≢ c.args.site.other
+    → IsClear c.args.points.now c.args.site.quad (face_at c.args.faces.now i) in
     below_more (λ k. P (get_or found k 0)) c.loop-i.i-index c.loop-i.invariant c.if-not-is_own_or_clear.ensures
 
 pub returns : goal.returns
 returns c = λ i has.
     let P : ℕ → Type 0 =
-    λ k. k < length c.args.faces.now → k ≢ c.args.one → k ≢ c.args.other
-    → IsClear c.args.points.now c.args.quad (face_at c.args.faces.now k) in
+    λ k. k < length c.args.faces.now → k ≢ c.args.site.one → k ≢ c.args.site.other
+    → IsClear c.args.points.now c.args.site.quad (face_at c.args.faces.now k) in
     of_each P c.args.found.now c.loop-i.i-index i c.loop-i.invariant (omega (arith, c.loop-i-test.false)) has

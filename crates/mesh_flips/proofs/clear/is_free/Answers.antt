@@ -12,7 +12,7 @@ returns c =
           let insert = c.requires.tree.insert i l in
           elim (c.in_ok-near.ensures.found i insert.0 (omega (arith, c.requires.tree.room)) insert.2) [
             | inl has ↦ c.if-not-are_clear.ensures i (subst (λ (xs : List ℕ). Contains xs i) (sym c.deref.ensures.value) has) l one other
-            | inr off ↦ off_clear c.args.points.now c.args.quad insert.0 c.hulls_of-hulls.result.both _ c.hulls_of-hulls.ensures.both insert.1 off
+            | inr off ↦ off_clear c.args.points.now c.args.site.quad insert.0 c.hulls_of-hulls.result.both _ c.hulls_of-hulls.ensures.both insert.1 off
           ];
       both = both;
     })

@@ -4,10 +4,10 @@ use Rattle.std.specs.List.Sorted.{IsPermutation}
 use Rattle.std.proofs.lemmas.List.{take_at}
 use Rattle.std.proofs.lemmas.List.Sorted.{length_permutation}
 use Rattle.std.proofs.lemmas.Result.{IfOk-weaker}
-use Rattle.mesh_crossings.specs.Tested.{Covers, face_number}
-use Rattle.mesh_crossings.specs.declared.order.Ranked.{Ranked}
-use Rattle.mesh_crossings.proofs.Covered.{covered}
-use Rattle.mesh_crossings.proofs.order.in_order.Goals as goal
+use Rattle.mesh_flips.specs.Orders.{Covers, face_number}
+use Rattle.mesh_flips.specs.declared.order.Ranked.{Ranked}
+use Rattle.mesh_flips.proofs.Ordered.{covered}
+use Rattle.mesh_flips.proofs.order.in_order.Goals as goal
 
 moved : (c : goal.After-drop-list) → IsPermutation c.in_ok-list.list.items c.sort.new.list
 moved c = subst (λ (z : List Ranked). IsPermutation z c.sort.new.list) c.deref_mut.ensures.value c.sort.ensures

@@ -1,13 +1,16 @@
-//! Numbers of faces in an order in which faces are mostly near those before.
+//! Faces in an order in which they are mostly near those before, and a tree of their boxes: what is near in space shares a leaf.
 
 ghost use Rattle.std.specs.Prelude.{◌≡◌, ◌<◌, ◌^◌, All, IfOk, length, map};
 ghost use Rattle.std.specs.List.Sorted.{IsPermutation};
-ghost use Rattle.mesh.specs.Meshes.{below};
+ghost use Rattle.mesh.specs.Meshes.{IsMesh, below};
 ghost use Rattle.mesh_edges.specs.Edges.{face_at};
-ghost use Rattle.mesh_crossings.specs.Tested.{Covers, face_number};
+ghost use Rattle.mesh_flips.specs.Orders.{AreInOrder, Covers, face_number};
 
 use crate::NoMemory;
+use crate::driving::tree_of;
 use geo_sign::Point;
+use hull_tree::HullTree;
+use mesh::Mesh;
 use std::alloc::Global;
 
 /// The number of a face and its sort key.
@@ -31,11 +34,16 @@ fn cell(x: i32) -> u64 {
     (i64::from(x) + 8_388_608).unsigned_abs() >> 3 & 0x001f_ffff
 }
 
-/// Returns the position of a face on the curve of Morton (1966), by its first corner.
+/// Returns the position of a point on the curve of Morton (1966). No contract depends on it.
+pub fn curve_key(p: Point) -> u64 {
+    spread(cell(p.x())) | spread(cell(p.y())) << 1 | spread(cell(p.z())) << 2
+}
+
+/// Returns the position of a face on the curve, by its first corner.
 fn key_of(points: &[Point], face: [u32; 3]) -> u64 {
     let [a, _, _] = face;
     match points.get(a as usize) {
-        Some(p) => spread(cell(p.x())) | spread(cell(p.y())) << 1 | spread(cell(p.z())) << 2,
+        Some(p) => curve_key(*p),
         None => 0,
     }
 }
@@ -74,11 +82,7 @@ fn numbers_of(alloc: Global, list: &[Ranked]) -> Result<Vec<u32>, NoMemory>
 }
 
 /// Returns the numbers of all faces along the curve.
-pub(crate) fn in_order(
-    alloc: Global,
-    points: &[Point],
-    faces: &[[u32; 3]],
-) -> Result<Vec<u32>, NoMemory>
+fn in_order(alloc: Global, points: &[Point], faces: &[[u32; 3]]) -> Result<Vec<u32>, NoMemory>
     requires { length faces.now < 2 ^ 32 }
     ensures { IfOk result (λ numbers. Covers (length faces.now) numbers.items) }
 {
@@ -88,11 +92,7 @@ pub(crate) fn in_order(
 }
 
 /// Returns the faces with these numbers.
-pub(crate) fn faces_of(
-    alloc: Global,
-    faces: &[[u32; 3]],
-    numbers: &[u32],
-) -> Result<Vec<[u32; 3]>, NoMemory>
+fn faces_of(alloc: Global, faces: &[[u32; 3]], numbers: &[u32]) -> Result<Vec<[u32; 3]>, NoMemory>
     requires { All (λ i. i < length faces.now) numbers.now }
     ensures { IfOk result (λ list. list.items ≡ map (face_at faces.now) numbers.now) }
 {
@@ -101,4 +101,30 @@ pub(crate) fn faces_of(
         list.push(faces[*number as usize])?;
     }
     Ok(list)
+}
+
+/// The faces of a mesh along a curve.
+#[derive(Drop)]
+pub struct FaceOrder {
+    /// The numbers that they have in the mesh.
+    pub numbers: Vec<u32>,
+    /// The faces.
+    pub faces: Vec<[u32; 3]>,
+    /// A tree with the box of each, at its position in the order.
+    pub tree: HullTree,
+}
+
+/// Returns the faces of a mesh along a curve, on which faces near each other are mostly near each other in space.
+pub fn faces_in_order(alloc: Global, mesh: &Mesh) -> Result<FaceOrder, NoMemory>
+    requires { IsMesh mesh.now.points.items mesh.now.faces.items }
+    ensures { IfOk result (λ order. AreInOrder mesh.now.points.items mesh.now.faces.items order.numbers.items order.faces.items order.tree) }
+{
+    let numbers = in_order(alloc, &mesh.points, &mesh.faces)?;
+    let faces = faces_of(alloc, &mesh.faces, &numbers)?;
+    let tree = tree_of(alloc, &mesh.points, &faces)?;
+    Ok(FaceOrder {
+        numbers,
+        faces,
+        tree,
+    })
 }

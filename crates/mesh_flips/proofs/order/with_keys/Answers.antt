@@ -1,8 +1,8 @@
 use Rattle.std.proofs.Common.{ℕ, ◌++◌, ap, sym, ◌∙◌, List, [], ◌∷◌, map}
 use Rattle.std.proofs.lemmas.List.{map-append}
 use Rattle.mesh.proofs.Vertices.{below_more}
-use Rattle.mesh_crossings.specs.Tested.{face_number}
-use Rattle.mesh_crossings.proofs.order.with_keys.Goals as goal
+use Rattle.mesh_flips.specs.Orders.{face_number}
+use Rattle.mesh_flips.proofs.order.with_keys.Goals as goal
 
 pub loop-f-preserved : goal.loop-f-preserved
 loop-f-preserved c =
