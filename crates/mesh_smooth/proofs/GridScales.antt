@@ -2,7 +2,7 @@
 --
 -- The scale is doubled as long as it is less than 1,024 and twice the scale fits. A larger scale is at least twice the last one, so it
 -- does not fit (`scale_found`). All points fit exactly if the greatest absolute coordinate does (`scale_of_points`).
-use Rattle.std.proofs.Common.{ℕ, suc, ◌≡◌, ◌<◌, ◌≤◌, ◌*◌, ◌^◌, ◌⊎◌, max, unsigned_abs, ℤ, pos, ◌*ℤ◌, inl, inr, refl, ap, ◌∙◌, arith, w32, List}
+use Rattle.std.proofs.Common.{ℕ, suc, ◌≡◌, ◌<◌, ◌≤◌, ◌*◌, ◌^◌, ◌⊎◌, max, unsigned_abs, ℤ, pos, ◌*ℤ◌, inl, inr, ap, ◌∙◌, arith, w32, List}
 use Rattle.std.specs.List.{All}
 use Rattle.std.proofs.Math.Nat.{pow-succ', mul-le-mul_right}
 use Rattle.std.proofs.Math.Pow.{pow_mono}
@@ -18,10 +18,6 @@ use Rattle.mesh_smooth.proofs.Scales.{magnified_within}
 -- a scale is at least 1
 pub scale_some : (k : ℕ) → IsScale k → 0 < k
 scale_some k (n, few, is) = omega (arith, pow_pos n, is)
-
--- 1 is a scale
-pub scale_one : IsScale 1
-scale_one = (0, omega arith, refl)
 
 -- twice a scale below 1,024 is one
 pub scale_twice : (k : ℕ) → IsScale k → k < 1024 → IsScale (k * 2)

@@ -2,6 +2,7 @@
 --
 --   flag flags k                   the flag of a number, false past the end
 --   KeepsFlags old new             no flag is taken back
+--   AreReadyToMark mesh            each face is a triangle, and has a box in the tree and a flag
 --   IsStill old new f              the corners of a face have the same points in both lists
 --   IsTested points faces crosses i j   two faces are apart, or both are marked
 --   IsTestedAmong .. found f       face f and each of a list that it is to be tested against
@@ -18,7 +19,8 @@ use Rattle.mesh.specs.Meshes.{point_at}
 use Rattle.mesh_edges.specs.Edges.{face_at}
 use Rattle.hull_tree.specs.declared.tree.HullTree.{HullTree}
 use Rattle.triangle_gap.specs.Gaps.{AreFacesApart}
-use Rattle.mesh_flips.specs.Fields.{HasBox}
+use Rattle.mesh_flips.specs.Fields.{HasBox, IsReady}
+use Rattle.mesh_smooth.specs.declared.marking.AskedFaces.{AskedFaces}
 
 -- the flag of a number, false past the end
 abbrev pub flag : List Bool → ℕ → Bool
@@ -27,6 +29,11 @@ flag flags k = slice_index_or flags k false
 -- no flag is taken back
 abbrev pub KeepsFlags : (old new : List Bool) → Type 0
 KeepsFlags old new = (k : ℕ) → flag old k ≡ true → flag new k ≡ true
+
+-- each face is a triangle, and has a box in the tree and a flag
+pub record AreReadyToMark (mesh : AskedFaces) : Type 0 where
+  pub ready : IsReady mesh.points.now mesh.faces.now mesh.tree.now
+  pub asked : length mesh.asked.now ≡ length mesh.faces.now
 
 -- the corners have the same points in both lists
 abbrev pub IsStill : (old new : List Point) → List ℕ → Type 0

@@ -6,7 +6,7 @@ ghost use Rattle.mesh_edges.specs.Edges.{face_at};
 ghost use Rattle.triangle_gap.specs.Gaps.{AreFacesApart};
 ghost use Rattle.mesh_flips.specs.Turns.{IsTriangle};
 ghost use Rattle.mesh_flips.specs.Fields.{HoldsFace, IsTreeOf};
-ghost use Rattle.mesh_smooth.specs.Rounds.{flag, KeepsFlags, IsTested, IsTestedAmong, AreTested, AreAllTested};
+ghost use Rattle.mesh_smooth.specs.Rounds.{flag, KeepsFlags, IsTested, IsTestedAmong, AreTested, AreAllTested, AreReadyToMark};
 
 use crate::NoMemory;
 use geo_sign::Point;
@@ -56,98 +56,60 @@ fn is_due(asked: &[bool], face: usize, other: usize) -> bool
     true
 }
 
+/// The faces of a mesh, a tree of their boxes, and which of them are asked.
+#[derive(Clone, Copy)]
+struct AskedFaces<'a> {
+    points: &'a [Point],
+    faces: &'a [[u32; 3]],
+    tree: &'a HullTree,
+    asked: &'a [bool],
+}
+
 /// Marks a face and another, unless they are known to be apart or the pair is tested elsewhere. `hull` is a box of the first.
-fn mark_pair(
-    points: &[Point],
-    faces: &[[u32; 3]],
-    asked: &[bool],
-    crosses: &mut [bool],
-    face: usize,
-    other: usize,
-    hull: Hull,
-)
-    requires each { All (IsTriangle (length points.now)) faces.now }
-    requires asked { length asked.now ≡ length faces.now }
-    requires marks { length crosses.old ≡ length faces.now }
-    requires face { face < length faces.now }
-    requires hull { HoldsFace points.now hull (face_at faces.now face) }
+fn mark_pair(mesh: &AskedFaces<'_>, crosses: &mut [bool], face: usize, other: usize, hull: Hull)
+    requires mesh { AreReadyToMark mesh.now }
+    requires marks { length crosses.old ≡ length mesh.now.faces.now }
+    requires face { face < length mesh.now.faces.now }
+    requires hull { HoldsFace mesh.now.points.now hull (face_at mesh.now.faces.now face) }
     ensures kept { KeepsFlags crosses.old crosses.new }
-    ensures tested { other < length faces.now → other ≢ face → (other < face → flag asked.now other ≡ false) → IsTested points.now faces.now crosses.new face other }
+    ensures tested { other < length mesh.now.faces.now → other ≢ face → (other < face → flag mesh.now.asked.now other ≡ false) → IsTested mesh.now.points.now mesh.now.faces.now crosses.new face other }
 {
-    if !is_due(asked, face, other) {
+    if !is_due(mesh.asked, face, other) {
         return;
     }
-    if is_gap(points, faces[face], faces[other], hull) {
+    if is_gap(mesh.points, mesh.faces[face], mesh.faces[other], hull) {
         return;
     }
     mark_two(crosses, face, other);
 }
 
-/// Marks a face and those of some others that are not known to be apart from it.
-fn mark_found(
-    points: &[Point],
-    faces: &[[u32; 3]],
-    asked: &[bool],
-    crosses: &mut [bool],
-    face: usize,
-    found: &[usize],
-    hull: Hull,
-)
-    requires each { All (IsTriangle (length points.now)) faces.now }
-    requires asked { length asked.now ≡ length faces.now }
-    requires marks { length crosses.old ≡ length faces.now }
-    requires face { face < length faces.now }
-    requires hull { HoldsFace points.now hull (face_at faces.now face) }
-    ensures kept { KeepsFlags crosses.old crosses.new }
-    ensures tested { IsTestedAmong points.now faces.now asked.now crosses.new found.now face }
-{
-    for other in found {
-        mark_pair(points, faces, asked, crosses, face, *other, hull);
-    }
-}
-
 /// Marks a face and those of some others that are not known to be apart from it, if the face is asked.
-fn mark_asked(
-    points: &[Point],
-    faces: &[[u32; 3]],
-    asked: &[bool],
-    crosses: &mut [bool],
-    face: usize,
-    found: &[usize],
-)
-    requires each { All (IsTriangle (length points.now)) faces.now }
-    requires asked { length asked.now ≡ length faces.now }
-    requires marks { length crosses.old ≡ length faces.now }
-    requires face { face < length faces.now }
+fn mark_asked(mesh: &AskedFaces<'_>, crosses: &mut [bool], face: usize, found: &[usize])
+    requires mesh { AreReadyToMark mesh.now }
+    requires marks { length crosses.old ≡ length mesh.now.faces.now }
+    requires face { face < length mesh.now.faces.now }
     ensures kept { KeepsFlags crosses.old crosses.new }
-    ensures tested { flag asked.now face ≡ true → IsTestedAmong points.now faces.now asked.now crosses.new found.now face }
+    ensures tested { flag mesh.now.asked.now face ≡ true → IsTestedAmong mesh.now.points.now mesh.now.faces.now mesh.now.asked.now crosses.new found.now face }
 {
-    if !asked[face] {
+    if !mesh.asked[face] {
         return;
     }
-    let hull = hull_of(points, faces[face]);
-    mark_found(points, faces, asked, crosses, face, found, hull);
+    let hull = hull_of(mesh.points, mesh.faces[face]);
+    for other in found {
+        mark_pair(mesh, crosses, face, *other, hull);
+    }
 }
 
 /// Marks the asked faces of a run and those of some others that are not known to be apart from them.
-fn mark_run(
-    points: &[Point],
-    faces: &[[u32; 3]],
-    asked: &[bool],
-    crosses: &mut [bool],
-    from: usize,
-    to: usize,
-    found: &[usize],
-)
-    requires each { All (IsTriangle (length points.now)) faces.now }
-    requires asked { length asked.now ≡ length faces.now }
-    requires marks { length crosses.old ≡ length faces.now }
-    requires to { to ≤ length faces.now }
+fn mark_run(mesh: &AskedFaces<'_>, crosses: &mut [bool], from: usize, to: usize, found: &[usize])
+    requires mesh { AreReadyToMark mesh.now }
+    requires marks { length crosses.old ≡ length mesh.now.faces.now }
+    requires to { to ≤ length mesh.now.faces.now }
     ensures kept { KeepsFlags crosses.old crosses.new }
-    ensures tested { (f : ℕ) → from ≤ f → f < to → flag asked.now f ≡ true → IsTestedAmong points.now faces.now asked.now crosses.new found.now f }
+    ensures tested { (f : ℕ) → from ≤ f → f < to → flag mesh.now.asked.now f ≡ true → IsTestedAmong mesh.now.points.now mesh.now.faces.now mesh.now.asked.now crosses.new found.now f }
 {
     for face in from..to {
-        mark_asked(points, faces, asked, crosses, face, found);
+        mark_asked(mesh, crosses, face, found);
     }
 }
 
@@ -182,29 +144,25 @@ fn hull_of_run(points: &[Point], faces: &[[u32; 3]], from: usize, to: usize) -> 
 /// Marks the asked faces of a run and all that are not known to be apart from them. The tree is searched once for all: consecutive faces
 /// are near each other.
 fn mark_near(
-    points: &[Point],
-    faces: &[[u32; 3]],
-    tree: &HullTree,
-    asked: &[bool],
+    mesh: &AskedFaces<'_>,
     crosses: &mut [bool],
     from: usize,
     to: usize,
     found: &mut Vec<usize>,
 ) -> Result<(), NoMemory>
-    requires each { All (IsTriangle (length points.now)) faces.now }
-    requires tree { IsTreeOf points.now faces.now tree.now }
-    requires asked { length asked.now ≡ length faces.now }
-    requires marks { length crosses.old ≡ length faces.now }
-    requires to { to ≤ length faces.now }
+    requires mesh { AreReadyToMark mesh.now }
+    requires marks { length crosses.old ≡ length mesh.now.faces.now }
+    requires to { to ≤ length mesh.now.faces.now }
     ensures kept { KeepsFlags crosses.old crosses.new }
-    ensures tested { OnOk result ((f : ℕ) → from ≤ f → f < to → flag asked.now f ≡ true → AreTested points.now faces.now asked.now crosses.new f) }
+    ensures tested { OnOk result ((f : ℕ) → from ≤ f → f < to → flag mesh.now.asked.now f ≡ true → AreTested mesh.now.points.now mesh.now.faces.now mesh.now.asked.now crosses.new f) }
 {
-    if !is_any_asked(asked, from, to) {
+    if !is_any_asked(mesh.asked, from, to) {
         return Ok(());
     }
     found.clear();
-    tree.near(hull_of_run(points, faces, from, to), found)?;
-    mark_run(points, faces, asked, crosses, from, to, found);
+    let hull = hull_of_run(mesh.points, mesh.faces, from, to);
+    mesh.tree.near(hull, found)?;
+    mark_run(mesh, crosses, from, to, found);
     Ok(())
 }
 
@@ -235,10 +193,16 @@ pub(crate) fn mark_crossing(
     requires marks { length crosses.old ≡ length faces.now }
     ensures { OnOk result (AreAllTested points.now faces.now asked.now crosses.new) }
 {
+    let mesh = AskedFaces {
+        points,
+        faces,
+        tree,
+        asked,
+    };
     for run in 0..faces.len() / RUN + 1 {
         let from = RUN * run;
         let to = end_of(from, faces.len());
-        mark_near(points, faces, tree, asked, crosses, from, to, found)?;
+        mark_near(&mesh, crosses, from, to, found)?;
     }
     Ok(())
 }

@@ -34,6 +34,13 @@ pub struct Smoothed {
     pub fine: u32,
 }
 
+/// Where points were, and how far they may be from there, in units of their grid.
+#[derive(Clone, Copy)]
+struct Home<'a> {
+    points: &'a [Point],
+    within: u64,
+}
+
 /// Moves the points of a mesh by one step and flips its edges if asked to. Returns the hints, with the opposites of half edges after
 /// the flips.
 fn smooth_and_flip<'a>(
@@ -41,19 +48,18 @@ fn smooth_and_flip<'a>(
     points: &mut [Point],
     faces: &mut [[u32; 3]],
     hints: MoveHints<'a>,
-    home: &[Point],
-    within: u64,
+    home: &Home<'_>,
     flips: bool,
 ) -> Result<MoveHints<'a>, NoMemory>
     requires each { All (IsTriangle (length points.old)) faces.old }
     requires few { length faces.old < 2 ^ 60 }
-    requires near { AreNearHome home.now points.old within }
+    requires near { AreNearHome home.now.points.now points.old home.now.within }
     ensures each { All (IsTriangle (length points.old)) faces.new }
-    ensures near { AreNearHome home.now points.new within }
+    ensures near { AreNearHome home.now.points.now points.new home.now.within }
     ensures shape { OnOk result (IsReshaped points.old points.new faces.old faces.new) }
     ensures still { flips ≡ false → faces.new ≡ faces.old }
 {
-    smooth(alloc, points, faces, &hints, home, within)?;
+    smooth(alloc, points, faces, &hints, home.points, home.within)?;
     if !flips {
         return Ok(hints);
     }
@@ -62,28 +68,27 @@ fn smooth_and_flip<'a>(
     Ok(MoveHints { twins, targets })
 }
 
-/// Smooths a mesh by all steps. `within` is in units of the points' grid.
+/// Smooths a mesh by all steps.
 fn all_steps(
     alloc: Global,
     points: &mut [Point],
     faces: &mut [[u32; 3]],
     hints: MoveHints<'_>,
-    home: &[Point],
-    within: u64,
+    home: &Home<'_>,
     smoothing: Smoothing,
 ) -> Result<(), NoMemory>
     requires each { All (IsTriangle (length points.old)) faces.old }
     requires few { length faces.old < 2 ^ 60 }
-    requires near { AreNearHome home.now points.old within }
+    requires near { AreNearHome home.now.points.now points.old home.now.within }
     ensures each { All (IsTriangle (length points.old)) faces.new }
-    ensures near { AreNearHome home.now points.new within }
+    ensures near { AreNearHome home.now.points.now points.new home.now.within }
     ensures shape { OnOk result (IsReshaped points.old points.new faces.old faces.new) }
     ensures still { smoothing.flips ≡ false → faces.new ≡ faces.old }
 {
     let mut hints = hints;
     for _ in 0..smoothing.steps {
         let flips = smoothing.flips;
-        hints = smooth_and_flip(alloc, points, faces, hints, home, within, flips)?;
+        hints = smooth_and_flip(alloc, points, faces, hints, home, flips)?;
     }
     Ok(())
 }
@@ -119,8 +124,11 @@ pub fn smooth_mesh(
     let fine = finest(reach);
     let home = magnified_points(alloc, points, fine, reach)?;
     let mut moved = Vec::from_slice(alloc, &home)?;
-    let within = fine_distance(fine, smoothing.within);
-    all_steps(alloc, &mut moved, faces, hints, &home, within, smoothing)?;
+    let bounds = Home {
+        points: &home,
+        within: fine_distance(fine, smoothing.within),
+    };
+    all_steps(alloc, &mut moved, faces, hints, &bounds, smoothing)?;
     keep_box(&moved);
     Ok(Smoothed {
         points: moved,

@@ -6,9 +6,9 @@ use Rattle.mesh_smooth.proofs.marking.mark_near.Goals as goal
 
 pub returns-clause-tested : goal.returns-clause-tested
 returns-clause-tested c = λ f first last asked.
-    near_tested c.args.points.now c.args.faces.now c.args.tree.now c.args.asked.now c.mark_run.new.crosses f
-    c.hull_of_run.result _ c.requires.tree (c.hull_of_run.ensures f first last) c.in_ok-near.ensures.found
-    (subst (λ (xs : List ℕ). IsTestedAmong c.args.points.now c.args.faces.now c.args.asked.now c.mark_run.new.crosses xs f)
+    near_tested c.args.mesh.now.points.now c.args.mesh.now.faces.now c.args.mesh.now.tree.now c.args.mesh.now.asked.now c.mark_run.new.crosses f
+    c.hull_of_run-hull.result _ c.requires.mesh.ready.boxes (c.hull_of_run-hull.ensures f first last) c.in_ok-near.ensures.found
+    (subst (λ (xs : List ℕ). IsTestedAmong c.args.mesh.now.points.now c.args.mesh.now.faces.now c.args.mesh.now.asked.now c.mark_run.new.crosses xs f)
     c.deref.ensures.value (c.mark_run.ensures.tested f first last asked))
 
 pub returns-then-not-is_any_asked-clause-tested : goal.returns-then-not-is_any_asked-clause-tested

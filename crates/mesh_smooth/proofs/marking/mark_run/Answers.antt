@@ -6,9 +6,9 @@ use Rattle.mesh_smooth.proofs.marking.mark_run.Goals as goal
 
 pub loop-face-preserved : goal.loop-face-preserved
 loop-face-preserved c =
-    let points = c.args.points.now in
-    let faces = c.args.faces.now in
-    let asked = c.args.asked.now in
+    let points = c.args.mesh.now.points.now in
+    let faces = c.args.mesh.now.faces.now in
+    let asked = c.args.mesh.now.asked.now in
     let found = c.args.found.now in
     let more = c.mark_asked.new.crosses in
     record {

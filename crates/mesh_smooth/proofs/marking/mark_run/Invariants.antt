@@ -6,5 +6,5 @@ abbrev pub invariant-loop-face : goal.invariant-loop-face
 invariant-loop-face l =
     record {
       kept : KeepsFlags l.fn.crosses l.crosses;
-      tested : (k : ℕ) → l.from ≤ k → k < l.face → flag l.asked k ≡ true → IsTestedAmong l.points l.faces l.asked l.crosses l.found k;
+      tested : (k : ℕ) → l.from ≤ k → k < l.face → flag l.mesh.asked.now k ≡ true → IsTestedAmong l.mesh.points.now l.mesh.faces.now l.mesh.asked.now l.crosses l.found k;
     }

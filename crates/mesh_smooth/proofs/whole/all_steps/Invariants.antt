@@ -9,7 +9,7 @@ abbrev pub invariant-loop : goal.invariant-loop
 invariant-loop l =
     record {
       each : All (IsTriangle (length l.points)) l.faces;
-      near : AreNearHome l.home l.points l.within;
+      near : AreNearHome l.home.points.now l.points l.home.within;
       shape : IsReshaped l.fn.points l.points l.fn.faces l.faces;
       still : l.smoothing.flips ≡ false → l.faces ≡ l.fn.faces;
     }

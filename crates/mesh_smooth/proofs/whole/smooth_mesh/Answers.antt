@@ -11,7 +11,7 @@ use Rattle.mesh_smooth.proofs.whole.smooth_mesh.Goals as goal
 pub all_steps-requires-clause-near : goal.all_steps-requires-clause-near
 all_steps-requires-clause-near c =
     let home = c.in_ok-home.home.items in
-    let reach = c.fine_distance-within.result in
+    let reach = c.fine_distance.result in
     let moved : c.deref_mut.result.now ≡ home = c.deref_mut.ensures.value ∙ (c.in_ok-moved.ensures.items ∙ c.deref.ensures.value) in
     subst (λ (z : List Point). AreNearHome z c.deref_mut.result.now reach) (sym c.deref-2.ensures.value)
     (subst (λ (z : List Point). AreNearHome home z reach) (sym moved) (all_near_self home reach))
@@ -19,7 +19,7 @@ all_steps-requires-clause-near c =
 pub returns-clause-smoothed : goal.returns-clause-smoothed
 returns-clause-smoothed c =
     let home = c.in_ok-home.home.items in
-    let reach = c.fine_distance-within.result in
+    let reach = c.fine_distance.result in
     let new = c.all_steps.new.points in
     let moved : c.deref_mut.result.now ≡ home = c.deref_mut.ensures.value ∙ (c.in_ok-moved.ensures.items ∙ c.deref.ensures.value) in
     let near : AreNearHome home new reach =
@@ -30,7 +30,7 @@ returns-clause-smoothed c =
     smoothed_mesh c.args.points.now home new c.args.faces.now c.all_steps.new.faces c.finest-fine.result c.args.smoothing.within reach
     (scale_of_points c.args.points.now c.greatest-reach.result c.finest-fine.result c.greatest-reach.ensures.each c.greatest-reach.ensures.least
     c.finest-fine.ensures.scale)
-    c.fine_distance-within.ensures c.in_ok-home.ensures c.requires.each near shape in
+    c.fine_distance.ensures c.in_ok-home.ensures c.requires.each near shape in
     subst
     (λ (z : List Point). IsSmoothedMesh c.args.points.now z c.args.faces.now c.all_steps.new.faces c.finest-fine.result c.args.smoothing.within)
     (sym
