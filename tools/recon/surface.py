@@ -98,7 +98,7 @@ def cleaned(cloud: Cloud, tree: cKDTree, args: Any, choices: Choices) -> Cloud:
     far = int((away > 50 * max(float(np.percentile(away, 99)), 1e-300)).sum())
     if far:
         choices.warn(f'{far} points are more than 50 times as far from the middle as 99 % of all points: remove them by recon-scan with from= and to=')
-    if args.no_clean or cloud.is_made_up or len(points) <= 100:
+    if not is_cleaned(cloud, args):
         return cloud
     lone = lone_points(points, tree=tree, order=np.arange(len(points)))
     if not lone.any():
@@ -214,10 +214,23 @@ def plain(value: float) -> str:
     return '0' if text in ('', '-0') else text
 
 
+def usual_smooth(cloud: Cloud, args: Any, choices: Choices) -> tuple[int, str]:
+    """The area weight, and why: outliers want a larger one, and without them the mesh is nearest to the object at 2."""
+    if cloud.is_made_up:
+        return 1, 'lines of sight along normals are short'
+    is_clean = is_cleaned(cloud, args) and 'lone points' not in choices.chosen
+    return (2, 'scanner positions are known, and there are no lone points') if is_clean else (3, 'scanner positions are known')
+
+
+def is_cleaned(cloud: Cloud, args: Any) -> bool:
+    """Whether lone points are removed."""
+    return not (args.no_clean or cloud.is_made_up or len(cloud.points) <= 100)
+
+
 def built(scan: Scan, args: Any, folder: Path, choices: Choices) -> Surface:
     """Builds the surface, with a smaller area weight where it vanishes."""
     cloud = scan.cloud
-    usual = 1 if cloud.is_made_up else 3
+    usual, reason = usual_smooth(cloud, args, choices)
     tried = [args.smooth] if args.smooth is not None else list(dict.fromkeys([usual, 1]))
     for smooth in tried:
         choices.tell(f'building at smooth={smooth}')
@@ -226,8 +239,7 @@ def built(scan: Scan, args: Any, folder: Path, choices: Choices) -> Surface:
             break
         if surface.counts['faces']:
             choices.warn(f'smooth={smooth} gives only {surface.counts["faces"]:,} faces for {surface.counts["points"]:,} points')
-    why = ('given' if args.smooth is not None else 'the surface vanishes at 3' if surface.smooth != usual else
-           'lines of sight along normals are short' if cloud.is_made_up else 'scanner positions are known')
+    why = 'given' if args.smooth is not None else f'the surface vanishes at {usual}' if surface.smooth != usual else reason
     choices.choose('smooth', surface.smooth, why)
     choices.timed('build')
     if not surface.counts['faces']:
