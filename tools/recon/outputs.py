@@ -156,7 +156,7 @@ def some_sights(cloud: Cloud) -> np.ndarray:
 def figures_of(made: Made, unseen: float) -> list[tuple[str, str]]:
     """The figures of the run, for the page and the report."""
     counts, against = made.surface.counts, made.surface.votes_against_per_sight
-    verdict = f'check the {"normals" if made.cloud.is_made_up else "positions"}' if made.choices.verdict.is_suspect else 'usual for right positions'
+    verdict = ('check the ' if made.choices.verdict.is_suspect else 'usual for right ') + ('normals' if made.cloud.is_made_up else 'positions')
     return [('points read', f'{made.read:,}'), ('points', f'{counts["points"]:,}'), ('scanners', f'{counts["scanners"]:,}'),
             ('sights', f'{counts["sights"]:,}'), ('faces as built', f'{counts["faces"]:,}'), ('faces', f'{len(made.mesh.faces):,}'),
             *([('faces of the light mesh', f'{len(made.light.faces):,}')] if made.light is not None else []),

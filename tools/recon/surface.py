@@ -60,7 +60,8 @@ MOST, MOST_OF_A_TILE, CORNERS = 1_000_000, 500_000, 8
 LOOKED_AT, BUILT = 8e-6, 4e-5
 # faces that recon-mesh smooths in a second, for one step
 SMOOTHED_A_SECOND = 150_000
-ROOM = 0.8
+# the part of the directions around a scanner that has points in a room, and up to how many scanners are looked at
+ROOM, MOST_STATIONS = 0.8, 500
 # the noise, in spacings, over which detail and noise cannot be separated
 LARGE_NOISE = 0.22
 
@@ -129,26 +130,33 @@ def thin(cloud: Cloud, texture: Spacing, args: Any, choices: Choices) -> Cloud:
     return cloud
 
 
-def closed_around(cloud: Cloud, texture: Spacing, args: Any, choices: Choices) -> tuple[Cloud, float]:
-    """The cloud with eight points around it, where it was scanned from inside."""
+def seen_around(cloud: Cloud) -> float | None:
+    """In which part of the directions around the scanner with the most points there are points; None where no scanner tells that."""
     first = cloud.first_scanners()
     seen = first[first >= 0]
-    part = 0.0
-    if len(seen) and len(cloud.scanners) <= 500 and not cloud.is_made_up:
-        busiest = np.bincount(seen).argmax()
-        part = surrounding(cloud.points[first == busiest], cloud.scanners[busiest])
-    off = args.surround
+    if not len(seen) or len(cloud.scanners) > MOST_STATIONS or cloud.is_made_up:
+        return None
+    busiest = np.bincount(seen).argmax()
+    return surrounding(cloud.points[first == busiest], cloud.scanners[busiest])
+
+
+def closed_around(cloud: Cloud, texture: Spacing, args: Any, choices: Choices) -> tuple[Cloud, float]:
+    """The cloud with eight points around it, where it was scanned from inside."""
+    part, off = seen_around(cloud), args.surround
+    is_inside = part is not None and part > ROOM
+    is_many = len(cloud.scanners) > MOST_STATIONS and not cloud.is_made_up
+    found = (f'points in {part:.0%} of the directions around a scanner' if part is not None else
+             f'over {MOST_STATIONS} scanner positions' if is_many else 'no scanner positions are known')
     if off is None:
         low, high = box_of(cloud.points)
         size = float((high - low).max())
-        off = float(f'{max(10 * texture.distance, 0.02 * size):.3g}') if part > ROOM else 0.0
-        where = 'scanned from inside' if off else 'not scanned from inside'
-        choices.choose('surround', f'{off:g}', f'{where}: points in {part:.0%} of the directions around a scanner')
+        off = float(f'{max(10 * texture.distance, 0.02 * size):.3g}') if is_inside else 0.0
+        where = '' if part is None else 'scanned from inside: ' if is_inside else 'not scanned from inside: '
+        choices.choose('surround', f'{off:g}', where + found)
     else:
         choices.choose('surround', f'{off:g}', 'given')
-        if off and part <= ROOM:
-            choices.warn(f'--surround is for scans from inside, and only {part:.0%} of the directions around a scanner have points: the mesh may '
-                         'have fins toward the eight added points')
+        if off and not is_inside:
+            choices.warn(f'--surround is for scans from inside ({found}): the mesh may have fins toward the eight added points')
     return (cloud.with_corners(off) if off else cloud), off
 
 

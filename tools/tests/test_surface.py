@@ -132,6 +132,13 @@ class Surfaces(InFolder):
         listed('room.xyz', walls)
         report = made('room.xyz=0,0,0', '--no-check')
         equal((float(chosen(report, 'surround')[0]) > 0, report['counts']['scanners'], report['counts']['points']), (True, 9, 808))
+        # where no position is known, nothing is said of directions
+        report = made('room.xyz', '--no-check', '--force')
+        equal((chosen(report, 'surround'), report['choices']['surround']['why']), (['0'], 'no scanner positions are known'))
+        equal('normals)' in report['figures']['contradictions a line of sight'], True)
+        report = made('room.xyz', '--no-check', '--force', '--surround', '0.5')
+        equal([text for text in report['warnings'] if 'surround' in text],
+              ['--surround is for scans from inside (no scanner positions are known): the mesh may have fins toward the eight added points'])
 
     def test_points_that_are_too_far_out_to_compute_with(self) -> None:
         points = np.r_[sphere(300), [[0, 0, 1e308], [-1e200, 0, 0]]]
