@@ -1,4 +1,4 @@
--- Theorems on runs of `recon check` that are done, and the printed form of a scan with its header as literal text.
+-- Theorems on runs of `check` that are done, and the printed form of a scan with its header as literal text.
 --
 --   seen_lines wide               the header lines of the columns that say by which scanners a point was seen
 --   scan_header wide v s          the header of a scan file with these numbers of points and scanners

@@ -1,4 +1,4 @@
-//! Theorems on runs of `recon check` that are done, for auditors.
+//! Theorems on runs of `check` that are done, for auditors.
 //!
 //! Verified: after a run of `check` that is done the mesh is the best surface of the scan; no call failed in a run that is done.
 //!
