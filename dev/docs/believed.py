@@ -26,7 +26,7 @@ AUDIT = CRATES.parent / 'docs' / 'verification' / 'audit.md'
 PRINTED = '<!-- The definitions are printed by dev/docs from specs/. For a new one write a line - `CRATE/FILE`: `NAME`, and run dev/docs write. -->'
 ENTRY = re.compile(r'(?ms)^\*\*`([^`]+)`\*\* \(`(\w+)`, `([\w/.]+)`\)\..*?^```text\n.*?^```\n')
 BY_DEFAULT = [
-    ('recon_cmd', 'CheckLaws', 'IsTextOf', 'IsBestMesh'),
+    ('recon_laws', 'Laws', 'IsPrintedFrom', 'IsBestMesh'),
     ('recon_cmd', 'CheckLaws', 'IsBestOf'),
     ('recon_cmd', 'CheckLaws', 'CheckEnds'),
     ('recon_cmd', 'src/whole_run.rt', 'run'),
