@@ -39,7 +39,9 @@ mod stop;
 mod texts;
 
 pub use answer::{Answer, Reason, Which};
-pub use checking::{Checked, CheckedTexts, Confirmed, check_all, check_all_watched};
+pub use checking::{
+    Checked, CheckedTexts, Confirmed, OwnedTexts, check_all, check_all_watched, check_owned,
+};
 pub use laws::answers_are_unique;
 use std::alloc::AllocError;
 
