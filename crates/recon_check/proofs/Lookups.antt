@@ -175,43 +175,73 @@ pub record ArePlaced (amounts numbers placed : List ℕ) (n : ℕ) : Type 0 wher
   pub unset : (v : ℕ) → ((k : ℕ) → k < n → slice_index numbers k ≢ v) → slice_index placed v ≡ 0
 
 -- ---- what is noted
-module _ (limit n : ℕ) (is_there : ℕ → Bool) (key_at : ℕ → List ℕ) (keys : List (List ℕ)) (old : List ℕ)
-    (h : AreFound limit n is_there key_at keys old) where
-  -- nothing is at the number
-  pub found_missed : is_there n ≡ false → AreFound limit (n + 1) is_there key_at keys old
-  found_missed missing = record {
-    count = h.count;
-    there = h.there;
-    key = h.key;
-    all = λ j k l.
-        below_more (λ i. is_there i ≡ true → k < length keys → get_or keys k [] ≡ key_at i → slice_index old k < limit) n
-        (λ i m. h.all i k m) (λ there. absurd (false≢true (sym missing ∙ there))) j l;
+-- of what is there below upto, and of some more that is there, one is noted
+module _ (limit upto : ℕ) (is_there : ℕ → Bool) (key_at : ℕ → List ℕ) (keys : List (List ℕ)) (old : List ℕ)
+    (h : AreFound limit upto is_there key_at keys old) (n : ℕ) (key : List ℕ) (new : List ℕ) (here : is_there n ≡ true)
+    (is : key ≡ key_at n) (noted : IsNoted keys key n old new) where
+  by_key : {P : Type 0} (k : ℕ) → (get_or keys k [] ≡ key → P) → (get_or keys k [] ≢ key → P) → P
+  by_key k same other =
+      let test : Bool = bytes_eq (get_or keys k []) key in
+      ⊎_elim (λ (e : test ≡ true). same ((bytes_eq-Decides (get_or keys k []) key).0 e))
+      (λ (e : test ≡ false). other (λ (g : get_or keys k [] ≡ key).
+      false≢true (sym e ∙ (bytes_eq-Decides (get_or keys k []) key).1 g))) (cases_Bool test)
+
+  noted_there : (k : ℕ) → k < length keys → slice_index new k < limit → is_there (slice_index new k) ≡ true
+  noted_there k l m =
+      by_key k (λ (e : get_or keys k [] ≡ key). subst (λ (i : ℕ). is_there i ≡ true) (sym (noted.here k l e)) here)
+      (λ other. subst (λ (i : ℕ). is_there i ≡ true) (sym (noted.kept k other))
+      (h.there k l (let same = noted.kept k other in omega (arith, same, m))))
+
+  noted_key : (k : ℕ) → k < length keys → slice_index new k < limit → get_or keys k [] ≡ key_at (slice_index new k)
+  noted_key k l m =
+      by_key k (λ (e : get_or keys k [] ≡ key). e ∙ is ∙ ap key_at (sym (noted.here k l e)))
+      (λ other. h.key k l (let same = noted.kept k other in omega (arith, same, m)) ∙ ap key_at (sym (noted.kept k other)))
+
+  -- nothing is claimed of what was looked up
+  pub found_some : AreFound limit 0 is_there key_at keys new
+  found_some = record {
+    count = noted.count ∙ h.count;
+    there = noted_there;
+    key = noted_key;
+    all = λ j k l. absurd (omega (arith, l));
   }
 
-  -- what is at the number was looked up
-  pub found_more : (key : List ℕ) (new : List ℕ) → n < limit → is_there n ≡ true → key ≡ key_at n → IsNoted keys key n old new
-      → AreFound limit (n + 1) is_there key_at keys new
-  found_more key new below here is noted = record {
+  -- what is at the number was looked up after all below it
+  pub found_more : upto ≡ n → n < limit → AreFound limit (n + 1) is_there key_at keys new
+  found_more upto_is below = record {
     count = noted.count ∙ h.count;
-    there = λ k l m. by k (λ (e : get_or keys k [] ≡ key). subst (λ (i : ℕ). is_there i ≡ true) (sym (noted.here k l e)) here)
-        (λ other. subst (λ (i : ℕ). is_there i ≡ true) (sym (noted.kept k other))
-        (h.there k l (let same = noted.kept k other in omega (arith, same, m))));
-    key = λ k l m. by k (λ (e : get_or keys k [] ≡ key). e ∙ is ∙ ap key_at (sym (noted.here k l e)))
-        (λ other. h.key k l (let same = noted.kept k other in omega (arith, same, m)) ∙ ap key_at (sym (noted.kept k other)));
-    all = λ j k l there m at. by k (λ (e : get_or keys k [] ≡ key). let same = noted.here k m e in omega (arith, same, below))
+    there = noted_there;
+    key = noted_key;
+    all = λ j k l there m at. by_key k (λ (e : get_or keys k [] ≡ key). let same = noted.here k m e in omega (arith, same, below))
         (λ other. let same = noted.kept k other in
-        let less : j < n =
-        ⊎_elim (λ (less : j < n). less) (λ (more : n ≤ j). let e : j ≡ n = omega arith in
+        let less : j < upto =
+        ⊎_elim (λ (less : j < n). omega (arith, less, upto_is)) (λ (more : n ≤ j). let e : j ≡ n = omega arith in
         absurd (other (at ∙ ap key_at e ∙ sym is))) (cases_lt j n) in
         let before = h.all j k less there m at in omega (arith, same, before));
   }
-    where
-      by : {P : Type 0} (k : ℕ) → (get_or keys k [] ≡ key → P) → (get_or keys k [] ≢ key → P) → P
-      by k same other =
-          let test : Bool = bytes_eq (get_or keys k []) key in
-          ⊎_elim (λ (e : test ≡ true). same ((bytes_eq-Decides (get_or keys k []) key).0 e))
-          (λ (e : test ≡ false). other (λ (g : get_or keys k [] ≡ key).
-          false≢true (sym e ∙ (bytes_eq-Decides (get_or keys k []) key).1 g))) (cases_Bool test)
+
+-- nothing is at the number
+pub found_missed : (limit n : ℕ) (is_there : ℕ → Bool) (key_at : ℕ → List ℕ) (keys : List (List ℕ)) (old : List ℕ)
+    → AreFound limit n is_there key_at keys old → is_there n ≡ false → AreFound limit (n + 1) is_there key_at keys old
+found_missed limit n is_there key_at keys old h missing = record {
+  count = h.count;
+  there = h.there;
+  key = h.key;
+  all = λ j k l.
+      below_more (λ i. is_there i ≡ true → k < length keys → get_or keys k [] ≡ key_at i → slice_index old k < limit) n
+      (λ i m. h.all i k m) (λ there. absurd (false≢true (sym missing ∙ there))) j l;
+}
+
+-- where each row has a number nothing is left to look up
+pub found_all : (limit : ℕ) (is_there : ℕ → Bool) (key_at : ℕ → List ℕ) (keys : List (List ℕ)) (numbers : List ℕ)
+    → AreFound limit 0 is_there key_at keys numbers → ((k : ℕ) → k < length numbers → slice_index numbers k < limit)
+    → AreFound limit limit is_there key_at keys numbers
+found_all limit is_there key_at keys numbers h below = record {
+  count = h.count;
+  there = h.there;
+  key = h.key;
+  all = λ j k l there m at. below k (omega (arith, m, h.count));
+}
 
 -- the number was written at the place of the key
 pub noted_at : (keys : List (List ℕ)) (key : List ℕ) (number place : ℕ) (old : List ℕ) → AllPairs IsBefore keys

@@ -36,6 +36,15 @@ use surface::facets_by_number;
 use tetra_store::Tetra;
 use watch::{Silent, Watch};
 
+/// The text of a mesh, and a parsed certificate.
+#[derive(Drop)]
+struct Claimed<'a> {
+    /// The text of the mesh.
+    mesh: &'a [u8],
+    /// The certificate.
+    cert: Certificate,
+}
+
 /// The numbers of a surface that the certificate shows best and whose text is the mesh.
 #[derive(Drop)]
 struct Accepted {
@@ -124,21 +133,21 @@ fn shown_over(
     settings: Settings,
     tetra: Tetra,
     votes: Votes,
-    mesh: &[u8],
-    cert: &Certificate,
+    claimed: &Claimed,
 ) -> Result<Accepted, Stop>
     requires store { IsStoreOf (shown_of scan.now) settings tetra }
     requires counts { AreCountsOf (scene_of_scan (shown_of scan.now) settings) tetra.slots votes.crossed.items votes.behind.items votes.fixed.items }
     requires few { length votes.fixed.items < 2 ^ 32 }
-    requires formed { IsWellFormed (claim_of cert.now) }
-    requires stated { HasCounts (claim_of cert.now) (shown_of scan.now) settings }
-    ensures shown { IfOk result (λ shown. IsSolvedWith (shown_of scan.now) settings mesh.now shown.inside shown.faces shown.cost (claim_of cert.now)) }
-    ensures fault { IfErr result (StopsFor (IsFault (shown_of scan.now) settings mesh.now (claim_of cert.now))) }
+    requires formed { IsWellFormed (claim_of claimed.now.cert) }
+    requires stated { HasCounts (claim_of claimed.now.cert) (shown_of scan.now) settings }
+    ensures shown { IfOk result (λ shown. IsSolvedWith (shown_of scan.now) settings claimed.now.mesh.now shown.inside shown.faces shown.cost (claim_of claimed.now.cert)) }
+    ensures fault { IfErr result (StopsFor (IsFault (shown_of scan.now) settings claimed.now.mesh.now (claim_of claimed.now.cert))) }
 {
+    let cert = &claimed.cert;
     let surface = best_surface(alloc, scan, settings, tetra, votes, cert)?;
     let mut text = Vec::new(alloc);
     push_mesh(&mut text, &surface)?;
-    match first_difference(mesh, &text) {
+    match first_difference(claimed.mesh, &text) {
         Some(place) => Err(Stop::Fault(Reason::MeshDiffers { place })),
         None => Ok(Accepted {
             inside: cert.inside.len() as u64,
@@ -153,21 +162,51 @@ fn shown_by_certificate<W: Watch>(
     alloc: Global,
     scan: &Scan,
     settings: Settings,
-    mesh: &[u8],
-    cert: &Certificate,
+    claimed: &Claimed,
     watch: &mut W,
 ) -> Result<Accepted, Stop>
-    requires { IsWellFormed (claim_of cert.now) }
-    ensures shown { IfOk result (λ shown. IsSolvedWith (shown_of scan.now) settings mesh.now shown.inside shown.faces shown.cost (claim_of cert.now)) }
-    ensures fault { IfErr result (StopsFor (IsFault (shown_of scan.now) settings mesh.now (claim_of cert.now))) }
+    requires { IsWellFormed (claim_of claimed.now.cert) }
+    ensures shown { IfOk result (λ shown. IsSolvedWith (shown_of scan.now) settings claimed.now.mesh.now shown.inside shown.faces shown.cost (claim_of claimed.now.cert)) }
+    ensures fault { IfErr result (StopsFor (IsFault (shown_of scan.now) settings claimed.now.mesh.now (claim_of claimed.now.cert))) }
 {
     let seen = seen_in(alloc, scan)?;
-    if let Some(reason) = other_count(scan, &seen.points, settings, cert) {
+    if let Some(reason) = other_count(scan, &seen.points, settings, &claimed.cert) {
         return Err(Stop::Fault(reason));
     }
     let (tetra, votes) = counted_cells_with(alloc, scan, &seen, settings, watch)?;
     drop(seen);
-    shown_over(alloc, scan, settings, tetra, votes, mesh, cert)
+    shown_over(alloc, scan, settings, tetra, votes, claimed)
+}
+
+/// Returns the numbers of the surface and the certificate, if the certificate shows the surface best, its text is the mesh, and it has no
+/// fingerprint or this one.
+fn shown_by_claim<W: Watch>(
+    alloc: Global,
+    scan: &Scan,
+    settings: Settings,
+    stamp: &Stamp,
+    claimed: Claimed,
+    watch: &mut W,
+) -> Result<Confirmed, Stop>
+    requires { IsWellFormed (claim_of claimed.cert) }
+    ensures shown { IfOk result (λ shown. IsAnswer (shown_of scan.now) settings (stamp_view stamp.now) claimed.entry.mesh.now (cert_text (claim_of claimed.entry.cert)) (Answer.Yes shown.inside shown.faces shown.cost)) }
+    ensures parsed { IfOk result (λ shown. shown.cert ≡ claimed.entry.cert) }
+    ensures fault { IfErr result (StopsFor (λ reason. IsAnswer (shown_of scan.now) settings (stamp_view stamp.now) claimed.entry.mesh.now (cert_text (claim_of claimed.entry.cert)) (Answer.No reason))) }
+{
+    if let Some(reason) = other_stamp(stamp, &claimed.cert) {
+        return Err(Stop::Fault(reason));
+    }
+    let Accepted {
+        inside,
+        faces,
+        cost,
+    } = shown_by_certificate(alloc, scan, settings, &claimed, watch)?;
+    Ok(Confirmed {
+        inside,
+        faces,
+        cost,
+        cert: claimed.cert,
+    })
 }
 
 /// The texts to be checked. Nothing is assumed about them.
@@ -177,6 +216,15 @@ pub struct CheckedTexts<'a> {
     pub mesh: &'a [u8],
     /// The text of a certificate.
     pub cert: &'a [u8],
+}
+
+/// The same texts, if that of the certificate can be freed after it is parsed.
+#[derive(Debug, Drop)]
+pub struct OwnedTexts<'a> {
+    /// The text of a mesh.
+    pub mesh: &'a [u8],
+    /// The text of a certificate.
+    pub cert: Vec<u8>,
 }
 
 /// The numbers of a best surface, and its parsed certificate.
@@ -216,20 +264,27 @@ fn shown_by_texts<W: Watch>(
     ensures fault { IfErr result (StopsFor (λ reason. IsAnswer (shown_of scan.now) settings (stamp_view stamp.now) texts.now.mesh.now texts.now.cert.now (Answer.No reason))) }
 {
     let cert = certificate(alloc, texts.cert)?;
-    if let Some(reason) = other_stamp(stamp, &cert) {
-        return Err(Stop::Fault(reason));
-    }
-    let Accepted {
-        inside,
-        faces,
-        cost,
-    } = shown_by_certificate(alloc, scan, settings, texts.mesh, &cert, watch)?;
-    Ok(Confirmed {
-        inside,
-        faces,
-        cost,
-        cert,
-    })
+    let mesh = texts.mesh;
+    shown_by_claim(alloc, scan, settings, stamp, Claimed { mesh, cert }, watch)
+}
+
+/// Returns the same, and frees the text of the certificate after it is parsed.
+fn shown_by_owned<W: Watch>(
+    alloc: Global,
+    scan: &Scan,
+    settings: Settings,
+    stamp: &Stamp,
+    texts: OwnedTexts,
+    watch: &mut W,
+) -> Result<Confirmed, Stop>
+    ensures shown { IfOk result (λ shown. IsAnswer (shown_of scan.now) settings (stamp_view stamp.now) texts.entry.mesh.now texts.entry.cert.items (Answer.Yes shown.inside shown.faces shown.cost)) }
+    ensures parsed { IfOk result (λ shown. IsTextOf shown.cert texts.entry.cert.items) }
+    ensures fault { IfErr result (StopsFor (λ reason. IsAnswer (shown_of scan.now) settings (stamp_view stamp.now) texts.entry.mesh.now texts.entry.cert.items (Answer.No reason))) }
+{
+    let OwnedTexts { mesh, cert: text } = texts;
+    let cert = certificate(alloc, &text)?;
+    drop(text);
+    shown_by_claim(alloc, scan, settings, stamp, Claimed { mesh, cert }, watch)
 }
 
 /// Checks whether two texts are the best surface of a scan at these settings and its certificate of optimality, with no fingerprint of the
@@ -280,6 +335,25 @@ pub fn check_all_watched<W: Watch>(
     match shown_by_texts(alloc, scan, settings, stamp, texts, watch) {
         Ok(shown) => Ok(Checked::Yes(shown)),
         Err(Stop::Fault(reason)) => Ok(Checked::No(reason)),
+        Err(Stop::NoMemory) => Err(AllocError),
+    }
+}
+
+/// Checks the same as [`check_all_watched`], and frees the text of the certificate after it is parsed. It takes less memory.
+pub fn check_owned<W: Watch>(
+    alloc: Global,
+    scan: &Scan,
+    settings: Settings,
+    stamp: &Stamp,
+    texts: OwnedTexts,
+    watch: &mut W,
+) -> Result<Checked, NoMemory>
+    ensures answer { IfOk result (λ checked. IsAnswer (shown_of scan.now) settings (stamp_view stamp.now) texts.entry.mesh.now texts.entry.cert.items (answer_found checked)) }
+    ensures parsed { IfOk result (IsParsedFrom texts.entry.cert.items) }
+{
+    match shown_by_owned(alloc, scan, settings, stamp, texts, watch) {
+        Ok(shown) => Ok(Checked::Yes(shown)),
+        Err(Stop::Fault(why)) => Ok(Checked::No(why)),
         Err(Stop::NoMemory) => Err(AllocError),
     }
 }

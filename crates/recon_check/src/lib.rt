@@ -12,7 +12,7 @@
 //! | `answer` | the answers and the reasons |
 //! | `counts` | compares the numbers that a certificate states with the scan's |
 //! | `stamps` | compares the fingerprint of a certificate with that of the run |
-//! | `lookup`, `stated` | find the cells and sides that rows name |
+//! | `lookup`, `order`, `stated` | find the cells and sides that rows name |
 //! | `limits`, `balance` | find rows that state too much, and cells at which the flow is not conserved |
 //! | `faults` | returns these and the remaining faults as reasons over cells and facets |
 //! | `texts` | finds the first difference of two texts |
@@ -32,13 +32,16 @@ mod faults;
 mod laws;
 mod limits;
 mod lookup;
+mod order;
 mod stamps;
 mod stated;
 mod stop;
 mod texts;
 
 pub use answer::{Answer, Reason, Which};
-pub use checking::{Checked, CheckedTexts, Confirmed, check_all, check_all_watched};
+pub use checking::{
+    Checked, CheckedTexts, Confirmed, OwnedTexts, check_all, check_all_watched, check_owned,
+};
 pub use laws::answers_are_unique;
 use std::alloc::AllocError;
 

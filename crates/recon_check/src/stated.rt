@@ -1,8 +1,9 @@
 //! What a certificate states about linked cells, by the numbers of cells and sides. It depends on the search for rows, on the cells of
 //! `tetra_store` and on the rows and facets of `cell_net`.
 //!
-//! A loop over all cell numbers looks each cell up among the rows and writes its number at the row that names it. A row without a number
-//! names no cell of the scan; the numbers of the others are the indices of labels and amounts.
+//! Cells are looked up among the rows, and the number of each is written at the row that names it: first in an order that suits the cache
+//! (a hint), and, if a row is left without a number, by all numbers of cells. A row that still has none names no cell of
+//! the scan; the numbers of the others are the indices of labels and amounts.
 
 ghost use Rattle.std.specs.Prelude.{◌≡◌, ◌≢◌, ◌<◌, ◌≤◌, ◌+◌, ◌*◌, ◌/◌, ◌%◌, ◌^◌, ℕ, true, false, IfOk, IfErr, IfSome, IfNone, AllPairs, OnOk, length, map, slice_index};
 ghost use Rattle.cell_net.specs.Arcs.{across, is_free};
@@ -20,6 +21,7 @@ ghost use Rattle.recon_check.specs.Stated.{IsFlaggedFor, IsStatedBy};
 ghost use Rattle.recon_check.specs.Stops.{StopsFor};
 
 use crate::lookup::{find, starts_of};
+use crate::order::CellOrder;
 use crate::stop::Stop;
 use crate::{NoMemory, Reason};
 use cell_net::{cell_row, facet_row, flag};
@@ -56,11 +58,62 @@ fn note<R: Row>(rows: &[R], starts: &[usize], key: &[u32], number: usize, number
     }
 }
 
-/// Returns, for each row, the number of the cell that it names, or the limit if it names none.
+/// Returns, for each row, the number of the cell in this order that it names, or the limit if it names none.
+fn cells_in_order<R: Row>(
+    alloc: Global,
+    t: &Tetra,
+    limit: usize,
+    order: &CellOrder,
+    rows: &[R],
+    starts: &[usize],
+) -> Result<Vec<usize>, NoMemory>
+    requires rising { AllPairs IsBefore (map R.key rows.now) }
+    requires starts { AreStarts (map R.key rows.now) starts.now }
+    ensures { IfOk result (λ cells. AreCellsFound t.now.slots limit 0 (map R.key rows.now) cells.items) }
+{
+    let mut cells = vec![in alloc; limit; rows.len()]?;
+    for number in order.numbers.as_slice() {
+        if let Some(id) = t.id_at(*number as usize) {
+            note(
+                rows,
+                starts,
+                &cell_row(t.vertices(id)),
+                id.number(),
+                &mut cells,
+            );
+        }
+    }
+    Ok(cells)
+}
+
+/// Returns, for each row, the number of the cell that it names, or the limit if it names none. It looks up all cells.
+fn all_cells<R: Row>(
+    alloc: Global,
+    t: &Tetra,
+    limit: usize,
+    rows: &[R],
+    starts: &[usize],
+) -> Result<Vec<usize>, NoMemory>
+    requires rising { AllPairs IsBefore (map R.key rows.now) }
+    requires starts { AreStarts (map R.key rows.now) starts.now }
+    requires limit { length t.now.slots ≤ limit }
+    ensures { IfOk result (λ cells. AreCellsFound t.now.slots limit limit (map R.key rows.now) cells.items) }
+{
+    let mut cells = vec![in alloc; limit; rows.len()]?;
+    for number in 0..limit {
+        if let Some(id) = t.id_at(number) {
+            note(rows, starts, &cell_row(t.vertices(id)), number, &mut cells);
+        }
+    }
+    Ok(cells)
+}
+
+/// Returns, for each row, the number of the cell that it names, or the limit if it names none. The order is a hint.
 fn cells_of_rows<R: Row>(
     alloc: Global,
     t: &Tetra,
     limit: usize,
+    order: &CellOrder,
     rows: &[R],
 ) -> Result<Vec<usize>, NoMemory>
     requires rising { AllPairs IsBefore (map R.key rows.now) }
@@ -68,13 +121,11 @@ fn cells_of_rows<R: Row>(
     ensures { IfOk result (λ cells. AreCellsFound t.now.slots limit limit (map R.key rows.now) cells.items) }
 {
     let starts = starts_of(alloc, rows, t.vertex_count() as usize + 1)?;
-    let mut cells = vec![in alloc; limit; rows.len()]?;
-    for number in 0..limit {
-        if let Some(id) = t.id_at(number) {
-            note(rows, &starts, &cell_row(t.vertices(id)), number, &mut cells);
-        }
+    let cells = cells_in_order(alloc, t, limit, order, rows, &starts)?;
+    match first_past(&cells, limit) {
+        Some(_) => all_cells(alloc, t, limit, rows, &starts),
+        None => Ok(cells),
     }
-    Ok(cells)
 }
 
 /// Returns the facet of the side with this number, if its adjacent cell is free.
@@ -92,11 +143,80 @@ fn open_facet(t: &Tetra, fixed: &[bool], number: usize) -> Option<[u32; 3]>
     Some(facet_row(t.vertices(id), side))
 }
 
-/// Returns, for each row, the number of the side that it names, or the limit if it names none.
+/// Writes the number of each side of a cell at the row that names it, if its adjacent cell is free.
+fn note_sides(
+    t: &Tetra,
+    fixed: &[bool],
+    cell: usize,
+    rows: &[FlowRow],
+    starts: &[usize],
+    sides: &mut [usize],
+)
+    requires rising { AllPairs IsBefore (map (λ row. row.facet) rows.now) }
+    requires starts { AreStarts (map (λ row. row.facet) rows.now) starts.now }
+    requires few { cell < 2 ^ 32 }
+    requires found { AreSidesFound t.now.slots fixed.now (4 * length fixed.now) 0 (map (λ row. row.facet) rows.now) sides.old }
+    ensures { AreSidesFound t.now.slots fixed.now (4 * length fixed.now) 0 (map (λ row. row.facet) rows.now) sides.new }
+{
+    for side in 0..4 {
+        let number = 4 * cell + side;
+        if let Some(facet) = open_facet(t, fixed, number) {
+            note(rows, starts, &facet, number, sides);
+        }
+    }
+}
+
+/// Returns, for each row, the number of the side of a cell in this order that it names, or the limit if it names none.
+fn sides_in_order(
+    alloc: Global,
+    t: &Tetra,
+    fixed: &[bool],
+    order: &CellOrder,
+    rows: &[FlowRow],
+    starts: &[usize],
+) -> Result<Vec<usize>, NoMemory>
+    requires rising { AllPairs IsBefore (map (λ row. row.facet) rows.now) }
+    requires starts { AreStarts (map (λ row. row.facet) rows.now) starts.now }
+    requires few { length fixed.now < 2 ^ 32 }
+    ensures { IfOk result (λ sides. AreSidesFound t.now.slots fixed.now (4 * length fixed.now) 0 (map (λ row. row.facet) rows.now) sides.items) }
+{
+    let mut sides = vec![in alloc; 4 * fixed.len(); rows.len()]?;
+    for number in order.numbers.as_slice() {
+        note_sides(t, fixed, *number as usize, rows, starts, &mut sides);
+    }
+    Ok(sides)
+}
+
+/// Returns, for each row, the number of the side that it names, or the limit if it names none. It looks up the sides of all cells.
+fn all_sides(
+    alloc: Global,
+    t: &Tetra,
+    fixed: &[bool],
+    rows: &[FlowRow],
+    starts: &[usize],
+) -> Result<Vec<usize>, NoMemory>
+    requires rising { AllPairs IsBefore (map (λ row. row.facet) rows.now) }
+    requires starts { AreStarts (map (λ row. row.facet) rows.now) starts.now }
+    requires flags { length t.now.slots ≤ length fixed.now }
+    requires few { length fixed.now < 2 ^ 32 }
+    ensures { IfOk result (λ sides. AreSidesFound t.now.slots fixed.now (4 * length fixed.now) (4 * length fixed.now) (map (λ row. row.facet) rows.now) sides.items) }
+{
+    let limit = 4 * fixed.len();
+    let mut sides = vec![in alloc; limit; rows.len()]?;
+    for number in 0..limit {
+        if let Some(facet) = open_facet(t, fixed, number) {
+            note(rows, starts, &facet, number, &mut sides);
+        }
+    }
+    Ok(sides)
+}
+
+/// Returns, for each row, the number of the side that it names, or the limit if it names none. The order is a hint.
 fn sides_of_rows(
     alloc: Global,
     t: &Tetra,
     fixed: &[bool],
+    order: &CellOrder,
     rows: &[FlowRow],
 ) -> Result<Vec<usize>, NoMemory>
     requires rising { AllPairs IsBefore (map (λ row. row.facet) rows.now) }
@@ -105,14 +225,11 @@ fn sides_of_rows(
     ensures { IfOk result (λ sides. AreSidesFound t.now.slots fixed.now (4 * length fixed.now) (4 * length fixed.now) (map (λ row. row.facet) rows.now) sides.items) }
 {
     let starts = starts_of(alloc, rows, t.vertex_count() as usize + 1)?;
-    let limit = 4 * fixed.len();
-    let mut sides = vec![in alloc; limit; rows.len()]?;
-    for number in 0..limit {
-        if let Some(facet) = open_facet(t, fixed, number) {
-            note(rows, &starts, &facet, number, &mut sides);
-        }
+    let sides = sides_in_order(alloc, t, fixed, order, rows, &starts)?;
+    match first_past(&sides, 4 * fixed.len()) {
+        Some(_) => all_sides(alloc, t, fixed, rows, &starts),
+        None => Ok(sides),
     }
-    Ok(sides)
 }
 
 /// Finds the index of the first number that is not below the limit.
@@ -199,15 +316,17 @@ pub fn stated_by(
     ensures stray { IfErr result (StopsFor (TellsOf t.now.slots fixed.now (claim_of cert.now))) }
 {
     let limit = fixed.len();
-    let cells = cells_of_rows(alloc, t, limit, &cert.inside)?;
+    let order = CellOrder::new(alloc, t)?;
+    let cells = cells_of_rows(alloc, t, limit, &order, &cert.inside)?;
     if let Some(place) = first_past(&cells, limit) {
         return Err(Stop::Fault(Reason::NoSuchCell { row: place as u64 }));
     }
-    let sides = sides_of_rows(alloc, t, fixed, &cert.flow)?;
+    let sides = sides_of_rows(alloc, t, fixed, &order, &cert.flow)?;
     if let Some(place) = first_past(&sides, 4 * limit) {
         return Err(Stop::Fault(Reason::NoSuchFacet { row: place as u64 }));
     }
-    let at_sinks = cells_of_rows(alloc, t, limit, &cert.sink)?;
+    let at_sinks = cells_of_rows(alloc, t, limit, &order, &cert.sink)?;
+    drop(order);
     if let Some(place) = first_past(&at_sinks, limit) {
         return Err(Stop::Fault(Reason::NoSuchSink { row: place as u64 }));
     }

@@ -1,10 +1,11 @@
-use Rattle.std.proofs.Common.{inl, inr}
-use Rattle.certificate.specs.Certificates.{claim_of, stamp_view}
+use Rattle.std.proofs.Common.{ℕ, List, IfErr, subst, sym}
+use Rattle.certificate.specs.Certificates.{stamp_view}
 use Rattle.scan_rows.specs.Views.{shown_of}
-use Rattle.recon_check.specs.Answers.{IsFault, IsAnswer}
+use Rattle.recon_check.specs.Answers.{IsAnswer}
+use Rattle.recon_check.specs.Stops.{StopsFor}
 use Rattle.recon_check.specs.declared.answer.Answer.TheVariants.{No}
-use Rattle.recon_check.proofs.Stopped.{passed_on, stop_weaker}
-use Rattle.recon_check.proofs.Whole.{fault_answer}
+use Rattle.recon_check.specs.declared.answer.Reason.{Reason}
+use Rattle.recon_check.proofs.Stopped.{passed_on}
 use Rattle.recon_check.proofs.checking.shown_by_texts.Goals as goal
 
 pub returns-in_err-cert-clause-fault : goal.returns-in_err-cert-clause-fault
@@ -13,22 +14,12 @@ returns-in_err-cert-clause-fault g c =
     (c.in_err-cert.ensures.refused (shown_of c.args.scan.now) c.args.settings (stamp_view c.args.stamp.now)
     c.args.texts.now.mesh.now)
 
-pub returns-in-Some-clause-fault : goal.returns-in-Some-clause-fault
-returns-in-Some-clause-fault g c =
-    fault_answer (shown_of c.args.scan.now) c.args.settings (stamp_view c.args.stamp.now) c.args.texts.now.mesh.now
-    c.args.texts.now.cert.now
-    (claim_of c.in_ok-cert.cert) c.in-Some.reason c.in_ok-cert.ensures.formed c.in_ok-cert.ensures.text
-    (inl c.in-Some.ensures.other)
+pub returns-clause-shown : goal.returns-clause-shown
+returns-clause-shown g c = rw c.in_ok-cert.ensures.text c.shown_by_claim.ensures.shown
 
-pub returns-in_err-inside-clause-fault : goal.returns-in_err-inside-clause-fault
-returns-in_err-inside-clause-fault g c =
-    passed_on c.from_residual-in_err-inside.result c.in_err-inside.field-0.0
-    (λ reason. IsAnswer (shown_of c.args.scan.now) c.args.settings (stamp_view c.args.stamp.now) c.args.texts.now.mesh.now
-    c.args.texts.now.cert.now (No reason))
-    c.from_residual-in_err-inside.ensures.1
-    (stop_weaker c.in_err-inside.field-0.0
-    (IsFault (shown_of c.args.scan.now) c.args.settings c.args.texts.now.mesh.now (claim_of c.in_ok-cert.cert)) _
-    (λ reason h. fault_answer (shown_of c.args.scan.now) c.args.settings (stamp_view c.args.stamp.now) c.args.texts.now.mesh.now
-    c.args.texts.now.cert.now (claim_of c.in_ok-cert.cert) reason c.in_ok-cert.ensures.formed c.in_ok-cert.ensures.text
-    (inr (c.in_default.ensures.same, h)))
-    c.in_err-inside.ensures.fault)
+pub returns-clause-fault : goal.returns-clause-fault
+returns-clause-fault g c =
+    subst
+    (λ (text : List ℕ). IfErr c.shown_by_claim.result (StopsFor (λ (reason : Reason). IsAnswer (shown_of c.args.scan.now)
+    c.args.settings (stamp_view c.args.stamp.now) c.args.texts.now.mesh.now text (No reason)))) (sym c.in_ok-cert.ensures.text)
+    c.shown_by_claim.ensures.fault

@@ -18,8 +18,8 @@ use Rattle.recon_check.proofs.checking.shown_over.Goals as goal
 pub returns-in_err-surface-clause-fault : goal.returns-in_err-surface-clause-fault
 returns-in_err-surface-clause-fault c =
     passed_on c.from_residual.result c.in_err-surface.field-0.0
-    (IsFault (shown_of c.args.scan.now) c.args.settings c.args.mesh.now (claim_of c.args.cert.now)) c.from_residual.ensures.1
-    (c.in_err-surface.ensures.fault c.args.mesh.now)
+    (IsFault (shown_of c.args.scan.now) c.args.settings c.args.claimed.now.mesh.now (claim_of c.args.claimed.now.cert)) c.from_residual.ensures.1
+    (c.in_err-surface.ensures.fault c.args.claimed.now.mesh.now)
 
 -- what was printed is the text of the surface
 text_is : (mesh : Mesh) (given text start : List ℕ) → given ≡ text
@@ -39,7 +39,7 @@ returns-in-Some-clause-fault c =
       reason_is = (
         best.best,
         best.cost_is,
-        subst (λ (other : List ℕ). IsFirstDifference c.args.mesh.now other c.in-Some.place)
+        subst (λ (other : List ℕ). IsFirstDifference c.args.claimed.now.mesh.now other c.in-Some.place)
             (text ∙ ap surface_text best.surface_is) c.in-Some.ensures.differs,
       );
     }
@@ -47,7 +47,7 @@ returns-in-Some-clause-fault c =
 pub returns-clause-shown : goal.returns-clause-shown
 returns-clause-shown c =
     let scan : Shown = shown_of c.args.scan.now in
-    let claim : Claim = claim_of c.args.cert.now in
+    let claim : Claim = claim_of c.args.claimed.now.cert in
     let best = c.in_ok-surface.ensures.surface in
     let text =
     text_is c.in_ok-surface.surface c.deref.result.now c.push_mesh.new.out.items c.new-text.result.items c.deref.ensures.value
@@ -60,7 +60,7 @@ returns-clause-shown c =
             (solution_from scan c.args.settings best.complex claim c.requires.formed best.complex_is best.counts best.best
             best.cost_is);
       };
-      inside_is = omega (arith, c.len.ensures, c.args.cert.now.inside.ok.0);
+      inside_is = omega (arith, c.len.ensures, c.args.claimed.now.cert.inside.ok.0);
       faces_is = omega (arith, c.len-in-None.ensures, c.in_ok-surface.surface.faces.ok.0);
       cost_is = refl;
     }

@@ -1,0 +1,8 @@
+use Rattle.std.proofs.Common.{◌*◌, length, map}
+use Rattle.certificate.specs.declared.certificate.FlowRow.{FlowRow}
+use Rattle.recon_check.specs.Lookups.{AreSidesFound}
+use Rattle.recon_check.proofs.stated.note_sides.Given as goal
+
+abbrev pub invariant-loop-side : goal.invariant-loop-side
+invariant-loop-side l =
+    AreSidesFound l.t.slots l.fixed (4 * length l.fixed) 0 (map (λ (row : FlowRow). row.facet) l.rows) l.sides
