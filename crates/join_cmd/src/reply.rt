@@ -80,27 +80,30 @@ fn reply_to_list<'a, H: Host>(
     };
     let tiles = tiles_in(alloc, &entries)?;
     match read_meshes(alloc, host, &tiles)? {
-        Ok(meshes) => Ok(reply_to_meshes(alloc, &tiles, &meshes, output)?),
+        Ok(meshes) => Ok(reply_to_meshes(alloc, &tiles, meshes, output)?),
         Err(line) => Ok(invalid_input(alloc, line)),
     }
 }
 
-/// Makes the answer to the meshes of tiles.
+/// Makes the answer to the meshes of tiles, which are freed before the text is made.
 fn reply_to_meshes<'a>(
     alloc: Global,
     tiles: &[TileLine<'_>],
-    meshes: &[Mesh],
+    meshes: Vec<Mesh>,
     output: &'a str,
 ) -> Result<Reply<'a>, NoMemory>
-    requires count { length meshes.now ≡ length tiles.now }
+    requires count { length meshes.items ≡ length tiles.now }
     requires boxed { All IsBoxedTile tiles.now }
-    requires valid { All (λ m. IsMesh m.points.items m.faces.items) meshes.now }
-    ensures answers { IfOk result (λ reply. JoinAnswer output.now (cores_of tiles.now) meshes.now (answer_of join_reads reply)) }
+    requires valid { All (λ m. IsMesh m.points.items m.faces.items) meshes.items }
+    ensures answers { IfOk result (λ reply. JoinAnswer output.now (cores_of tiles.now) meshes.items (answer_of join_reads reply)) }
     ensures ended { IfOk result (λ reply. HasEnded reply.status) }
 {
     let cores = cores_in(alloc, tiles)?;
-    match join_tiles(alloc, cores, meshes)? {
-        Ok(joined) => reply_of_joined(alloc, &joined, meshes.len(), output),
+    let count = meshes.len();
+    let joined = join_tiles(alloc, cores, &meshes)?;
+    drop(meshes);
+    match joined {
+        Ok(joined) => reply_of_joined(alloc, &joined, count, output),
         Err(why) => {
             let line = line_of_join_error(alloc, why)?;
             Ok(invalid_input(alloc, Line::Made(line)))
@@ -117,6 +120,14 @@ fn keep_box(points: &[Point])
     }
 }
 
+/// Returns about how many bytes the text of a mesh has, so that it is mostly written without being moved.
+fn room_for(mesh: &Mesh) -> usize {
+    let digits = mesh.points.len().checked_ilog10().unwrap_or(0) as usize;
+    let line = digits.saturating_mul(3).saturating_add(8);
+    let faces = mesh.faces.len().saturating_mul(line);
+    mesh.points.len().saturating_mul(24).saturating_add(faces)
+}
+
 /// Makes the answer that writes a joined mesh.
 fn reply_of_joined<'a>(
     alloc: Global,
@@ -130,7 +141,7 @@ fn reply_of_joined<'a>(
     ensures ended { IfOk result (λ reply. HasEnded reply.status) }
 {
     keep_box(&joined.mesh.points);
-    let mut text = Vec::new(alloc);
+    let mut text = Vec::with_capacity(alloc, room_for(&joined.mesh))?;
     push_mesh(&mut text, &joined.mesh)?;
     let line = line_of_join(
         alloc,

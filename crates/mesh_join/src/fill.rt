@@ -1,21 +1,15 @@
 //! Faces that close what stays open in a mesh. No clause depends on it: the mesh with these faces is verified to be closed afterwards.
 //!
-//! Each directed edge that lacks its reverse lacks a face on the other side. These lacking edges run in circles, and each circle is
-//! filled by triangles from one of its vertices.
+//! Each half edge without a twin lacks a face on the other side, with the edge back. These lacking edges run in circles, and triangles
+//! fill each circle (`patch`).
 
 use crate::NoMemory;
+use crate::owners::edge_key;
+use crate::patch::patch;
+use crate::twins::{SINGLE, ends_of};
+use geo_sign::Point;
 use std::alloc::Global;
-
-/// The most lacking edges of one hole that is filled.
-const HOLE: usize = 60;
-
-/// An edge by its vertices, the smaller first, and whether the face goes from that one.
-#[derive(Clone, Copy)]
-struct Side {
-    low: u32,
-    high: u32,
-    rises: bool,
-}
+use std::collections::HashSet;
 
 /// A lacking edge, and whether a face has it by now.
 #[derive(Clone, Copy)]
@@ -25,50 +19,21 @@ struct Gap {
     is_filled: bool,
 }
 
-fn push_side(sides: &mut Vec<Side>, from: u32, to: u32) -> Result<(), NoMemory> {
-    sides.push(Side {
-        low: from.min(to),
-        high: from.max(to),
-        rises: from < to,
-    })?;
-    Ok(())
-}
-
-/// Appends the lacking edges between two vertices, where faces go up `net` times more than down.
-fn push_gaps(gaps: &mut Vec<Gap>, low: u32, high: u32, net: i32) -> Result<(), NoMemory> {
-    let (from, to) = if net > 0 { (high, low) } else { (low, high) };
-    for _ in 0..net.unsigned_abs() {
-        gaps.push(Gap {
-            from,
-            to,
-            is_filled: false,
-        })?;
-    }
-    Ok(())
-}
-
-/// Returns the lacking edges of faces, by their first vertices.
-fn gaps_of(alloc: Global, faces: &[[u32; 3]]) -> Result<Vec<Gap>, NoMemory> {
-    let mut sides = Vec::with_capacity(alloc, faces.len().saturating_mul(3))?;
-    for face in faces {
-        let [a, b, c] = *face;
-        push_side(&mut sides, a, b)?;
-        push_side(&mut sides, b, c)?;
-        push_side(&mut sides, c, a)?;
-    }
-    sides.sort_unstable_by_key(|side| (side.low, side.high));
+/// Returns the lacking edges of faces with these twins, by their first vertices.
+fn gaps_of(alloc: Global, faces: &[[u32; 3]], twins: &[u32]) -> Result<Vec<Gap>, NoMemory> {
     let mut gaps = Vec::new(alloc);
-    let (mut low, mut high, mut net) = (0, 0, 0i32);
-    for side in &sides {
-        if side.low != low || side.high != high {
-            push_gaps(&mut gaps, low, high, net)?;
-            low = side.low;
-            high = side.high;
-            net = 0;
+    let mut half = 0u32;
+    for twin in twins {
+        if *twin == SINGLE {
+            let (to, from) = ends_of(faces, half);
+            gaps.push(Gap {
+                from,
+                to,
+                is_filled: false,
+            })?;
         }
-        net = net.saturating_add(if side.rises { 1 } else { -1 });
+        half = half.saturating_add(1);
     }
-    push_gaps(&mut gaps, low, high, net)?;
     gaps.sort_unstable_by_key(|gap| (gap.from, gap.to));
     Ok(gaps)
 }
@@ -88,34 +53,10 @@ fn take_from(gaps: &mut [Gap], vertex: u32) -> Option<u32> {
     None
 }
 
-fn turned(a: u32, b: u32, c: u32) -> [u32; 3] {
-    if a < b && a < c {
-        [a, b, c]
-    } else if b < a && b < c {
-        [b, c, a]
-    } else {
-        [c, a, b]
-    }
-}
-
-/// Appends triangles that fill a circle from its first vertex, unless it is too long.
-fn push_fan(fans: &mut Vec<[u32; 3]>, circle: &[u32]) -> Result<(), NoMemory> {
-    if circle.len() > HOLE {
-        return Ok(());
-    }
-    let Some(first) = circle.first() else {
-        return Ok(());
-    };
-    for (b, c) in circle.iter().skip(1).zip(circle.iter().skip(2)) {
-        fans.push(turned(*first, *b, *c))?;
-    }
-    Ok(())
-}
-
-/// Follows lacking edges from a vertex, and fills each circle.
+/// Follows lacking edges from a vertex, and appends each circle.
 fn push_circles(
     alloc: Global,
-    fans: &mut Vec<[u32; 3]>,
+    circles: &mut Vec<Vec<u32>>,
     gaps: &mut [Gap],
     start: u32,
 ) -> Result<(), NoMemory> {
@@ -129,7 +70,7 @@ fn push_circles(
         match path.iter().position(|vertex| *vertex == next) {
             Some(at) => {
                 let circle = path.split_off(at)?;
-                push_fan(fans, &circle)?;
+                circles.push(circle)?;
             }
             None => {}
         }
@@ -139,16 +80,78 @@ fn push_circles(
     Ok(())
 }
 
-/// Returns faces that close what is open in a mesh with these faces.
-pub(crate) fn fans_of(alloc: Global, faces: &[[u32; 3]]) -> Result<Vec<[u32; 3]>, NoMemory> {
-    let mut gaps = gaps_of(alloc, faces)?;
+/// Returns the circles of lacking edges.
+fn circles_of(alloc: Global, gaps: &mut [Gap]) -> Result<Vec<Vec<u32>>, NoMemory> {
     let mut starts = Vec::with_capacity(alloc, gaps.len())?;
-    for gap in &gaps {
+    for gap in gaps.iter() {
         starts.push(gap.from)?;
     }
-    let mut fans = Vec::new(alloc);
+    let mut circles = Vec::new(alloc);
     for start in &starts {
-        push_circles(alloc, &mut fans, &mut gaps, *start)?;
+        push_circles(alloc, &mut circles, gaps, *start)?;
     }
-    Ok(fans)
+    Ok(circles)
+}
+
+fn has_gap(gaps: &[Gap], vertex: u32) -> bool {
+    let first = gaps.partition_point(|gap| gap.from < vertex);
+    match gaps.get(first) {
+        Some(gap) => gap.from == vertex,
+        None => false,
+    }
+}
+
+fn push_edge(edges: &mut HashSet<u64>, gaps: &[Gap], u: u32, v: u32) -> Result<(), NoMemory> {
+    if has_gap(gaps, u) && has_gap(gaps, v) {
+        edges.insert(edge_key(u, v))?;
+    }
+    Ok(())
+}
+
+/// Returns the edges of faces between vertices with a gap.
+fn edges_of(alloc: Global, faces: &[[u32; 3]], gaps: &[Gap]) -> Result<HashSet<u64>, NoMemory> {
+    let mut edges = HashSet::new(alloc);
+    for face in faces {
+        let [a, b, c] = *face;
+        push_edge(&mut edges, gaps, a, b)?;
+        push_edge(&mut edges, gaps, b, c)?;
+        push_edge(&mut edges, gaps, c, a)?;
+    }
+    Ok(edges)
+}
+
+/// Appends the triangles that fill a circle, and their edges.
+fn push_patch(
+    alloc: Global,
+    list: &mut Vec<[u32; 3]>,
+    edges: &mut HashSet<u64>,
+    places: &[Point],
+    circle: &[u32],
+) -> Result<(), NoMemory> {
+    let triangles = patch(alloc, places, edges, circle)?;
+    for face in &triangles {
+        let [a, b, c] = *face;
+        edges.insert(edge_key(a, b))?;
+        edges.insert(edge_key(b, c))?;
+        edges.insert(edge_key(c, a))?;
+        list.push(*face)?;
+    }
+    Ok(())
+}
+
+/// Returns faces that close what is open in a mesh with these faces and twins.
+pub(crate) fn patches_of(
+    alloc: Global,
+    places: &[Point],
+    faces: &[[u32; 3]],
+    twins: &[u32],
+) -> Result<Vec<[u32; 3]>, NoMemory> {
+    let mut gaps = gaps_of(alloc, faces, twins)?;
+    let mut edges = edges_of(alloc, faces, &gaps)?;
+    let circles = circles_of(alloc, &mut gaps)?;
+    let mut list = Vec::new(alloc);
+    for circle in &circles {
+        push_patch(alloc, &mut list, &mut edges, places, circle)?;
+    }
+    Ok(list)
 }

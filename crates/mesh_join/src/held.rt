@@ -134,6 +134,15 @@ fn push_kept(
     Ok(())
 }
 
+/// Returns the number of faces of all tiles.
+fn count_of(tiles: &[Tile]) -> usize {
+    let mut count = 0usize;
+    for tile in tiles {
+        count = count.saturating_add(tile.faces.len());
+    }
+    count
+}
+
 /// Returns the joined faces.
 pub(crate) fn joined_faces(
     alloc: Global,
@@ -144,7 +153,7 @@ pub(crate) fn joined_faces(
     ensures sound { IfOk result (λ list. All (IsJoined owners.now (lists_of tiles.now)) list.items) }
     ensures complete { IfOk result (λ list. (f : List ℕ) → IsJoined owners.now (lists_of tiles.now) f → Contains list.items f) }
 {
-    let mut list = Vec::new(alloc);
+    let mut list = Vec::with_capacity(alloc, count_of(tiles))?;
     for i in 0..tiles.len() {
         push_kept(&mut list, owners, tiles, i)?;
     }

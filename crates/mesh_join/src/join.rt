@@ -2,16 +2,21 @@
 
 ghost use Rattle.std.specs.Prelude.{◌≡◌, ◌<◌, ◌^◌, ℕ, List, IfOk, IfNone, All, length};
 ghost use Rattle.std.specs.HashMap.{hash_map_len};
+ghost use Rattle.std.specs.Bool.{OnTrue};
 ghost use Rattle.mesh.specs.Meshes.{IsFace, IsMesh};
+ghost use Rattle.mesh_edges.specs.Edges.{IsBalanced};
 ghost use Rattle.mesh_join.specs.Joins.{lists_of, AreMeshesNumbered, ArePlacesRising, AreTiles, IsClosedJoin, IsJoin, IsJoining};
 
-use crate::fill::fans_of;
+use crate::fill::patches_of;
 use crate::held::{Tile, joined_faces};
 use crate::owners::{Core, Owners};
-use crate::places::{are_rising, is_face, places_of, tiles_of};
+use crate::places::{are_rising, is_face, tiles_of};
 use crate::rows::ascending;
 use crate::search::moved_edges;
+use crate::slots::places_of;
+use crate::twins::twins_of;
 use crate::{Mesh, NoMemory};
+use half_edges::{are_twins, paired_meshes_are_closed};
 use mesh::mesh_of_facets;
 use mesh_edges::{UnbalancedEdge, first_unbalanced};
 use std::alloc::Global;
@@ -38,12 +43,12 @@ pub enum Refusal {
     Open(UnbalancedEdge),
 }
 
-/// A mesh that was tried, and its first edge that is open.
+/// A mesh that was tried, its faces by numbers of places, and their twins as they were found.
 #[derive(Drop)]
 struct Trial {
     mesh: Mesh,
     facets: Vec<[u32; 3]>,
-    hole: Option<UnbalancedEdge>,
+    twins: Vec<u32>,
 }
 
 /// Returns the joined faces and those of a list, ascending.
@@ -60,7 +65,8 @@ fn facets_of(
 {
     let mut faces = joined_faces(alloc, owners, tiles)?;
     faces.extend_from_slice(filling)?;
-    Ok(ascending(faces))
+    let facets = ascending(alloc, faces)?;
+    Ok(facets)
 }
 
 /// Joins tiles, with the faces of a list besides.
@@ -73,13 +79,26 @@ fn attempt(
     requires few { length owners.now.places.items < 2 ^ 32 }
     requires tiles { AreTiles owners.now (lists_of tiles.now) }
     requires filling { All (IsFace (length owners.now.places.items)) filling.now }
-    ensures closed { IfOk result (λ a. IfNone a.hole (IsClosedJoin owners.now (lists_of tiles.now) filling.now a.mesh.points.items a.mesh.faces.items)) }
+    ensures join { IfOk result (λ a. IsBalanced a.mesh.faces.items → IsClosedJoin owners.now (lists_of tiles.now) filling.now a.mesh.points.items a.mesh.faces.items) }
     ensures valid { IfOk result (λ a. IsMesh a.mesh.points.items a.mesh.faces.items) }
 {
     let facets = facets_of(alloc, owners, tiles, filling)?;
     let mesh = mesh_of_facets(alloc, &owners.places, &facets)?;
-    let hole = first_unbalanced(alloc, &mesh)?;
-    Ok(Trial { mesh, facets, hole })
+    let twins = twins_of(alloc, mesh.points.len(), &mesh.faces)?;
+    Ok(Trial {
+        mesh,
+        facets,
+        twins,
+    })
+}
+
+/// Returns whether the twins of a mesh show that it is closed.
+fn is_closed(mesh: &Mesh, twins: &[u32]) -> bool
+    requires { IsMesh mesh.now.points.items mesh.now.faces.items }
+    ensures { OnTrue result (IsBalanced mesh.now.faces.items) }
+{
+    paired_meshes_are_closed();
+    are_twins(&mesh.faces, twins)
 }
 
 /// Returns the faces of a list that are valid among `n` places.
@@ -110,17 +129,18 @@ fn close(
     let moved = owners.moved.len();
     let none = Vec::new(alloc);
     let first = attempt(alloc, owners, tiles, &none)?;
-    if first.hole.is_none() {
+    if is_closed(&first.mesh, &first.twins) {
         return Ok(Ok(Joined {
             mesh: first.mesh,
             moved,
             filled: 0,
         }));
     }
-    let fans = fans_of(alloc, &first.facets)?;
-    let filling = valid_faces(alloc, owners.places.len(), &fans)?;
+    let patches = patches_of(alloc, &owners.places, &first.facets, &first.twins)?;
+    drop(first);
+    let filling = valid_faces(alloc, owners.places.len(), &patches)?;
     let second = attempt(alloc, owners, tiles, &filling)?;
-    match second.hole {
+    match first_unbalanced(alloc, &second.mesh)? {
         None => Ok(Ok(Joined {
             mesh: second.mesh,
             moved,
@@ -137,7 +157,7 @@ fn close(
 /// verified: a face is joined exactly if the owners of its three edges have it, and the mesh is closed. `Refusal` says nothing of
 /// the tiles but for `Flat`.
 ///
-/// Faces are sorted several times, and all else is linear but for faces at several cores.
+/// Places and faces are sorted, and all else is linear but for faces at several cores.
 pub fn join_tiles(
     alloc: Global,
     cores: Vec<Core>,

@@ -9,17 +9,24 @@
 //! (`search`), nor does what fills the rest (`fill`): that the faces are those of the owners, and that the mesh is closed, is verified
 //! of the result.
 //!
-//! Vertices of tiles that stand at one place are one vertex of the joined mesh. The crate depends on `mesh` and `mesh_edges`.
+//! Vertices of tiles that stand at one place are one vertex of the joined mesh. The crate depends on `half_edges`, whose twins show that
+//! the mesh is closed.
 #![tactic(auto)]
 
+mod apart;
+mod crossing;
 mod fill;
+mod grid;
 mod held;
 mod join;
 mod laws;
 mod owners;
+mod patch;
 mod places;
 mod rows;
 mod search;
+mod slots;
+mod twins;
 
 pub use held::Tile;
 pub use join::{Joined, Refusal, join_tiles};

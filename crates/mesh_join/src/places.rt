@@ -9,20 +9,11 @@ ghost use Rattle.mesh.specs.Meshes.{point_at, IsFace, IsMesh};
 ghost use Rattle.mesh_join.specs.Joins.{face_at_places, lists_of, turned_face, AreMeshesNumbered, ArePlacesRising, IsNumbered, IsPlaceBefore};
 
 use crate::held::Tile;
+use crate::rows::sorted;
+use crate::slots::{Slots, slots_of};
 use crate::{Mesh, NoMemory};
 use geo_sign::Point;
 use std::alloc::Global;
-
-/// Returns the places of all vertices, ascending, each once. No clause depends on it: [`are_rising`] and [`numbers_of`] verify it.
-pub(crate) fn places_of(alloc: Global, meshes: &[Mesh]) -> Result<Vec<Point>, NoMemory> {
-    let mut places = Vec::new(alloc);
-    for mesh in meshes {
-        places.extend_from_slice(&mesh.points)?;
-    }
-    places.sort_unstable();
-    places.dedup();
-    Ok(places)
-}
 
 fn is_before(p: Point, q: Point) -> bool
     ensures { IsTrue result ↔ IsPlaceBefore p q }
@@ -54,19 +45,32 @@ fn is_same(p: Point, q: Point) -> bool
     p.x() == q.x() && p.y() == q.y() && p.z() == q.z()
 }
 
-/// Returns the number of a point's place.
-fn number_of(places: &[Point], point: Point) -> Option<u32>
+/// Returns a number if it is that of a point's place.
+fn number_at(places: &[Point], point: Point, n: usize) -> Option<u32>
     requires { length places.now < 2 ^ 32 }
     ensures within { IfSome result (λ n. n < length places.now) }
     ensures at { IfSome result (λ n. point_at places.now n ≡ point) }
 {
-    let Ok(n) = places.binary_search(&point) else {
-        return None;
-    };
-    if is_same(places[n], point) {
+    if n < places.len() && is_same(places[n], point) {
         Some(n as u32)
     } else {
         None
+    }
+}
+
+/// Returns the number of a point's place.
+fn number_of(places: &[Point], slots: &Slots, point: Point) -> Option<u32>
+    requires { length places.now < 2 ^ 32 }
+    ensures within { IfSome result (λ n. n < length places.now) }
+    ensures at { IfSome result (λ n. point_at places.now n ≡ point) }
+{
+    let near = number_at(places, point, slots.find(places, point));
+    if near.is_some() {
+        return near;
+    }
+    match places.binary_search(&point) {
+        Ok(n) => number_at(places, point, n),
+        Err(_) => None,
     }
 }
 
@@ -74,6 +78,7 @@ fn number_of(places: &[Point], point: Point) -> Option<u32>
 fn numbers_of(
     alloc: Global,
     places: &[Point],
+    slots: &Slots,
     points: &[Point],
 ) -> Result<Option<Vec<u32>>, NoMemory>
     requires { length places.now < 2 ^ 32 }
@@ -82,7 +87,7 @@ fn numbers_of(
 {
     let mut numbers = Vec::with_capacity(alloc, points.len())?;
     for point in points {
-        match number_of(places, *point) {
+        match number_of(places, slots, *point) {
             Some(n) => numbers.push(n)?,
             None => return Ok(None),
         }
@@ -146,21 +151,26 @@ fn faces_at(
 }
 
 /// Returns a tile's faces by numbers of places; `None` if one has two vertices at one place, or a vertex has no place.
-fn tile_of(alloc: Global, places: &[Point], mesh: &Mesh) -> Result<Option<Tile>, NoMemory>
+fn tile_of(
+    alloc: Global,
+    places: &[Point],
+    slots: &Slots,
+    mesh: &Mesh,
+) -> Result<Option<Tile>, NoMemory>
     requires few { length places.now < 2 ^ 32 }
     requires mesh { IsMesh mesh.now.points.items mesh.now.faces.items }
     ensures numbered { IfOk result (λ tile. IfSome tile (λ t. IsNumbered places.now mesh.now.points.items mesh.now.faces.items t.faces.items)) }
     ensures sorted { IfOk result (λ tile. IfSome tile (λ t. IsSorted (slice_cmp nat_cmp) t.faces.items)) }
     ensures valid { IfOk result (λ tile. IfSome tile (λ t. All (IsFace (length places.now)) t.faces.items)) }
 {
-    let Some(numbers) = numbers_of(alloc, places, &mesh.points)? else {
+    let Some(numbers) = numbers_of(alloc, places, slots, &mesh.points)? else {
         return Ok(None);
     };
-    let Some(mut faces) = faces_at(alloc, places.len(), &numbers, &mesh.faces)? else {
+    let Some(faces) = faces_at(alloc, places.len(), &numbers, &mesh.faces)? else {
         return Ok(None);
     };
-    faces.sort_unstable();
-    Ok(Some(Tile { faces }))
+    let list = sorted(alloc, faces)?;
+    Ok(Some(Tile { faces: list }))
 }
 
 /// Returns the faces of each tile by numbers of places, or the number of the first tile for which [`tile_of`] gives `None`.
@@ -176,9 +186,10 @@ pub(crate) fn tiles_of(
     ensures sorted { IfOk result (λ r. IfOk r (λ tiles. All (IsSorted (slice_cmp nat_cmp)) (lists_of tiles.items))) }
     ensures valid { IfOk result (λ r. IfOk r (λ tiles. All (All (IsFace (length places.now))) (lists_of tiles.items))) }
 {
+    let slots = slots_of(alloc, places)?;
     let mut tiles = Vec::new(alloc);
     for (i, mesh) in meshes.iter().enumerate() {
-        match tile_of(alloc, places, mesh)? {
+        match tile_of(alloc, places, &slots, mesh)? {
             Some(tile) => tiles.push(tile)?,
             None => return Ok(Err(i)),
         }

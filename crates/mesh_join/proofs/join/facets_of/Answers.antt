@@ -21,10 +21,10 @@ ascending-requires c =
 pub returns-clause-join : goal.returns-clause-join
 returns-clause-join c =
     join_is c.args.owners.now (lists_of c.args.tiles.now) c.args.filling.now c.in_ok-faces.faces.items
-    c.extend_from_slice.new.self.items c.ascending.result.items c.in_ok-extend_from_slice.ensures.items
-    c.ascending.ensures.same c.in_ok-faces.ensures.sound c.in_ok-faces.ensures.complete c.ascending.ensures.rising
+    c.extend_from_slice.new.self.items c.in_ok-facets.facets.items c.in_ok-extend_from_slice.ensures.items
+    c.in_ok-facets.ensures.same c.in_ok-faces.ensures.sound c.in_ok-faces.ensures.complete c.in_ok-facets.ensures.rising
 
 pub returns-clause-valid : goal.returns-clause-valid
 returns-clause-valid c =
-    join_valid c.args.owners.now (lists_of c.args.tiles.now) c.args.filling.now c.ascending.result.items c.requires.tiles
+    join_valid c.args.owners.now (lists_of c.args.tiles.now) c.args.filling.now c.in_ok-facets.facets.items c.requires.tiles
     c.requires.filling (returns-clause-join c)

@@ -1,5 +1,6 @@
 use Rattle.std.proofs.Common.{◌≡◌, ℕ, List, ap, sym, ◌∙◌, subst, length, map, Contains}
 use Rattle.std.proofs.lemmas.List.Sorted.{All-permutation, Contains-permutation, IsPermutation-sym}
+use Rattle.std.specs.List.Sorted.{IsPermutation}
 use Rattle.mesh.specs.Meshes.{IsFace}
 use Rattle.mesh_join.specs.Joins.{face_at_places}
 use Rattle.mesh_join.proofs.places.tile_of.Goals as goal
@@ -8,8 +9,8 @@ pub returns-clause-numbered : goal.returns-clause-numbered
 returns-clause-numbered c =
     let numbers : List ℕ = c.in-Some.numbers.items in
     let list : List (List ℕ) = c.in-Some-2.faces.items in
-    let sorted : List (List ℕ) = c.sort_unstable.new.self.items in
-    let moved = c.sort_unstable.ensures.permutation in
+    let sorted : List (List ℕ) = c.in_ok-list.list.items in
+    let moved : IsPermutation list sorted = c.in_ok-list.ensures.permutation in
     let faces : list ≡ map (face_at_places numbers) c.args.mesh.now.faces.items =
     (rw c.in-Some-2.is at c.in_ok-faces.ensures.same)
     ∙ (ap (λ (ns : List ℕ). map (face_at_places ns) c.deref-3.result.now) c.deref-2.ensures.value
@@ -27,5 +28,5 @@ returns-clause-numbered c =
 
 pub returns-clause-valid : goal.returns-clause-valid
 returns-clause-valid c =
-    All-permutation (λ (f : List ℕ). IsFace (length c.args.places.now) f) c.in-Some-2.faces.items c.sort_unstable.new.self.items
-    c.sort_unstable.ensures.permutation (rw c.in-Some-2.is at c.in_ok-faces.ensures.valid)
+    All-permutation (λ (f : List ℕ). IsFace (length c.args.places.now) f) c.in-Some-2.faces.items c.in_ok-list.list.items
+    c.in_ok-list.ensures.permutation (rw c.in-Some-2.is at c.in_ok-faces.ensures.valid)
