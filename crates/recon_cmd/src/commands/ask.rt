@@ -44,6 +44,14 @@ pub struct AskNames<'a> {
     pub output: &'a str,
 }
 
+/// The request of `ask`, and the maximal size of an input file in bytes.
+#[derive(Clone, Copy)]
+struct Asked<'w, 'a> {
+    names: &'w AskNames<'a>,
+    options: &'w Options,
+    limit: u64,
+}
+
 /// Parses the arguments after `ask`.
 pub fn ask_command(words: &[String]) -> Option<Request<'_>>
     ensures { IsCommand result (asked_by ask_of (named 3 all_keys (map string_bytes words.now))) }
@@ -80,7 +88,12 @@ pub fn reply_to_ask<'a, H: Host, W: FlowHints>(
     match read_input(alloc, host, names.input, options, limit)? {
         Reading::Scan(scan, bytes) => {
             drop(bytes);
-            reply_to_scan(alloc, host, &scan, names, options, limit, watch)
+            let asked = Asked {
+                names,
+                options,
+                limit,
+            };
+            reply_to_scan(alloc, host, &scan, &asked, watch)
         }
         Reading::Refused(line) => Ok(invalid_input(alloc, line)),
     }
@@ -91,19 +104,17 @@ fn reply_to_scan<'a, H: Host, W: FlowHints>(
     alloc: Global,
     host: &mut H,
     scan: &Scan,
-    names: &AskNames<'a>,
-    options: &Options,
-    limit: u64,
+    asked: &Asked<'_, 'a>,
     watch: &mut W,
 ) -> Result<Reply<'a>, Stop>
     requires { (H.state host.old).writing ≡ false }
-    ensures replied { IfOk result (λ reply. IsAskReply limit (ask_names names.now) (options_view options.now) (shown_of scan.now) reply (H.state host.old)) }
-    ensures reads { ReadsOn 1 1 (λ files. AskAnswer limit (ask_names names.now) (options_view options.now) files (shown_of scan.now))
+    ensures replied { IfOk result (λ reply. IsAskReply asked.now.limit (ask_names asked.now.names.now) (options_view asked.now.options.now) (shown_of scan.now) reply (H.state host.old)) }
+    ensures reads { ReadsOn 1 1 (λ files. AskAnswer asked.now.limit (ask_names asked.now.names.now) (options_view asked.now.options.now) files (shown_of scan.now))
         (H.state host.old) (H.state host.new) }
     ensures closed { (H.state host.new).writing ≡ false }
     ensures cause { CountsFaults result (H.state host.old).faults (H.state host.new).faults }
 {
-    let bytes = match read_all(alloc, host, names.points, limit) {
+    let bytes = match read_all(alloc, host, asked.names.points, asked.limit) {
         Ok(bytes) => bytes,
         Err(ReadRefusal::TooLong) => return Ok(invalid_input(
             alloc,
@@ -112,7 +123,8 @@ fn reply_to_scan<'a, H: Host, W: FlowHints>(
         Err(ReadRefusal::Failed) => return Err(Stop::Failed),
         Err(ReadRefusal::NoMemory) => return Err(Stop::NoMemory),
     };
-    Ok(reply_to_points(alloc, scan, bytes, names.output, options, watch)?)
+    let output = asked.names.output;
+    Ok(reply_to_points(alloc, scan, bytes, output, asked.options, watch)?)
 }
 
 /// Returns the answer to a scan and the bytes of the points' file, which are freed before the scan is solved.
