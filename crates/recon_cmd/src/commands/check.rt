@@ -26,7 +26,7 @@ use command_run::{
 };
 use host::{Host, ReadRefusal, read_all};
 use lines::{line_of_reason, line_of_yes};
-use recon_check::{Checked, CheckedTexts, Confirmed, check_all_watched};
+use recon_check::{Checked, Confirmed, OwnedTexts, check_owned};
 use scan_rows::Scan;
 use std::alloc::Global;
 use watch::Watch;
@@ -178,22 +178,22 @@ fn reply_to_mesh<'a, H: Host, W: Watch>(
         Err(ReadRefusal::Failed) => return Err(Stop::Failed),
         Err(ReadRefusal::NoMemory) => return Err(Stop::NoMemory),
     };
-    let texts = CheckedTexts { mesh, cert: &cert };
-    Ok(reply_to_texts(alloc, scan, asked, &texts, watch)?)
+    let texts = OwnedTexts { mesh, cert };
+    Ok(reply_to_texts(alloc, scan, asked, texts, watch)?)
 }
 
-/// Returns the verdict on a mesh and a certificate, and the resulting reply.
+/// Returns the verdict on a mesh and a certificate, and the resulting reply. The text of the certificate is freed when it is parsed.
 fn reply_to_texts<'a, W: Watch>(
     alloc: Global,
     scan: &StampedScan,
     asked: &CheckAsked<'_, 'a>,
-    texts: &CheckedTexts,
+    texts: OwnedTexts,
     watch: &mut W,
 ) -> Result<Reply<'a>, NoMemory>
-    ensures { IfOk result (λ reply. HasVerdictFor asked.now scan.now texts.now.mesh.now texts.now.cert.now (answer_of 3 reply)) }
+    ensures { IfOk result (λ reply. HasVerdictFor asked.now scan.now texts.entry.mesh.now texts.entry.cert.items (answer_of 3 reply)) }
 {
     let settings = asked.options.settings;
-    match check_all_watched(alloc, &scan.scan, settings, &scan.stamp, texts, watch)? {
+    match check_owned(alloc, &scan.scan, settings, &scan.stamp, texts, watch)? {
         Checked::Yes(shown) => match asked.names.output {
             None => {
                 let line = line_of_yes(alloc, shown.inside, shown.faces, shown.cost)?;

@@ -1,7 +1,6 @@
-use Rattle.std.proofs.Common.{rules, subst, Ok, List, ℕ}
+use Rattle.std.proofs.Common.{rules, Ok}
 use Rattle.certificate.specs.Certificates.{stamp_view}
 use Rattle.scan_rows.specs.Views.{shown_of}
-use Rattle.command_run.specs.Replies.{answer_of}
 use Rattle.recon_cmd.specs.Check.{CertAnswerFor, HasVerdictFor, check_names, output_of, task_for, too_long_cert_line}
 use Rattle.recon_cmd.specs.OptionViews.{options_view}
 use Rattle.recon_cmd.specs.Words.{SurfaceNames}
@@ -29,9 +28,7 @@ returns-clause-replied g c =
     c.in_ok-reply_to_texts.field-0 (g.H.Host.state c.args.host.now)
     (whole_found asked.limit names.cert too_long_cert_line cert (g.H.Host.state c.args.host.now).told c.in-Ok.ensures.within
     c.in-Ok.ensures.bytes)
-    (subst (λ (cert : List ℕ).
-    HasVerdictFor asked c.args.scan.now c.args.mesh.now cert (answer_of 3 c.in_ok-reply_to_texts.field-0)) c.deref.ensures.value
-    c.in_ok-reply_to_texts.ensures)
+    c.in_ok-reply_to_texts.ensures
 
 pub returns-clause-reads : goal.returns-clause-reads
 returns-clause-reads g c =

@@ -22,9 +22,9 @@ returns-in_ok-line-in-None g c =
     let asked = c.args.asked.now in
     let stamp = stamp_view c.args.scan.now.stamp in
     verdict_given (output_of asked.names.now) (options_view asked.options.now) stamp (shown_of c.args.scan.now.scan)
-    c.args.texts.now.mesh.now c.args.texts.now.cert.now asked.options.now.settings (answer_found c.in_ok-shown.field-0) _ refl refl
+    c.args.texts.mesh.now c.args.texts.cert.items asked.options.now.settings (answer_found c.in_ok-shown.field-0) _ refl refl
     c.in_ok-shown.ensures.answer
-    (yes_said (output_of asked.names.now) stamp c.args.texts.now.cert.now (answer_found c.in_ok-shown.field-0) c.in-Yes.shown.inside
+    (yes_said (output_of asked.names.now) stamp c.args.texts.cert.items (answer_found c.in_ok-shown.field-0) c.in-Yes.shown.inside
     c.in-Yes.shown.faces c.in-Yes.shown.cost _ (ap (λ o. output_of (record asked.names.now { output = o })) c.in-None.is)
     (ap answer_found c.in-Yes.is) (c.said.ensures ∙ ap (said_as Done) c.in_ok-line-in-None.ensures))
 
@@ -34,9 +34,9 @@ returns-in-Some g c =
     let stamp = stamp_view c.args.scan.now.stamp in
     IfOk-weaker c.reply_of_upgrade.result _ _ (λ reply is.
     verdict_given (output_of asked.names.now) (options_view asked.options.now) stamp (shown_of c.args.scan.now.scan)
-    c.args.texts.now.mesh.now c.args.texts.now.cert.now asked.options.now.settings (answer_found c.in_ok-shown.field-0) (answer_of 3 reply)
+    c.args.texts.mesh.now c.args.texts.cert.items asked.options.now.settings (answer_found c.in_ok-shown.field-0) (answer_of 3 reply)
     refl refl c.in_ok-shown.ensures.answer
-    (yes_written (output_of asked.names.now) c.in-Some.output.now stamp c.args.texts.now.cert.now c.in_ok-shown.field-0 c.in-Yes.shown
+    (yes_written (output_of asked.names.now) c.in-Some.output.now stamp c.args.texts.cert.items c.in_ok-shown.field-0 c.in-Yes.shown
     (answer_of 3 reply) (ap (λ o. output_of (record asked.names.now { output = o })) c.in-Some.is) c.in-Yes.is
     c.in_ok-shown.ensures.parsed is)) c.reply_of_upgrade.ensures
 
@@ -46,7 +46,7 @@ returns-in_ok-line-in-No g c =
     let asked = c.args.asked.now in
     let stamp = stamp_view c.args.scan.now.stamp in
     verdict_given (output_of asked.names.now) (options_view asked.options.now) stamp (shown_of c.args.scan.now.scan)
-    c.args.texts.now.mesh.now c.args.texts.now.cert.now asked.options.now.settings (answer_found c.in_ok-shown.field-0) _ refl refl
+    c.args.texts.mesh.now c.args.texts.cert.items asked.options.now.settings (answer_found c.in_ok-shown.field-0) _ refl refl
     c.in_ok-shown.ensures.answer
-    (no_said (output_of asked.names.now) stamp c.args.texts.now.cert.now (answer_found c.in_ok-shown.field-0) c.in-No.reason _
+    (no_said (output_of asked.names.now) stamp c.args.texts.cert.items (answer_found c.in_ok-shown.field-0) c.in-No.reason _
     (ap answer_found c.in-No.is) (c.said-in-No.ensures ∙ ap (said_as No) c.in_ok-line-in-No.ensures))
