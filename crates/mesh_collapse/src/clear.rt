@@ -114,9 +114,9 @@ fn are_apart_among(places: &[Point], changed: &[Changed]) -> bool {
     true
 }
 
-/// Returns whether a face is one of those around the vertex that goes.
+/// Returns whether a face is one of those that change or go.
 fn is_own(fan: &Fan, f: u32) -> bool {
-    fan.ring.iter().any(|h| *h / 3 == f)
+    fan.ring.iter().any(|h| *h / 3 == f) || fan.moves && fan.star.iter().any(|h| *h / 3 == f)
 }
 
 /// Returns whether a face has the vertex that stays and a vertex that becomes its neighbor.

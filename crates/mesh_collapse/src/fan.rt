@@ -36,9 +36,12 @@ pub(crate) struct Fan {
     pub(crate) ring: Vec<u32>,
     /// The half edges from the vertex that stays, that to the other end first.
     pub(crate) star: Vec<u32>,
-    /// The faces that change: those of the ring but the first and the last, which go.
+    /// The faces that change: those of the ring but the first and the last, which go, and those of the star if the vertex that stays
+    /// moves.
     pub(crate) changed: Vec<Changed>,
     pub(crate) moved: Vec<Moved>,
+    /// Whether the vertex that stays moves.
+    pub(crate) moves: bool,
 }
 
 impl Fan {
@@ -49,6 +52,7 @@ impl Fan {
             star: Vec::new(alloc),
             changed: Vec::new(alloc),
             moved: Vec::new(alloc),
+            moves: false,
         }
     }
 

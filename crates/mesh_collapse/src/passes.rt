@@ -1,7 +1,7 @@
 //! Passes over all vertices, each with a limit of cost.
 
 use crate::NoMemory;
-use crate::collapse::{Work, cheapest_edge, cost_of, try_edge};
+use crate::collapse::{Work, cheapest_of, cost_of, try_edge};
 use crate::fan::Fan;
 use crate::order::short;
 use crate::pack::pack_if_sparse;
@@ -59,8 +59,8 @@ fn try_vertex(work: &mut Work, fan: &mut Fan, u: u32, limit: f64) -> Result<(), 
         if !(cost <= limit) {
             return Ok(());
         }
-        let edge = cheapest_edge(work, u);
-        if try_edge(work, fan, edge)? {
+        let candidate = cheapest_of(work, u, cost);
+        if try_edge(work, fan, candidate)? {
             return Ok(());
         }
         if (u as usize) < work.floors.len() {

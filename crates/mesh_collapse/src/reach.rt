@@ -10,7 +10,7 @@ use face_near::{Corners, nearest_on};
 use mesh_flips::Way;
 use std::alloc::Global;
 
-/// The given mesh, and for each face a list of its places that are near it. A vertex that is left is on no list.
+/// The given mesh, and for each face a list of its places that are near it. A vertex that is left is on no list, unless vertices move.
 #[derive(Drop)]
 pub(crate) struct Lists {
     pub(crate) given: Given,
@@ -18,6 +18,8 @@ pub(crate) struct Lists {
     pub(crate) head: Vec<u32>,
     /// The point after each one in its list.
     pub(crate) next: Vec<u32>,
+    /// Whether each given vertex is on a list, since vertices move.
+    pub(crate) moves: bool,
 }
 
 /// Two faces that a collapse does not change, which points may be near too.
@@ -121,6 +123,30 @@ fn place_list(lists: &Lists, fan: &mut Fan, two: &Beside, face: u32) -> Result<b
     Ok(true)
 }
 
+/// Finds faces that the points of the ring's lists are near, and returns whether there is one for each.
+fn place_ring(lists: &Lists, fan: &mut Fan, two: &Beside) -> Result<bool, NoMemory> {
+    for i in 0..fan.ring.len() {
+        let h = fan.ring.get(i).copied().unwrap_or(NONE);
+        if !place_list(lists, fan, two, h / 3)? {
+            return Ok(false);
+        }
+    }
+    Ok(true)
+}
+
+/// Finds faces that the points of the star's other lists are near, if its faces change, and returns whether there is one for each.
+fn place_star(lists: &Lists, fan: &mut Fan, two: &Beside) -> Result<bool, NoMemory> {
+    let count = if fan.moves { fan.star.len() } else { 0 };
+    let last = count.saturating_sub(1);
+    for i in 1..last {
+        let h = fan.star.get(i).copied().unwrap_or(NONE);
+        if !place_list(lists, fan, two, h / 3)? {
+            return Ok(false);
+        }
+    }
+    Ok(true)
+}
+
 /// Finds faces that the given points around a collapse of `u` are near afterwards, and returns whether there is one for each.
 pub(crate) fn keeps_points(
     surface: &Surface,
@@ -130,32 +156,52 @@ pub(crate) fn keeps_points(
 ) -> Result<bool, NoMemory> {
     fan.moved.clear();
     let two = faces_beside(surface, fan);
-    if !place_point(lists, fan, &two, number_at(&surface.origin, u))? {
+    if !lists.moves && !place_point(lists, fan, &two, number_at(&surface.origin, u))? {
         return Ok(false);
     }
-    for i in 0..fan.ring.len() {
-        if i < fan.ring.len() {
-            let face = fan.ring[i] / 3;
-            if !place_list(lists, fan, &two, face)? {
-                return Ok(false);
-            }
-        }
+    if !place_ring(lists, fan, &two)? {
+        return Ok(false);
     }
-    Ok(true)
+    place_star(lists, fan, &two)
 }
 
 impl Lists {
-    /// Returns the lists at the start: the middle of each face and places on its sides, if these have to stay near.
-    pub(crate) fn of(alloc: Global, given: Given, faces: usize) -> Result<Lists, NoMemory> {
+    /// Returns the lists at the start: the middle of each face and places on its sides, if these have to stay near, and the vertices, if
+    /// these move.
+    pub(crate) fn of(
+        alloc: Global,
+        given: Given,
+        surface: &Surface,
+        moves: bool,
+    ) -> Result<Lists, NoMemory> {
         let mut lists = Lists {
-            head: vec![in alloc; NONE; faces]?,
+            head: vec![in alloc; NONE; surface.faces.len()]?,
             next: vec![in alloc; NONE; given.count()]?,
             given,
+            moves,
         };
         for f in 0..lists.given.faces.len() {
             lists.begin(short(f));
         }
+        if moves {
+            lists.note_vertices(alloc, surface)?;
+        }
         Ok(lists)
+    }
+
+    /// Puts each vertex on the list of one of its faces.
+    fn note_vertices(&mut self, alloc: Global, surface: &Surface) -> Result<(), NoMemory> {
+        let mut faces = vec![in alloc; NONE; surface.places.len()]?;
+        for (f, face) in surface.faces.iter().enumerate() {
+            let [a, b, c] = *face;
+            put(&mut faces, a, short(f));
+            put(&mut faces, b, short(f));
+            put(&mut faces, c, short(f));
+        }
+        for v in 0..faces.len() {
+            self.note(faces[v], short(v));
+        }
+        Ok(())
     }
 
     /// Appends a place to the list of a face.
@@ -185,10 +231,20 @@ impl Lists {
         }
     }
 
+    /// Clears the lists of the faces around the vertex that stays.
+    fn clear_star(&mut self, fan: &Fan) {
+        for h in &fan.star {
+            put(&mut self.head, *h / 3, NONE);
+        }
+    }
+
     /// Moves points to the lists of the faces that they are near.
     pub(crate) fn move_points(&mut self, fan: &Fan) {
         for h in &fan.ring {
             put(&mut self.head, *h / 3, NONE);
+        }
+        if fan.moves {
+            self.clear_star(fan);
         }
         for moved in &fan.moved {
             self.note(moved.face, moved.point);
