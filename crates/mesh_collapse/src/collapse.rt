@@ -7,6 +7,7 @@ use crate::commit::commit;
 use crate::costs::{Candidate, cheapest};
 use crate::fan::Fan;
 use crate::fans::find_fans;
+use crate::fit::fit;
 use crate::given::Given;
 use crate::homes::collapsed_of;
 use crate::link::Marks;
@@ -70,6 +71,7 @@ fn is_allowed(work: &mut Work, fan: &mut Fan, ends: &Ends) -> Result<bool, NoMem
     if !work.marks.is_linked(&work.surface, &fan.ring, &fan.star) {
         return Ok(false);
     }
+    fan.note_collapse(&work.surface)?;
     if !has_shape(&work.surface, fan, ends)? {
         return Ok(false);
     }
@@ -240,5 +242,6 @@ pub fn collapse_edges(
     let mut work = work_on(alloc, ordered, given, request.moves)?;
     let mut fan = Fan::empty(alloc);
     make_passes(alloc, &mut work, &mut fan, request.faces as usize)?;
+    fit(&mut work, &mut fan)?;
     collapsed_of(alloc, &work, points)
 }

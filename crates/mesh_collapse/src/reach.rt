@@ -3,7 +3,7 @@
 use crate::NoMemory;
 use crate::fan::{Fan, Moved};
 use crate::given::{Given, ON_EDGE};
-use crate::numbers::{NONE, after, number_at, put};
+use crate::numbers::{NONE, number_at, put};
 use crate::order::short;
 use crate::surface::{Surface, between};
 use face_near::{Corners, nearest_on};
@@ -20,15 +20,6 @@ pub(crate) struct Lists {
     pub(crate) next: Vec<u32>,
     /// Whether each given vertex is on a list, since vertices move.
     pub(crate) moves: bool,
-}
-
-/// Two faces that a collapse does not change, which points may be near too.
-#[derive(Clone, Copy)]
-struct Beside {
-    one: u32,
-    other: u32,
-    one_spots: Corners,
-    other_spots: Corners,
 }
 
 /// The nearest face of a point so far.
@@ -65,22 +56,8 @@ impl Best {
     }
 }
 
-/// Returns the faces across the two that go, on the side of the vertex that stays.
-fn faces_beside(surface: &Surface, fan: &Fan) -> Beside {
-    let first = fan.ring.first().copied().unwrap_or(NONE);
-    let last = fan.ring.last().copied().unwrap_or(NONE);
-    let one = surface.twin(after(first)) / 3;
-    let other = surface.twin(after(last)) / 3;
-    Beside {
-        one,
-        other,
-        one_spots: surface.corners(surface.face(one)),
-        other_spots: surface.corners(surface.face(other)),
-    }
-}
-
 /// Returns the nearest face of a point among those that change and those beside.
-fn nearest_face(fan: &Fan, two: &Beside, p: Way, within: f64) -> Best {
+fn nearest_face(fan: &Fan, p: Way, within: f64) -> Best {
     let mut best = Best {
         face: NONE,
         square: f64::INFINITY,
@@ -89,58 +66,68 @@ fn nearest_face(fan: &Fan, two: &Beside, p: Way, within: f64) -> Best {
     for new in &fan.changed {
         best.improve(p, &new.spots, new.face, within);
     }
-    best.improve(p, &two.one_spots, two.one, within);
-    best.improve(p, &two.other_spots, two.other, within);
+    improved_beside(fan, p, within, best)
+}
+
+/// Returns the nearest face of a point among this one and those beside.
+fn improved_beside(fan: &Fan, p: Way, within: f64, best: Best) -> Best {
+    let mut best = best;
+    for other in &fan.beside {
+        best.improve(p, &other.spots, other.face, within);
+    }
     best
 }
 
-/// Finds a face that a point is near, and returns whether there is one.
-fn place_point(lists: &Lists, fan: &mut Fan, two: &Beside, point: u32) -> Result<bool, NoMemory> {
+/// Finds a face that a point is near, and returns the square of the distance if there is one.
+fn place_point(lists: &Lists, fan: &mut Fan, point: u32) -> Result<Option<f64>, NoMemory> {
     let probe = lists.given.probe(point);
-    let best = nearest_face(fan, two, probe.at, probe.limit);
+    let best = nearest_face(fan, probe.at, probe.limit);
     if !best.is_near() {
-        return Ok(false);
+        return Ok(None);
     }
     fan.moved.push(Moved {
         point,
         face: best.face,
     })?;
-    Ok(true)
+    Ok(Some(best.square))
 }
 
-/// Finds faces that the points of a face's list are near, and returns whether there is one for each.
-fn place_list(lists: &Lists, fan: &mut Fan, two: &Beside, face: u32) -> Result<bool, NoMemory> {
+/// Finds faces that the points of a face's list are near, and returns the sum of the squared distances if there is one for each.
+fn place_list(lists: &Lists, fan: &mut Fan, face: u32) -> Result<Option<f64>, NoMemory> {
+    let mut sum = 0.0f64;
     let mut point = number_at(&lists.head, face);
     for _ in 0..lists.next.len() {
         if point == NONE {
             break;
         }
-        if !place_point(lists, fan, two, point)? {
-            return Ok(false);
-        }
+        let Some(square) = place_point(lists, fan, point)? else {
+            return Ok(None);
+        };
+        sum += square;
         point = number_at(&lists.next, point);
     }
-    Ok(true)
+    Ok(Some(sum))
 }
 
-/// Finds faces that the points of the ring's lists are near, and returns whether there is one for each.
-fn place_ring(lists: &Lists, fan: &mut Fan, two: &Beside) -> Result<bool, NoMemory> {
-    for i in 0..fan.ring.len() {
-        let h = fan.ring.get(i).copied().unwrap_or(NONE);
-        if !place_list(lists, fan, two, h / 3)? {
-            return Ok(false);
-        }
+/// Finds faces that the points of the lists of faces that change are near, and returns the sum of the squared distances if there is one for
+/// each.
+pub(crate) fn place_staying(lists: &Lists, fan: &mut Fan) -> Result<Option<f64>, NoMemory> {
+    let mut sum = 0.0f64;
+    for i in 0..fan.staying.len() {
+        let h = fan.staying.get(i).copied().unwrap_or(NONE);
+        let Some(square) = place_list(lists, fan, h / 3)? else {
+            return Ok(None);
+        };
+        sum += square;
     }
-    Ok(true)
+    Ok(Some(sum))
 }
 
-/// Finds faces that the points of the star's other lists are near, if its faces change, and returns whether there is one for each.
-fn place_star(lists: &Lists, fan: &mut Fan, two: &Beside) -> Result<bool, NoMemory> {
-    let count = if fan.moves { fan.star.len() } else { 0 };
-    let last = count.saturating_sub(1);
-    for i in 1..last {
-        let h = fan.star.get(i).copied().unwrap_or(NONE);
-        if !place_list(lists, fan, two, h / 3)? {
+/// Finds faces that the points of the lists of faces that go are near, and returns whether there is one for each.
+fn place_going(lists: &Lists, fan: &mut Fan) -> Result<bool, NoMemory> {
+    for i in 0..fan.going.len() {
+        let h = fan.going.get(i).copied().unwrap_or(NONE);
+        if place_list(lists, fan, h / 3)?.is_none() {
             return Ok(false);
         }
     }
@@ -155,14 +142,13 @@ pub(crate) fn keeps_points(
     u: u32,
 ) -> Result<bool, NoMemory> {
     fan.moved.clear();
-    let two = faces_beside(surface, fan);
-    if !lists.moves && !place_point(lists, fan, &two, number_at(&surface.origin, u))? {
+    if !lists.moves && place_point(lists, fan, number_at(&surface.origin, u))?.is_none() {
         return Ok(false);
     }
-    if !place_ring(lists, fan, &two)? {
+    if place_staying(lists, fan)?.is_none() {
         return Ok(false);
     }
-    place_star(lists, fan, &two)
+    place_going(lists, fan)
 }
 
 impl Lists {
@@ -231,21 +217,17 @@ impl Lists {
         }
     }
 
-    /// Clears the lists of the faces around the vertex that stays.
-    fn clear_star(&mut self, fan: &Fan) {
-        for h in &fan.star {
+    /// Clears the lists of faces.
+    fn clear(&mut self, edges: &[u32]) {
+        for h in edges {
             put(&mut self.head, *h / 3, NONE);
         }
     }
 
     /// Moves points to the lists of the faces that they are near.
     pub(crate) fn move_points(&mut self, fan: &Fan) {
-        for h in &fan.ring {
-            put(&mut self.head, *h / 3, NONE);
-        }
-        if fan.moves {
-            self.clear_star(fan);
-        }
+        self.clear(&fan.staying);
+        self.clear(&fan.going);
         for moved in &fan.moved {
             self.note(moved.face, moved.point);
         }

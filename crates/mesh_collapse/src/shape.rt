@@ -8,16 +8,16 @@ use face_near::Corners;
 use mesh_flips::Way;
 
 /// The least cosine between the normals of a face before and after.
-const LEAST_COSINE: f64 = 0.1;
+pub(crate) const LEAST_COSINE: f64 = 0.1;
 
 /// The least quality of a new face, unless a worse one goes.
-const SLIVER: f64 = 0.03;
+pub(crate) const SLIVER: f64 = 0.03;
 
 /// What makes the quality of a triangle with equal sides 1.
 const EQUAL_SIDES: f64 = 3.464101615137754;
 
 /// Returns the area of a triangle over the sum of its squared sides, 1 for equal sides.
-fn quality(t: &Corners, normal: Way) -> f64 {
+pub(crate) fn quality(t: &Corners, normal: Way) -> f64 {
     let (p, q, r) = (between(t.a, t.b), between(t.b, t.c), between(t.c, t.a));
     let sides = p.dot(p) + q.dot(q) + r.dot(r);
     if sides > 0.0 {
@@ -104,54 +104,16 @@ fn add_face(
     Ok(true)
 }
 
-/// Lists the faces of the ring that a collapse changes, and returns whether they look about the same way.
-fn add_ring(
-    surface: &Surface,
-    fan: &mut Fan,
-    ends: &Ends,
-    worst: &mut Worst,
-) -> Result<bool, NoMemory> {
-    let last = fan.ring.len().saturating_sub(1);
-    for i in 1..last {
-        let h = fan.ring.get(i).copied().unwrap_or(NONE);
-        if !add_face(surface, fan, h, ends, worst)? {
-            return Ok(false);
-        }
-    }
-    Ok(true)
-}
-
-/// Lists the faces of the star that it changes, if the vertex that stays moves, and returns whether they look about the same way.
-fn add_star(
-    surface: &Surface,
-    fan: &mut Fan,
-    ends: &Ends,
-    worst: &mut Worst,
-) -> Result<bool, NoMemory> {
-    let count = if fan.moves { fan.star.len() } else { 0 };
-    let last = count.saturating_sub(1);
-    for i in 1..last {
-        let h = fan.star.get(i).copied().unwrap_or(NONE);
-        if !add_face(surface, fan, h, ends, worst)? {
-            return Ok(false);
-        }
-    }
-    Ok(true)
-}
-
-/// Lists the faces that a collapse changes, and returns whether they look about the same way and none is a sliver.
-pub(crate) fn has_shape(
-    surface: &Surface,
-    fan: &mut Fan,
-    ends: &Ends,
-) -> Result<bool, NoMemory> {
+/// Lists what a collapse, or a move of a vertex, makes of the faces that change, and returns whether they look about the same way and none
+/// is a sliver.
+pub(crate) fn has_shape(surface: &Surface, fan: &mut Fan, ends: &Ends) -> Result<bool, NoMemory> {
     fan.changed.clear();
     let mut worst = Worst { new: 1.0, old: 1.0 };
-    if !add_ring(surface, fan, ends, &mut worst)? {
-        return Ok(false);
-    }
-    if !add_star(surface, fan, ends, &mut worst)? {
-        return Ok(false);
+    for i in 0..fan.staying.len() {
+        let h = fan.staying.get(i).copied().unwrap_or(NONE);
+        if !add_face(surface, fan, h, ends, &mut worst)? {
+            return Ok(false);
+        }
     }
     Ok(worst.new >= SLIVER || worst.new >= worst.old)
 }
