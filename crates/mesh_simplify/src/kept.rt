@@ -29,6 +29,13 @@ fn is_old_face(from: &[u32], new: [u32; 3], old: [u32; 3]) -> bool
     is_old_vertex(from, x, a) && is_old_vertex(from, y, b) && is_old_vertex(from, z, c)
 }
 
+/// Returns whether two points are one.
+fn is_same_place(p: Point, q: Point) -> bool
+    ensures { OnTrue result (p ≡ q) }
+{
+    p == q
+}
+
 /// Returns whether a vertex is where the old one of its number was.
 fn is_at_old_place(old_points: &[Point], points: &[Point], from: &[u32], v: u32) -> bool
     ensures { OnTrue result (IsAtOldPlace old_points.now points.now from.now v) }
@@ -37,7 +44,7 @@ fn is_at_old_place(old_points: &[Point], points: &[Point], from: &[u32], v: u32)
         return false;
     }
     let old = from[v as usize] as usize;
-    old < old_points.len() && points[v as usize] == old_points[old]
+    old < old_points.len() && is_same_place(points[v as usize], old_points[old])
 }
 
 /// Returns whether the corners of a face are where the old ones of their numbers were.
