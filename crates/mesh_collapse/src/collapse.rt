@@ -62,6 +62,8 @@ pub(crate) struct Work {
     pub(crate) floors: Vec<f64>,
     /// The planes around each vertex, if vertices move.
     pub(crate) planes: Vec<Planes>,
+    /// Whether vertices are moved now: if they move at all, when few faces are left.
+    pub(crate) places: bool,
     /// The number of each given vertex along the curve.
     pub(crate) vertices: Vec<u32>,
 }
@@ -117,7 +119,7 @@ pub(crate) fn cheapest_edge(work: &Work, u: u32) -> u32 {
 /// Returns the cheapest collapse of a vertex whose cost is known.
 pub(crate) fn cheapest_of(work: &mut Work, u: u32, cost: f64) -> Candidate {
     let edge = cheapest_edge(work, u);
-    if work.lists.moves {
+    if work.places {
         placed(&work.surface, &mut work.planes, edge)
     } else {
         Candidate {
@@ -130,7 +132,7 @@ pub(crate) fn cheapest_of(work: &mut Work, u: u32, cost: f64) -> Candidate {
 
 /// Finds the cheapest collapse of a vertex that costs more than a given amount.
 fn find_cheapest(work: &mut Work, u: u32, above: f64) -> Option<Candidate> {
-    if work.lists.moves {
+    if work.places {
         cheapest_placed(&work.surface, &mut work.planes, u, above)
     } else {
         cheapest(&work.surface, u, above)
@@ -192,6 +194,7 @@ fn work_on(
         cheapest: vec![in alloc; NONE; count]?,
         floors: vec![in alloc; -1.0; count]?,
         planes: vec![in alloc; UNKNOWN; if moves { count } else { 0 }]?,
+        places: false,
         vertices,
         surface,
     })

@@ -102,8 +102,8 @@ impl Fan {
         let last = self.ring.last().copied().unwrap_or(NONE);
         self.going.push(first)?;
         self.going.push(last)?;
-        self.beside.push(beside(surface, surface.twin(after(first))))?;
-        self.beside.push(beside(surface, surface.twin(after(last))))?;
+        self.beside.push(face_beside(surface, surface.twin(after(first))))?;
+        self.beside.push(face_beside(surface, surface.twin(after(last))))?;
         Ok(())
     }
 
@@ -129,7 +129,7 @@ impl Fan {
 }
 
 /// Returns the face of a half edge, with its places.
-fn beside(surface: &Surface, h: u32) -> Beside {
+fn face_beside(surface: &Surface, h: u32) -> Beside {
     Beside {
         face: h / 3,
         spots: surface.corners(surface.face(h / 3)),
