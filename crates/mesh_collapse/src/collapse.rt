@@ -14,8 +14,8 @@ use crate::link::Marks;
 use crate::numbers::{NONE, number_at, put};
 use crate::order::{Ordered, along_curve, first_numbers};
 use crate::over::are_over;
-use crate::planes::{Planes, UNKNOWN, cheapest_placed, placed};
 use crate::passes::make_passes;
+use crate::planes::{Planes, UNKNOWN, cheapest_placed, placed};
 use crate::reach::{Lists, keeps_points};
 use crate::shape::{Ends, has_shape};
 use crate::surface::Surface;
@@ -158,12 +158,7 @@ pub(crate) fn cost_of(work: &mut Work, u: u32) -> f64 {
 }
 
 /// Returns the work on a mesh.
-fn work_on(
-    alloc: Global,
-    ordered: Ordered,
-    given: Given,
-    moves: bool,
-) -> Result<Work, NoMemory> {
+fn work_on(alloc: Global, ordered: Ordered, given: Given, moves: bool) -> Result<Work, NoMemory> {
     let Ordered {
         vertices,
         places,

@@ -102,8 +102,10 @@ impl Fan {
         let last = self.ring.last().copied().unwrap_or(NONE);
         self.going.push(first)?;
         self.going.push(last)?;
-        self.beside.push(face_beside(surface, surface.twin(after(first))))?;
-        self.beside.push(face_beside(surface, surface.twin(after(last))))?;
+        self.beside
+            .push(face_beside(surface, surface.twin(after(first))))?;
+        self.beside
+            .push(face_beside(surface, surface.twin(after(last))))?;
         Ok(())
     }
 

@@ -39,7 +39,11 @@ struct Pull {
 fn add_point(pull: &mut Pull, p: Way, t: &Corners, corner: u32) {
     let near = nearest_on(p, t);
     let rest = 1.0 - near.a - near.b;
-    let at = t.a.times(near.a).plus(t.b.times(near.b)).plus(t.c.times(rest));
+    let at = t
+        .a
+        .times(near.a)
+        .plus(t.b.times(near.b))
+        .plus(t.c.times(rest));
     let part = match corner {
         0 => near.a,
         1 => near.b,

@@ -80,8 +80,9 @@ fn new_face(surface: &Surface, face: u32, corners: [u32; 3]) -> Changed {
 fn has_new_shape(surface: &Surface, fan: &mut Fan, two: &Pair) -> Result<bool, NoMemory> {
     let one = new_face(surface, two.edge / 3, [two.c, two.a, two.d]);
     let other = new_face(surface, two.twin / 3, [two.d, two.b, two.c]);
-    let old = normal_of(&surface.corners(surface.face(two.edge / 3)))
-        .plus(normal_of(&surface.corners(surface.face(two.twin / 3))));
+    let old = normal_of(&surface.corners(surface.face(two.edge / 3))).plus(normal_of(
+        &surface.corners(surface.face(two.twin / 3)),
+    ));
     fan.changed.push(one)?;
     fan.changed.push(other)?;
     let least = quality(&one.spots, one.normal).min(quality(&other.spots, other.normal));
@@ -137,13 +138,23 @@ fn is_allowed(work: &Work, fan: &mut Fan, two: &Pair) -> Result<bool, NoMemory> 
 fn commit_flip(work: &mut Work, fan: &Fan, two: &Pair) {
     let surface = &mut work.surface;
     let (one, other) = (two.edge / 3 * 3, two.twin / 3 * 3);
-    let (ca, bc) = (surface.twin(before(two.edge)), surface.twin(after(two.edge)));
-    let (ad, db) = (surface.twin(after(two.twin)), surface.twin(before(two.twin)));
+    let (ca, bc) = (
+        surface.twin(before(two.edge)),
+        surface.twin(after(two.edge)),
+    );
+    let (ad, db) = (
+        surface.twin(after(two.twin)),
+        surface.twin(before(two.twin)),
+    );
     pair(&mut surface.twins, one, ca);
     pair(&mut surface.twins, one.saturating_add(1), ad);
     pair(&mut surface.twins, other, db);
     pair(&mut surface.twins, other.saturating_add(1), bc);
-    pair(&mut surface.twins, one.saturating_add(2), other.saturating_add(2));
+    pair(
+        &mut surface.twins,
+        one.saturating_add(2),
+        other.saturating_add(2),
+    );
     note_edge(surface, two.c, one);
     note_edge(surface, two.a, one.saturating_add(1));
     note_edge(surface, two.d, other);
