@@ -7,7 +7,6 @@ use crate::commit::commit;
 use crate::costs::{Candidate, cheapest};
 use crate::fan::Fan;
 use crate::fans::find_fans;
-use crate::fit::fit;
 use crate::given::Given;
 use crate::homes::collapsed_of;
 use crate::link::Marks;
@@ -240,6 +239,5 @@ pub fn collapse_edges(
     let mut work = work_on(alloc, ordered, given, request.moves)?;
     let mut fan = Fan::empty(alloc);
     make_passes(alloc, &mut work, &mut fan, request.faces as usize)?;
-    fit(&mut work, &mut fan)?;
     collapsed_of(alloc, &work, points)
 }

@@ -7,7 +7,7 @@ use crate::planes::UNKNOWN;
 use crate::surface::Surface;
 
 /// Makes two half edges opposites of each other.
-pub(crate) fn pair(twins: &mut [u32], one: u32, other: u32) {
+fn pair(twins: &mut [u32], one: u32, other: u32) {
     put(twins, one, other);
     put(twins, other, one);
 }
@@ -20,7 +20,7 @@ fn remove(surface: &mut Surface, f: u32) {
 }
 
 /// Notes a half edge of a vertex that may collapse.
-pub(crate) fn note_edge(surface: &mut Surface, v: u32, h: u32) {
+fn note_edge(surface: &mut Surface, v: u32, h: u32) {
     if surface.is_free(v) {
         put(&mut surface.edge_of, v, h);
     }
@@ -65,7 +65,7 @@ fn renew_around(work: &mut Work, fan: &Fan) {
 }
 
 /// Writes the faces that change.
-pub(crate) fn write_faces(work: &mut Work, fan: &Fan) {
+fn write_faces(work: &mut Work, fan: &Fan) {
     for new in &fan.changed {
         if (new.face as usize) < work.surface.faces.len() {
             work.surface.faces[new.face as usize] = new.corners;

@@ -1,4 +1,4 @@
-//! The faces around a change: those that it changes, and those that go.
+//! The faces around the two ends of an edge: those that a collapse changes, and those that go.
 
 use crate::NoMemory;
 use crate::numbers::{NONE, after, number_at};
@@ -11,7 +11,7 @@ use std::alloc::Global;
 /// The most faces around a vertex that stays.
 const MOST_STAYING: usize = 4096;
 
-/// A face that a change makes.
+/// A face that a collapse changes.
 #[derive(Clone, Copy)]
 pub(crate) struct Changed {
     /// Its number.
@@ -37,10 +37,10 @@ pub(crate) struct Moved {
     pub(crate) face: u32,
 }
 
-/// The faces around the ends of an edge that collapses, around a vertex that moves, or at an edge that is flipped.
+/// The faces around the ends of an edge that collapses.
 #[derive(Drop)]
 pub(crate) struct Fan {
-    /// The half edges from the vertex that goes, that to the other end first; none if no edge collapses.
+    /// The half edges from the vertex that goes, that to the other end first.
     pub(crate) ring: Vec<u32>,
     /// The half edges from the vertex that stays, that to the other end first.
     pub(crate) star: Vec<u32>,
@@ -106,21 +106,6 @@ impl Fan {
             .push(face_beside(surface, surface.twin(after(first))))?;
         self.beside
             .push(face_beside(surface, surface.twin(after(last))))?;
-        Ok(())
-    }
-
-    /// Gathers the faces around a vertex that is to move, and returns whether they are a cycle.
-    pub(crate) fn gather_around(&mut self, surface: &Surface, v: u32) -> Result<bool, NoMemory> {
-        self.clear();
-        self.moves = true;
-        walk(surface, surface.edge_at(v), &mut self.staying)
-    }
-
-    /// Gathers the two faces at an edge that is to be flipped.
-    pub(crate) fn gather_at(&mut self, surface: &Surface, edge: u32) -> Result<(), NoMemory> {
-        self.clear();
-        self.staying.push(edge)?;
-        self.staying.push(surface.twin(edge))?;
         Ok(())
     }
 

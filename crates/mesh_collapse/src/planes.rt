@@ -205,7 +205,7 @@ fn rounded(x: i32, step: f64) -> i64 {
 }
 
 /// Returns the point of the box that is nearest to a place as seen from a point.
-pub(crate) fn nearest_point(from: Point, step: Way) -> Option<Point> {
+fn nearest_point(from: Point, step: Way) -> Option<Point> {
     Point::in_box(
         rounded(from.x(), step.x),
         rounded(from.y(), step.y),

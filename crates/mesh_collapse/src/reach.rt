@@ -78,56 +78,51 @@ fn improved_beside(fan: &Fan, p: Way, within: f64, best: Best) -> Best {
     best
 }
 
-/// Finds a face that a point is near, and returns the square of the distance if there is one.
-fn place_point(lists: &Lists, fan: &mut Fan, point: u32) -> Result<Option<f64>, NoMemory> {
+/// Finds a face that a point is near, and returns whether there is one.
+fn place_point(lists: &Lists, fan: &mut Fan, point: u32) -> Result<bool, NoMemory> {
     let probe = lists.given.probe(point);
     let best = nearest_face(fan, probe.at, probe.limit);
     if !best.is_near() {
-        return Ok(None);
+        return Ok(false);
     }
     fan.moved.push(Moved {
         point,
         face: best.face,
     })?;
-    Ok(Some(best.square))
+    Ok(true)
 }
 
-/// Finds faces that the points of a face's list are near, and returns the sum of the squared distances if there is one for each.
-fn place_list(lists: &Lists, fan: &mut Fan, face: u32) -> Result<Option<f64>, NoMemory> {
-    let mut sum = 0.0f64;
+/// Finds faces that the points of a face's list are near, and returns whether there is one for each.
+fn place_list(lists: &Lists, fan: &mut Fan, face: u32) -> Result<bool, NoMemory> {
     let mut point = number_at(&lists.head, face);
     for _ in 0..lists.next.len() {
         if point == NONE {
             break;
         }
-        let Some(square) = place_point(lists, fan, point)? else {
-            return Ok(None);
-        };
-        sum += square;
+        if !place_point(lists, fan, point)? {
+            return Ok(false);
+        }
         point = number_at(&lists.next, point);
     }
-    Ok(Some(sum))
+    Ok(true)
 }
 
-/// Finds faces that the points of the lists of faces that change are near, and returns the sum of the squared distances if there is one for
-/// each.
-pub(crate) fn place_staying(lists: &Lists, fan: &mut Fan) -> Result<Option<f64>, NoMemory> {
-    let mut sum = 0.0f64;
+/// Finds faces that the points of the lists of faces that change are near, and returns whether there is one for each.
+fn place_staying(lists: &Lists, fan: &mut Fan) -> Result<bool, NoMemory> {
     for i in 0..fan.staying.len() {
         let h = fan.staying.get(i).copied().unwrap_or(NONE);
-        let Some(square) = place_list(lists, fan, h / 3)? else {
-            return Ok(None);
-        };
-        sum += square;
+        if !place_list(lists, fan, h / 3)? {
+            return Ok(false);
+        }
     }
-    Ok(Some(sum))
+    Ok(true)
 }
 
 /// Finds faces that the points of the lists of faces that go are near, and returns whether there is one for each.
 fn place_going(lists: &Lists, fan: &mut Fan) -> Result<bool, NoMemory> {
     for i in 0..fan.going.len() {
         let h = fan.going.get(i).copied().unwrap_or(NONE);
-        if place_list(lists, fan, h / 3)?.is_none() {
+        if !place_list(lists, fan, h / 3)? {
             return Ok(false);
         }
     }
@@ -142,10 +137,10 @@ pub(crate) fn keeps_points(
     u: u32,
 ) -> Result<bool, NoMemory> {
     fan.moved.clear();
-    if !lists.moves && place_point(lists, fan, number_at(&surface.origin, u))?.is_none() {
+    if !lists.moves && !place_point(lists, fan, number_at(&surface.origin, u))? {
         return Ok(false);
     }
-    if place_staying(lists, fan)?.is_none() {
+    if !place_staying(lists, fan)? {
         return Ok(false);
     }
     place_going(lists, fan)

@@ -8,16 +8,16 @@ use face_near::Corners;
 use mesh_flips::Way;
 
 /// The least cosine between the normals of a face before and after.
-pub(crate) const LEAST_COSINE: f64 = 0.1;
+const LEAST_COSINE: f64 = 0.1;
 
 /// The least quality of a new face, unless a worse one goes.
-pub(crate) const SLIVER: f64 = 0.03;
+const SLIVER: f64 = 0.03;
 
 /// What makes the quality of a triangle with equal sides 1.
 const EQUAL_SIDES: f64 = 3.464101615137754;
 
 /// Returns the area of a triangle over the sum of its squared sides, 1 for equal sides.
-pub(crate) fn quality(t: &Corners, normal: Way) -> f64 {
+fn quality(t: &Corners, normal: Way) -> f64 {
     let (p, q, r) = (between(t.a, t.b), between(t.b, t.c), between(t.c, t.a));
     let sides = p.dot(p) + q.dot(q) + r.dot(r);
     if sides > 0.0 {
@@ -104,8 +104,7 @@ fn add_face(
     Ok(true)
 }
 
-/// Lists what a collapse, or a move of a vertex, makes of the faces that change, and returns whether they look about the same way and none
-/// is a sliver.
+/// Lists what a collapse makes of the faces that change, and returns whether they look about the same way and none is a sliver.
 pub(crate) fn has_shape(surface: &Surface, fan: &mut Fan, ends: &Ends) -> Result<bool, NoMemory> {
     fan.changed.clear();
     let mut worst = Worst { new: 1.0, old: 1.0 };
