@@ -9,8 +9,7 @@ use Rattle.mesh_edges.specs.Edges.{face_at}
 use Rattle.triangle_gap.specs.Gaps.{AreFacesApart}
 use Rattle.mesh_simplify.specs.Simplified.{IsAtOldPlace, IsSimplified}
 
--- Two faces are the old ones of numbers k and l, by the old numbers of their vertices, none of which has moved, and these two were not
--- apart.
+-- Two faces are the old ones of numbers k and l, by the old numbers of their vertices, no corner has moved, and these two were not apart.
 pub record MetBefore (old_points : List Point) (old_faces : List (List ℕ)) (points : List Point) (from : List ℕ) (f g : List ℕ) : Type 0 where
   pub k : ℕ
   pub l : ℕ

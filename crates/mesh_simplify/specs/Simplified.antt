@@ -34,7 +34,7 @@ pub record IsVertexMap (moves : Bool) (from : List ℕ) (old_points points : Lis
 abbrev pub IsAtOldPlace : (old_points points : List Point) → (from : List ℕ) → ℕ → Type 0
 IsAtOldPlace old_points points from v = point_at points v ≡ point_at old_points (slice_index from v)
 
--- by the old numbers of its vertices, none of which has moved
+-- by the old numbers of its vertices, if no corner has moved
 abbrev pub IsOldFace : (old_points points : List Point) → (from : List ℕ) → (old_faces : List (List ℕ)) → List ℕ → Type 0
 IsOldFace old_points points from old_faces f =
     Contains old_faces (map (slice_index from) f) × All (IsAtOldPlace old_points points from) f

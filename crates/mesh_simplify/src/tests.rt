@@ -9,7 +9,7 @@ use crate::NoMemory;
 use crate::distinct::are_distinct;
 use crate::double::stays_single;
 use crate::kept::are_apart_or_kept;
-use crate::valid::are_rising;
+use crate::valid::{are_as_many, are_rising};
 use mesh::Mesh;
 use mesh_collapse::Request;
 use mesh_edges::first_unbalanced;
@@ -40,10 +40,12 @@ pub(crate) fn is_simplified(
     requires old { IsMesh old.now.points.items old.now.faces.items }
     requires valid { IsMesh mesh.now.points.items mesh.now.faces.items }
     requires from { All (λ v. v < length old.now.points.items) hints.now.from.now }
-    requires count { length mesh.now.points.items ≡ length hints.now.from.now }
     requires points { request.moves ≡ false → mesh.now.points.items ≡ map (point_at old.now.points.items) hints.now.from.now }
     ensures { IfOk result (λ yes. OnTrue yes (IsSimplified request.moves request.within old.now.points.items old.now.faces.items mesh.now.points.items mesh.now.faces.items)) }
 {
+    if !are_as_many(mesh, hints.from) {
+        return Ok(false);
+    }
     if !are_rising(hints.from) {
         return Ok(false);
     }

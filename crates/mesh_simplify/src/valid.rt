@@ -44,6 +44,13 @@ pub(crate) fn is_mesh(mesh: &Mesh) -> bool
     are_faces(mesh.points.len(), &mesh.faces)
 }
 
+/// Returns whether a mesh has as many points as there are numbers.
+pub(crate) fn are_as_many(mesh: &Mesh, from: &[u32]) -> bool
+    ensures { OnTrue result (length mesh.now.points.items ≡ length from.now) }
+{
+    mesh.points.len() == from.len()
+}
+
 /// Returns whether numbers ascend.
 pub(crate) fn are_rising(from: &[u32]) -> bool
     ensures { OnTrue result (AllPairs (λ u v. u < v) from.now) }
@@ -87,8 +94,7 @@ fn points_of(
     Ok(Some(list))
 }
 
-/// Returns where vertices are: where they were if they do not move, else at proposed places. None if these are not as many, or an old number
-/// is too great.
+/// Returns where vertices are: where they were if they do not move, else at proposed places. None if an old number is too great.
 pub(crate) fn places_of(
     alloc: Global,
     old_points: &[Point],
@@ -97,14 +103,13 @@ pub(crate) fn places_of(
     moves: bool,
 ) -> Result<Option<Vec<Point>>, NoMemory>
     ensures within { IfOk result (λ list. IfSome list (λ new. All (λ v. v < length old_points.now) from.now)) }
-    ensures count { IfOk result (λ list. IfSome list (λ new. length new.items ≡ length from.now)) }
     ensures places { IfOk result (λ list. IfSome list (λ new. moves ≡ false → new.items ≡ map (point_at old_points.now) from.now)) }
 {
     if !moves {
-        return points_of(alloc, old_points, from);
-    }
-    if proposed.len() != from.len() {
-        return Ok(None);
+        let Some(points) = points_of(alloc, old_points, from)? else {
+            return Ok(None);
+        };
+        return Ok(Some(points));
     }
     if !are_below(old_points.len(), from) {
         return Ok(None);

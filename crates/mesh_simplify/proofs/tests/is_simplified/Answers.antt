@@ -21,7 +21,7 @@ returns c =
           record {
             within = c.requires.from;
             rising = OnTrue_at c.if-not-are_rising.false c.are_rising.ensures;
-            count = c.requires.count;
+            count = OnTrue_at c.if-not-are_as_many.false c.are_as_many.ensures;
             places = c.requires.points;
           };
       closed =
