@@ -1,8 +1,9 @@
 //! Whether two faces are apart, or both are old ones.
 
-ghost use Rattle.std.specs.Prelude.{◌≡◌, ◌<◌, ℕ, All, IfOk, length, map, slice_index};
+ghost use Rattle.std.specs.Prelude.{◌≡◌, ◌<◌, ℕ, All, Contains, IfOk, length, map, slice_index};
 ghost use Rattle.std.specs.Bool.{OnTrue};
 ghost use Rattle.mesh.specs.Meshes.{IsMesh, point_at};
+ghost use Rattle.mesh_edges.specs.Edges.{face_at};
 ghost use Rattle.mesh_simplify.specs.Simplified.{IsAtOldPlace, AreApartOrKept};
 ghost use Rattle.mesh_simplify.specs.Tested.{IsOldFaceAt, ArePairsOld};
 
@@ -57,9 +58,9 @@ fn is_unmoved(old_points: &[Point], points: &[Point], from: &[u32], face: [u32; 
         && is_at_old_place(old_points, points, from, c)
 }
 
-/// Returns whether a face is the old one of a hinted number, and its corners are where they were.
-fn is_kept(old: &Mesh, mesh: &Mesh, from: &[u32], source: &[u32], i: u32) -> bool
-    ensures { OnTrue result (IsOldFaceAt old.now.points.items mesh.now.points.items from.now old.now.faces.items mesh.now.faces.items i) }
+/// Returns whether a face is the old one of a hinted number, by the old numbers of its vertices.
+fn has_old_numbers(old: &Mesh, mesh: &Mesh, from: &[u32], source: &[u32], i: u32) -> bool
+    ensures { OnTrue result (Contains old.now.faces.items (map (slice_index from.now) (face_at mesh.now.faces.items i))) }
 {
     if i as usize >= mesh.faces.len() || i as usize >= source.len() {
         return false;
@@ -68,10 +69,24 @@ fn is_kept(old: &Mesh, mesh: &Mesh, from: &[u32], source: &[u32], i: u32) -> boo
     if k >= old.faces.len() {
         return false;
     }
-    if !is_old_face(from, mesh.faces[i as usize], old.faces[k]) {
+    is_old_face(from, mesh.faces[i as usize], old.faces[k])
+}
+
+/// Returns whether the corners of a face are where the old ones of their numbers were, by its number.
+fn has_old_places(old: &Mesh, mesh: &Mesh, from: &[u32], i: u32) -> bool
+    ensures { OnTrue result (All (IsAtOldPlace old.now.points.items mesh.now.points.items from.now) (face_at mesh.now.faces.items i)) }
+{
+    if i as usize >= mesh.faces.len() {
         return false;
     }
     is_unmoved(&old.points, &mesh.points, from, mesh.faces[i as usize])
+}
+
+/// Returns whether a face is the old one of a hinted number, and its corners are where they were.
+fn is_kept(old: &Mesh, mesh: &Mesh, from: &[u32], source: &[u32], i: u32) -> bool
+    ensures { OnTrue result (IsOldFaceAt old.now.points.items mesh.now.points.items from.now old.now.faces.items mesh.now.faces.items i) }
+{
+    has_old_numbers(old, mesh, from, source, i) && has_old_places(old, mesh, from, i)
 }
 
 /// Returns whether both faces of each pair are old ones.
