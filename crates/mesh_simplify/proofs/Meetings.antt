@@ -2,18 +2,18 @@
 --
 -- Two faces are apart, or both are old ones whose corners have not moved. If these were apart, the new ones are: their corners are at the
 -- same places, and since no two vertices have the same old number, they have the same corners in common.
-use Rattle.std.proofs.Common.{ℕ, ◌≡◌, ◌<◌, ◌+◌, ◌==◌, ◌||◌, ◌⊎◌, inl, inr, refl, ap, sym, subst, ◌∙◌, arith, Bool, true, false, List, [], ◌∷◌, length, get_or, map}
+use Rattle.std.proofs.Common.{ℕ, ◌≡◌, ◌<◌, ◌==◌, inl, inr, refl, ap, sym, subst, ◌∙◌, arith, Bool, true, false, List, [], ◌∷◌, length, get_or, map}
 use Rattle.std.proofs.Common.{eq-eqb}
-use Rattle.std.specs.List.{All, AllPairs, Contains}
+use Rattle.std.specs.List.{All, Contains}
 use Rattle.std.proofs.lemmas.Bool.{cases_lt, eqb-true}
 use Rattle.std.proofs.lemmas.List.{get_or_default}
 use Rattle.geo_sign.specs.Point.{Point}
-use Rattle.mesh.specs.Meshes.{IsFace, IsMesh, is_vertex_of, point_at}
+use Rattle.mesh.specs.Meshes.{IsFace, is_vertex_of, point_at}
 use Rattle.mesh_edges.specs.Edges.{face_at}
 use Rattle.triangle_gap.specs.Shared.{weighted}
 use Rattle.triangle_gap.specs.Gaps.{IsCommon, AreFacesApart}
-use Rattle.mesh_simplify.specs.Simplified.{IsVertexMap, IsAtOldPlace, IsSimplified}
-use Rattle.mesh_simplify.specs.Laws.{MetBefore, MeetsOnlyWhatMet}
+use Rattle.mesh_simplify.specs.Simplified.{IsVertexMap, IsAtOldPlace}
+use Rattle.mesh_simplify.specs.Laws.{MeetsOnlyWhatMet}
 
 module _ (moves : Bool) (from : List ℕ) (old_points points : List Point) (m : IsVertexMap moves from old_points points) where
   abbrev old : ℕ → ℕ

@@ -1,5 +1,5 @@
 -- A closed mesh as it is, is simplified: each vertex comes from itself, each face is kept, and each corner is at a corner of a face.
-use Rattle.std.proofs.Common.{ℕ, zero, suc, ◌≡◌, ◌+◌, ◌*◌, ◌<◌, inr, ap, sym, subst, ◌∙◌, arith, Bool, List, [], ◌∷◌, length, get_or, map}
+use Rattle.std.proofs.Common.{ℕ, zero, suc, ◌≡◌, ◌<◌, inr, ap, sym, subst, ◌∙◌, arith, Bool, List, [], ◌∷◌, length, get_or, map}
 use Rattle.std.proofs.Common.{ℤ, pos, ◌+ℤ◌, ◌-ℤ◌, ◌*ℤ◌, ◌≤ℤ◌}
 use Rattle.std.specs.List.{All}
 use Rattle.std.proofs.lemmas.Int.{ints}

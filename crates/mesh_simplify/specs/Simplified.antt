@@ -59,9 +59,9 @@ AreApartOrKept old_points points faces from old_faces i j =
     AreFacesApart points (face_at faces i) (face_at faces j)
     ⊎ AreBothOld old_points points from old_faces (face_at faces i) (face_at faces j)
 
--- The vertices come from some of the old ones, and are where these were unless vertices move. Each directed edge occurs as often as its reverse, and none occurs twice if none did before. No
--- two faces have the same vertices if no two did before. Each corner of an old face is at most `within` from a point of a face. Two faces
--- are apart, or both are old ones.
+-- The vertices come from some of the old ones, and are where these were unless vertices move. Each directed edge occurs as often as its
+-- reverse, and none occurs twice if none did before. No two faces have the same vertices if no two did before. Each corner of an old face
+-- is at most `within` from a point of a face. Two faces are apart, or both are old ones.
 pub record IsSimplified (moves : Bool) (within : ℕ) (old_points : List Point) (old_faces : List (List ℕ)) (points : List Point)
     (faces : List (List ℕ)) : Type 0 where
   pub from : List ℕ

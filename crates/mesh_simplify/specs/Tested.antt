@@ -3,7 +3,7 @@
 --   IsOldFaceAt old_points points from old_faces faces i   a face is an old one, by its number
 --   ArePairsOld old_points points from old_faces faces pairs   both faces of each pair are
 --   IsGood asked moves within old_points old_faces points faces   a valid mesh that is simplified, and near if that is asked
-use Rattle.std.specs.Prelude.{ℕ, ◌≡◌, Bool, List, All}
+use Rattle.std.specs.Prelude.{ℕ, Bool, List, All}
 use Rattle.geo_sign.specs.Point.{Point}
 use Rattle.mesh.specs.Meshes.{IsMesh}
 use Rattle.mesh_edges.specs.Edges.{face_at}

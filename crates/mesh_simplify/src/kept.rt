@@ -59,7 +59,13 @@ fn is_unmoved(old_points: &[Point], points: &[Point], from: &[u32], face: [u32; 
 }
 
 /// Returns whether a face is the old one of a hinted number, by the old numbers of its vertices.
-fn has_old_numbers(from: &[u32], old_faces: &[[u32; 3]], faces: &[[u32; 3]], source: &[u32], i: u32) -> bool
+fn has_old_numbers(
+    from: &[u32],
+    old_faces: &[[u32; 3]],
+    faces: &[[u32; 3]],
+    source: &[u32],
+    i: u32,
+) -> bool
     ensures { OnTrue result (Contains old_faces.now (map (slice_index from.now) (face_at faces.now i))) }
 {
     if i as usize >= faces.len() || i as usize >= source.len() {
@@ -86,8 +92,7 @@ fn has_old_places(old: &Mesh, mesh: &Mesh, from: &[u32], i: u32) -> bool
 fn is_kept(old: &Mesh, mesh: &Mesh, from: &[u32], source: &[u32], i: u32) -> bool
     ensures { OnTrue result (IsOldFaceAt old.now.points.items mesh.now.points.items from.now old.now.faces.items mesh.now.faces.items i) }
 {
-    has_old_numbers(from, &old.faces, &mesh.faces, source, i)
-        && has_old_places(old, mesh, from, i)
+    has_old_numbers(from, &old.faces, &mesh.faces, source, i) && has_old_places(old, mesh, from, i)
 }
 
 /// Returns whether both faces of each pair are old ones.
