@@ -110,8 +110,8 @@ def far_place(one: Mesh, other: Mesh, within: int, parts: int = 2) -> tuple[int,
     return None
 
 
-def faults(old: Mesh, new: Mesh, within: int, surface: bool = False) -> list[str]:
-    """Returns what is wrong with a simplified mesh."""
+def faults(old: Mesh, new: Mesh, within: int, surface: bool = False, moves: bool = False) -> list[str]:
+    """Returns what is wrong with a simplified mesh, whose vertices may have moved or not."""
     found = []
     edges, old_edges = edges_of(new[1]), edges_of(old[1])
     if any(edges[pair] != edges[pair[::-1]] for pair in list(edges)):
@@ -120,7 +120,7 @@ def faults(old: Mesh, new: Mesh, within: int, surface: bool = False) -> list[str
         found.append('a directed edge occurs twice')
     if repeats(new[1]) and not repeats(old[1]):
         found.append('two faces have the same vertices')
-    if not is_part(new[0], old[0]):
+    if not moves and not is_part(new[0], old[0]):
         found.append('the vertices are not some of the old ones in their order')
     vertex = far_corner(old, new, within)
     if vertex is not None:

@@ -77,12 +77,13 @@ def tried(context: Context, tally: Tally, folder: Folder, path: str) -> None:
     reach = max(max(map(abs, p)) for p in old[0]) or 1
     within = min(LIMIT, max(1, int(reach * draw.choice((0.0, 0.01, 0.1, 0.5, 2.0)))))
     options = [f'within={within}', *([f'faces={draw.randint(1, len(old[1]))}'] if draw.random() < 0.5 else [])]
-    surface = draw.random() < 0.3
+    surface, moves = draw.random() < 0.3, draw.random() < 0.5
+    more = [*(['surface=yes'] if surface else []), *(['move=yes'] if moves else [])]
     files = {'in': mesh_text(*old).encode()}
     folder.put(files)
-    done = folder.run([path, 'simplify', 'in', 'out', *options, *(['surface=yes'] if surface else [])], 60)
+    done = folder.run([path, 'simplify', 'in', 'out', *options, *more], 60)
     tally.runs += 1
-    command = ['recon-mesh', 'simplify', 'in', 'out', *options, *(['surface=yes'] if surface else [])]
+    command = ['recon-mesh', 'simplify', 'in', 'out', *options, *more]
     written = folder.look().get('out')
     if done.status != 0 or written is None:
         tally.fail('a closed mesh is not simplified', command, files, str(done))
@@ -90,7 +91,7 @@ def tried(context: Context, tally: Tally, folder: Folder, path: str) -> None:
     new = mesh_of(written.decode())
     line = f'simplified points {len(new[0])} faces {len(new[1])}\n'.encode()
     least = int(options[1][6:]) if len(options) > 1 else 0
-    wrong = faults(old, new, within, surface) + ([] if done.out == line else ['the line is wrong'])
+    wrong = faults(old, new, within, surface, moves) + ([] if done.out == line else ['the line is wrong'])
     wrong += ['too few faces'] if len(new[1]) < min(least, len(old[1])) else []
     if wrong:
         tally.fail(wrong[0], command, files, '; '.join(wrong))

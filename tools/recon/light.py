@@ -1,4 +1,4 @@
-"""A mesh with fewer faces beside a finished one: `recon-mesh simplify` on its whole coordinates, with its colors, and without the faces that the open
+"""A mesh with fewer faces beside a finished one: `recon-mesh simplify move=yes` on its whole coordinates, with its colors, and without the faces that the open
 mesh of it lacks.
 
 Names: light_path · light_mesh · open_light (without the faces that no scanner saw).
@@ -13,7 +13,6 @@ import numpy as np
 from scipy.spatial import cKDTree
 
 from recon.finish import is_in_open, with_used
-from recon.library import rows_at
 from recon.mesh_program import FINEST, mesh_lines, simplify_mesh
 from recon.meshes import longest_edges
 from recon.toolbox.mesh_files import Finished
@@ -97,11 +96,20 @@ def spans_unseen(mesh: Finished, fill: float, places: np.ndarray, faces: np.ndar
     return unseen
 
 
+def placed(mesh: Finished, whole: np.ndarray, places: np.ndarray, scale: int, origin: Sequence[float]) -> tuple[np.ndarray, np.ndarray]:
+    """Returns where the vertices of a light mesh are, from their whole coordinates, and for each the nearest vertex of the full mesh."""
+    row = cKDTree(whole).query(places, workers=-1)[1] if len(places) else np.zeros(0, np.int64)
+    has_moved = (whole[row] != places).any(axis=1)
+    spots = mesh.places[row].astype(float)
+    spots[has_moved] = places[has_moved] / scale + np.asarray(origin, float)
+    return spots, row
+
+
 def light_mesh(mesh: Finished, unit: int, origin: Sequence[float], within: float, faces: int, fill: float = 0.0,
                surface: bool = False) -> Finished:
     """Returns a mesh of about `faces` faces from which no vertex of a finished mesh is farther than `within`, a length of the scan; with `surface` no
-    point of either mesh is farther from the other. Its vertices are some of those of the finished mesh, with their columns. Faces have the column `unseen`: 1 where the open mesh, whose holes are filled up to `fill`, has
-    none. Raises `Refusal` if `within` is less than one unit of the mesh."""
+    point of either mesh is farther from the other. A vertex has the columns of the nearest one of the finished mesh. Faces have the column `unseen`: 1
+    where the open mesh, whose holes are filled up to `fill`, has none. Raises `Refusal` if `within` is less than one unit of the mesh."""
     whole, fine = whole_places(mesh, unit, origin)
     units = min(int(within * unit * fine), FINEST)
     if units < 1:
@@ -111,11 +119,11 @@ def light_mesh(mesh: Finished, unit: int, origin: Sequence[float], within: float
         with open(path, 'w', encoding='ascii') as file:
             file.write(mesh_lines(whole, mesh.faces))
         places, corners = simplify_mesh(path, units, faces, os.path.join(folder, 'light.ply'), surface=surface)
-    row = rows_at(whole, places)
+    spots, row = placed(mesh, whole, places, unit * fine, origin)
     light = corners.reshape(-1, 3)
     columns = [(name, kind, values[row]) for name, kind, values in mesh.columns]
-    unseen = spans_unseen(mesh, fill, mesh.places[row], light)
-    return Finished(mesh.places[row], light, columns, [('unseen', 'uchar', unseen)], mesh.vertex_of[row])
+    unseen = spans_unseen(mesh, fill, spots, light)
+    return Finished(spots, light, columns, [('unseen', 'uchar', unseen)], mesh.vertex_of[row])
 
 
 def open_light(light: Finished) -> Finished:

@@ -78,8 +78,10 @@ def move_mesh(path: str, targets: np.ndarray, options: FinishOptions, out: str, 
 
 def simplify_mesh(path: str, within: int, faces: int, out: str, program: Optional[str] = None, surface: bool = False) -> tuple[np.ndarray, np.ndarray]:
     """Simplifies the mesh of a file into another file without comments, down to a number of faces, while no corner, or with `surface` no point of either
-    mesh, is farther than `within` whole units from the other. Returns its places and corners, as `read_mesh` does; raises `Refusal` as `finish_mesh` does."""
-    changed(['simplify', path, out, f'within={within}', *([f'faces={faces}'] if faces else []), *(['surface=yes'] if surface else [])], program)
+    mesh, is farther than `within` whole units from the other. Vertices move. Returns its places and corners, as `read_mesh` does; raises `Refusal` as
+    `finish_mesh` does."""
+    options = [*([f'faces={faces}'] if faces else []), *(['surface=yes'] if surface else []), 'move=yes']
+    changed(['simplify', path, out, f'within={within}', *options], program)
     return read_mesh(out, FINEST)
 
 

@@ -20,7 +20,7 @@ from test_mesh_program import FACES, POINTS, mesh_program, moved, turned, two_cu
 INVALID = [(), ('within=0',), ('within=8388609',), ('within=1.5',), ('within=',), ('within=1', 'within=1'), ('within=1', 'faces=0'),
            ('within=1', 'faces=4294967296'), ('within=1', 'faces=1', 'faces=1'), ('faces=4',), ('comments=no',), ('within=1', 'smooth=1'),
            ('within=1', 'comments=no', 'comments=no'), ('within=1', 'comments=yes'), ('within=1', 'flips=no'), ('within=1', 'surface=no'),
-           ('within=1', 'surface=yes', 'surface=yes'), ('surface=yes',)]
+           ('within=1', 'surface=yes', 'surface=yes'), ('surface=yes',), ('within=1', 'move=no'), ('within=1', 'move=yes', 'move=yes')]
 
 # the line of an error in a header, and what is changed there
 INVALID_HEADERS = [(3, ' within=8 ', ' within=0 '), (3, ' within=8 ', ' within=8388609 '), (3, ' within=8 ', ' within=08 '), (3, ' within=8 ', ' '),
@@ -78,6 +78,23 @@ class Simplify(InFolder):
             assert least <= len(new[1]) < 200, len(new[1])
             equal(read('out.ply'), stated(mesh_text(*new), within, least, read('mesh.ply'), 1, True))
             equal(mesh_program('check', 'mesh.ply', 'out.ply')[0], 0)
+
+    def test_moved_vertices_are_nearer(self) -> None:
+        places, faces = ball(8, 3000, 0.02)
+        old = places, [turned(face) for face in faces]
+        write('mesh.ply', mesh_text(*old))
+        for within, least, more in ((300, 100, []), (300, 0, []), (300, 150, ['surface=yes'])):
+            words, far = [f'within={within}', *([f'faces={least}'] if least else []), *more], []
+            for moves in (True, False):
+                equal(mesh_program('simplify', 'mesh.ply', 'out.ply', *words, *(['move=yes'] if moves else []))[0], 0)
+                new = mesh_of(read('out.ply'))
+                equal(faults(old, new, within, bool(more), moves), [])
+                assert least <= len(new[1]) < 400, len(new[1])
+                equal(read('out.ply'), stated(mesh_text(*new), within, least, read('mesh.ply'), 1, bool(more)))
+                equal(mesh_program('check', 'mesh.ply', 'out.ply')[0], 0)
+                triangles = [tuple(new[0][v] for v in face) for face in new[1]]
+                far.append(sum(min(float(square_to_triangle(p, *t)) for t in triangles) for p in places))
+            assert not least or far[0] < 0.8 * far[1], far
 
     def test_checks_of_all_points(self) -> None:
         # a long edge of a thin box is cut in two, and the new vertex pulled out: all old corners stay
@@ -150,16 +167,20 @@ class Simplify(InFolder):
         cut = np.array([face for face in map(turned, faces)])
         red = np.arange(len(spots)) % 256
         mesh = Finished(spots, cut, [('red', 'uchar', red)], [], np.arange(len(spots)))
+        fine = 1024
+        whole = (np.array(places) * fine).tolist(), cut.tolist()
+
+        def judged(light: Finished, surface: bool) -> list[str]:
+            new = np.rint((light.places - (5, 6, 7)) * 1000 * fine).astype(int).tolist(), light.faces.tolist()
+            return faults(whole, new, 300 * fine, surface, True)
+
         light = light_mesh(mesh, 1000, (5, 6, 7), 0.3, 100)
         assert 100 <= len(light.faces) <= 101
-        rows = [int(np.flatnonzero((spots == place).all(axis=1))[0]) for place in light.places]
+        rows = [int(((spots - place) ** 2).sum(axis=1).argmin()) for place in light.places]
         equal((light.columns[0][2].tolist(), light.vertex_of.tolist()), ([row % 256 for row in rows], rows))
-        equal(light.face_columns[0][2].any(), False)
-        new = [tuple(places[row]) for row in rows], light.faces.tolist()
-        equal(faults((places, cut.tolist()), new, 300), [])
+        equal((light.face_columns[0][2].any(), judged(light, False)), (False, []))
         both = light_mesh(mesh, 1000, (5, 6, 7), 0.3, 200, surface=True)
-        rows = [int(np.flatnonzero((spots == place).all(axis=1))[0]) for place in both.places]
-        equal((len(both.faces) < len(cut), faults((places, cut.tolist()), ([tuple(places[row]) for row in rows], both.faces.tolist()), 300, True)), (True, []))
+        equal((len(both.faces) < len(cut), judged(both, True)), (True, []))
         self.assertRaisesRegex(Refusal, 'less than one unit', light_mesh, mesh, 1000, (5, 6, 7), 0.0000001, 100)
 
     def test_the_light_mesh_lacks_what_the_open_mesh_lacks(self) -> None:

@@ -2,6 +2,7 @@
 --
 --   with_distance o number, with_faces o number   the options with a number more, if it is not given yet
 --   with_surface o                 the options with all points, if they are not given yet
+--   with_moves o                   the options with vertices that move, if they are not given yet
 --   unstated o                     the options without comments, if they have them
 --   with_number_of o word, with_argument o word, with_arguments o words
 --                                  the options that arguments are, one after another, each at most once
@@ -25,6 +26,9 @@ with_faces o number = option_map (λ n. record o { faces = Some n }) (first_numb
 abbrev pub with_surface : GivenNumbers → Option GivenNumbers
 with_surface o = if o.surface then None else Some (record o { surface = true })
 
+abbrev pub with_moves : GivenNumbers → Option GivenNumbers
+with_moves o = if o.moves then None else Some (record o { moves = true })
+
 abbrev pub unstated : GivenNumbers → Option GivenNumbers
 unstated o = if o.comments then Some (record o { comments = false }) else None
 
@@ -41,6 +45,7 @@ abbrev pub with_argument : GivenNumbers → List ℕ → Option GivenNumbers
 with_argument o word =
     if bytes_eq word (codes "comments=no") then unstated o
     else if bytes_eq word (codes "surface=yes") then with_surface o
+    else if bytes_eq word (codes "move=yes") then with_moves o
     else with_number_of o word
 
 -- the options with those of all arguments, each at most once
@@ -59,12 +64,13 @@ request_of o =
     option_map
     (λ within. record {
       options = record { within = within; faces = faces_or_none o.faces; surface = o.surface };
+      moves = o.moves;
       comments = o.comments;
     }) o.within
 
 -- no argument
 abbrev pub no_numbers : GivenNumbers
-no_numbers = record { within = None; faces = None; surface = false; comments = true }
+no_numbers = record { within = None; faces = None; surface = false; moves = false; comments = true }
 
 -- what the arguments after the names ask for
 abbrev pub simplify_request : List (List ℕ) → Option SimplifyRequest

@@ -38,9 +38,9 @@ pub enum Command<'a> {
     /// `move MESH TARGETS OUT smooth=N within=D [pieces=N] [manifold=yes] [flips=no] [comments=no]`: does what `finish` does, but vertices
     /// move toward the points of TARGETS, a mesh with as many points as the result. It states of the result what `finish` does.
     Move(MoveWords<'a>),
-    /// `simplify MESH OUT within=D [faces=N] [surface=yes] [comments=no]`: reads the mesh, collapses edges while each corner of its faces
-    /// stays at most D units from a face, down to N faces, and writes the result with its provenance. With `surface=yes` each point of
-    /// either mesh is at most D units from the other.
+    /// `simplify MESH OUT within=D [faces=N] [surface=yes] [move=yes] [comments=no]`: reads the mesh, collapses edges while each corner of
+    /// its faces stays at most D units from a face, down to N faces, and writes the result with its provenance. With `surface=yes` each
+    /// point of either mesh is at most D units from the other. Vertices stay where they are, unless `move=yes` is given.
     Simplify(SimplifyWords<'a>),
     /// `join TILES OUT`: reads the list of the tiles of a scan and the mesh of each, and writes one closed mesh. Each edge takes the faces
     /// of one tile.

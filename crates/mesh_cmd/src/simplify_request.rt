@@ -1,6 +1,6 @@
 //! The options of `simplify`.
 ghost use Rattle.std.specs.Prelude.{◌≡◌, map, string_bytes};
-ghost use Rattle.mesh_cmd.specs.SimplifyRequests.{simplify_request, request_of, faces_or_none, with_arguments, with_argument, with_number_of, unstated, with_surface, with_distance, with_faces};
+ghost use Rattle.mesh_cmd.specs.SimplifyRequests.{simplify_request, request_of, faces_or_none, with_arguments, with_argument, with_number_of, unstated, with_surface, with_moves, with_distance, with_faces};
 
 use crate::options::{first_number, limited_in};
 use finish_options::{FARTHEST, SimplifyOptions};
@@ -10,6 +10,8 @@ use finish_options::{FARTHEST, SimplifyOptions};
 pub struct SimplifyRequest {
     /// How it is simplified.
     pub options: SimplifyOptions,
+    /// Vertices move (default: false).
+    pub moves: bool,
     /// Comments of the header state it (default: true).
     pub comments: bool,
 }
@@ -23,6 +25,8 @@ struct GivenNumbers {
     faces: Option<u32>,
     /// Whether all points have to be near, not corners alone.
     surface: bool,
+    /// Whether vertices move.
+    moves: bool,
     /// Whether the header has comments.
     comments: bool,
 }
@@ -35,6 +39,7 @@ pub(crate) fn request_in(words: &[String]) -> Option<SimplifyRequest>
         within: None,
         faces: None,
         surface: false,
+        moves: false,
         comments: true,
     };
     request_of(with_all(none, words)?)
@@ -62,6 +67,7 @@ fn request_of(given: GivenNumbers) -> Option<SimplifyRequest>
     };
     Some(SimplifyRequest {
         options,
+        moves: given.moves,
         comments: given.comments,
     })
 }
@@ -87,6 +93,8 @@ fn with_one(options: GivenNumbers, word: &str) -> Option<GivenNumbers>
         unstated(options)
     } else if word == "surface=yes" {
         with_surface(options)
+    } else if word == "move=yes" {
+        with_moves(options)
     } else {
         with_number_of(options, word.as_bytes())
     }
@@ -101,6 +109,19 @@ fn with_surface(options: GivenNumbers) -> Option<GivenNumbers>
     }
     Some(GivenNumbers {
         surface: true,
+        ..options
+    })
+}
+
+/// Returns the options with vertices that move, if they are not given yet.
+fn with_moves(options: GivenNumbers) -> Option<GivenNumbers>
+    ensures { result ≡ with_moves options }
+{
+    if options.moves {
+        return None;
+    }
+    Some(GivenNumbers {
+        moves: true,
         ..options
     })
 }

@@ -114,11 +114,6 @@ fn are_apart_among(places: &[Point], changed: &[Changed]) -> bool {
     true
 }
 
-/// Returns whether a face is one of those around the vertex that goes.
-fn is_own(fan: &Fan, f: u32) -> bool {
-    fan.ring.iter().any(|h| *h / 3 == f)
-}
-
 /// Returns whether a face has the vertex that stays and a vertex that becomes its neighbor.
 fn has_new_edge(surface: &Surface, fan: &Fan, face: [u32; 3], v: u32) -> bool {
     if !has(face, v) {
@@ -150,7 +145,7 @@ fn is_clear_of(surface: &Surface, fan: &Fan, f: usize, all: Hull, v: u32) -> boo
     let number = short(f);
     let face = surface.face(number);
     let hull = surface.hull(face);
-    if !hull.meets(all) || is_own(fan, number) {
+    if !hull.meets(all) || fan.is_own(number) {
         return true;
     }
     if has_new_edge(surface, fan, face, v) {

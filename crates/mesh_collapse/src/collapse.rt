@@ -4,7 +4,7 @@ use crate::NoMemory;
 use crate::boxes::Boxes;
 use crate::clear::is_clear;
 use crate::commit::commit;
-use crate::costs::cheapest;
+use crate::costs::{Candidate, cheapest};
 use crate::fan::Fan;
 use crate::fans::find_fans;
 use crate::given::Given;
@@ -14,8 +14,9 @@ use crate::numbers::{NONE, number_at, put};
 use crate::order::{Ordered, along_curve, first_numbers};
 use crate::over::are_over;
 use crate::passes::make_passes;
+use crate::planes::{Planes, UNKNOWN, cheapest_placed, placed};
 use crate::reach::{Lists, keeps_points};
-use crate::shape::has_shape;
+use crate::shape::{Ends, has_shape};
 use crate::surface::Surface;
 use geo_sign::Point;
 use half_edges::find_twins;
@@ -28,6 +29,8 @@ pub struct Request {
     pub within: u32,
     /// How many faces are left at least, if the given ones are that many.
     pub faces: u32,
+    /// Whether vertices move to the places that suit the faces around them, or stay where they are given.
+    pub moves: bool,
 }
 
 /// The faces that are left, and hints for tests.
@@ -39,6 +42,8 @@ pub struct Collapsed {
     pub source: Vec<u32>,
     /// For each given vertex the index of a face that it may be near.
     pub homes: Vec<u32>,
+    /// For each given vertex where it is, if it is left.
+    pub places: Vec<Point>,
 }
 
 /// All that a search works on.
@@ -54,38 +59,83 @@ pub(crate) struct Work {
     pub(crate) cheapest: Vec<u32>,
     /// Up to which cost collapses of each vertex have failed.
     pub(crate) floors: Vec<f64>,
+    /// The planes around each vertex, if vertices move.
+    pub(crate) planes: Vec<Planes>,
+    /// Whether vertices are moved now: if they move at all, when few faces are left.
+    pub(crate) places: bool,
     /// The number of each given vertex along the curve.
     pub(crate) vertices: Vec<u32>,
 }
 
-/// Collapses an edge if it may be, and returns whether it is done.
-pub(crate) fn try_edge(work: &mut Work, fan: &mut Fan, edge: u32) -> Result<bool, NoMemory> {
-    let (u, v) = (work.surface.from(edge), work.surface.to(edge));
-    if !fan.gather(&work.surface, edge)? {
-        return Ok(false);
-    }
+/// Returns whether a collapse may be made, where the vertex that stays is at its new place.
+fn is_allowed(work: &mut Work, fan: &mut Fan, ends: &Ends) -> Result<bool, NoMemory> {
     if !work.marks.is_linked(&work.surface, &fan.ring, &fan.star) {
         return Ok(false);
     }
-    if !has_shape(&work.surface, fan, u, v)? {
+    fan.note_collapse(&work.surface)?;
+    if !has_shape(&work.surface, fan, ends)? {
         return Ok(false);
     }
-    if !keeps_points(&work.surface, &work.lists, fan, u)? {
+    if !keeps_points(&work.surface, &work.lists, fan, ends.u)? {
         return Ok(false);
     }
-    if !is_clear(&work.surface, &work.boxes, fan, v) {
+    if !is_clear(&work.surface, &work.boxes, fan, ends.v) {
         return Ok(false);
     }
-    if !are_over(&work.lists.given, &work.surface, fan, v) {
+    Ok(are_over(&work.lists.given, &work.surface, fan, ends.v))
+}
+
+/// Carries out a collapse if it may be made, and returns whether it is done.
+pub(crate) fn try_edge(
+    work: &mut Work,
+    fan: &mut Fan,
+    candidate: Candidate,
+) -> Result<bool, NoMemory> {
+    if !fan.gather(&work.surface, candidate.edge)? {
         return Ok(false);
     }
-    commit(work, fan, u, v);
+    let v = work.surface.to(candidate.edge);
+    let ends = Ends {
+        u: work.surface.from(candidate.edge),
+        v,
+        was: work.surface.spot_at(v),
+    };
+    let was = work.surface.move_to(v, candidate.place);
+    fan.moves = was.is_some();
+    if !is_allowed(work, fan, &ends)? {
+        let _ = work.surface.move_to(v, was);
+        return Ok(false);
+    }
+    commit(work, fan, ends.u, v);
     Ok(true)
 }
 
 /// Returns the half edge of the cheapest collapse of a vertex whose cost is known.
 pub(crate) fn cheapest_edge(work: &Work, u: u32) -> u32 {
     number_at(&work.cheapest, u)
+}
+
+/// Returns the cheapest collapse of a vertex whose cost is known.
+pub(crate) fn cheapest_of(work: &mut Work, u: u32, cost: f64) -> Candidate {
+    let edge = cheapest_edge(work, u);
+    if work.places {
+        placed(&work.surface, &mut work.planes, edge)
+    } else {
+        Candidate {
+            cost,
+            edge,
+            place: None,
+        }
+    }
+}
+
+/// Finds the cheapest collapse of a vertex that costs more than a given amount.
+fn find_cheapest(work: &mut Work, u: u32, above: f64) -> Option<Candidate> {
+    if work.places {
+        cheapest_placed(&work.surface, &mut work.planes, u, above)
+    } else {
+        cheapest(&work.surface, u, above)
+    }
 }
 
 /// Returns the cost of the cheapest collapse of a vertex, infinite if there is none.
@@ -95,7 +145,7 @@ pub(crate) fn cost_of(work: &mut Work, u: u32) -> f64 {
         return known;
     }
     let floor = work.floors.get(u as usize).copied().unwrap_or(0.0);
-    let (cost, edge) = match cheapest(&work.surface, u, floor) {
+    let (cost, edge) = match find_cheapest(work, u, floor) {
         Some(candidate) => (candidate.cost, candidate.edge),
         None => (f64::INFINITY, NONE),
     };
@@ -107,7 +157,7 @@ pub(crate) fn cost_of(work: &mut Work, u: u32) -> f64 {
 }
 
 /// Returns the work on a mesh.
-fn work_on(alloc: Global, ordered: Ordered, given: Given) -> Result<Work, NoMemory> {
+fn work_on(alloc: Global, ordered: Ordered, given: Given, moves: bool) -> Result<Work, NoMemory> {
     let Ordered {
         vertices,
         places,
@@ -128,7 +178,7 @@ fn work_on(alloc: Global, ordered: Ordered, given: Given) -> Result<Work, NoMemo
     };
     find_fans(alloc, &mut surface)?;
     Ok(Work {
-        lists: Lists::of(alloc, given, live)?,
+        lists: Lists::of(alloc, given, &surface, moves)?,
         boxes: Boxes::of(alloc, &surface.places, &surface.faces)?,
         marks: Marks {
             marks: vec![in alloc; 0; count]?,
@@ -137,6 +187,8 @@ fn work_on(alloc: Global, ordered: Ordered, given: Given) -> Result<Work, NoMemo
         costs: vec![in alloc; -1.0; count]?,
         cheapest: vec![in alloc; NONE; count]?,
         floors: vec![in alloc; -1.0; count]?,
+        planes: vec![in alloc; UNKNOWN; if moves { count } else { 0 }]?,
+        places: false,
         vertices,
         surface,
     })
@@ -184,8 +236,8 @@ pub fn collapse_edges(
 ) -> Result<Collapsed, NoMemory> {
     let ordered = along_curve(alloc, points, faces)?;
     let given = given_of(alloc, &ordered, request.within, limits)?;
-    let mut work = work_on(alloc, ordered, given)?;
+    let mut work = work_on(alloc, ordered, given, request.moves)?;
     let mut fan = Fan::empty(alloc);
     make_passes(alloc, &mut work, &mut fan, request.faces as usize)?;
-    collapsed_of(alloc, &work)
+    collapsed_of(alloc, &work, points)
 }

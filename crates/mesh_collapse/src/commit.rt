@@ -3,6 +3,7 @@
 use crate::collapse::Work;
 use crate::fan::Fan;
 use crate::numbers::{GONE, NONE, after, before, number_at, put};
+use crate::planes::UNKNOWN;
 use crate::surface::Surface;
 
 /// Makes two half edges opposites of each other.
@@ -38,13 +39,16 @@ fn close(surface: &mut Surface, first: u32, last: u32) {
     note_edge(surface, other, c);
 }
 
-/// Forgets what failed at a vertex, and its cost.
+/// Forgets what failed at a vertex, its cost and the planes around it.
 fn renew(work: &mut Work, v: u32) {
     if (v as usize) < work.floors.len() {
         work.floors[v as usize] = -1.0;
     }
     if (v as usize) < work.costs.len() {
         work.costs[v as usize] = -1.0;
+    }
+    if (v as usize) < work.planes.len() {
+        work.planes[v as usize] = UNKNOWN;
     }
 }
 

@@ -1,10 +1,12 @@
 //! What a collapse costs: the squared distances of the place that is left to the planes of the faces around the vertex that goes, by area,
-//! and a thousandth of those to the middles of these faces, so that flat regions have an order too.
+//! and a thousandth of those to the middles of these faces, so that flat regions have an order too. This is for vertices that stay where
+//! they are given; `planes` is for those that move.
 
 use crate::fans::MOST_AROUND;
 use crate::numbers::NONE;
 use crate::surface::{Surface, between, normal_of};
 use face_near::Corners;
+use geo_sign::Point;
 use mesh_flips::Way;
 
 /// What the squared distance to the middle of a face counts.
@@ -108,6 +110,8 @@ pub(crate) struct Candidate {
     pub(crate) cost: f64,
     /// The half edge from the vertex that goes to the one that stays.
     pub(crate) edge: u32,
+    /// Where the vertex that stays goes, if it moves.
+    pub(crate) place: Option<Point>,
 }
 
 /// Returns the cheapest collapse of a vertex that costs more than a given amount.
@@ -127,7 +131,11 @@ pub(crate) fn cheapest(surface: &Surface, u: u32, above: f64) -> Option<Candidat
             .max(0.0);
         if cost > above && cost < best {
             best = cost;
-            found = Some(Candidate { cost, edge: h });
+            found = Some(Candidate {
+                cost,
+                edge: h,
+                place: None,
+            });
         }
         h = surface.turn(h);
         if h == first {

@@ -4,7 +4,7 @@
 //!
 //! [`collapse_edges`] merges a vertex into a neighbor again and again. The cost of a collapse is how far the neighbor is from the
 //! planes of the faces around the vertex, by area (Garland and Heckbert, 1997, without memory of former faces: Lindstrom and Turk,
-//! 1998). A collapse is left out if it changes how faces are connected, turns a face, makes a sliver, leaves a given point farther than
+//! 1998). If vertices move, the neighbor goes where it is best for the planes around both. A collapse is left out if it changes how faces are connected, turns a face, makes a sliver, leaves a given point farther than
 //! a distance from the new faces, or makes two faces meet. If all points have to stay near, points on edges and the middles of faces
 //! are looked at too, of the given mesh and of the new faces. Passes over all vertices along a curve take the cheapest quarter each.
 //!
@@ -29,6 +29,7 @@ mod order;
 mod over;
 mod pack;
 mod passes;
+mod planes;
 mod reach;
 mod shape;
 mod surface;

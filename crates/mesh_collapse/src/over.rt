@@ -53,10 +53,20 @@ fn given_face(surface: &Surface, face: [u32; 3]) -> [u32; 3] {
     ]
 }
 
-/// Returns whether the middles of the new faces, and points of their new sides at the vertex that stays, are near the given mesh.
+/// Returns whether a vertex is near the given mesh.
+fn is_vertex_over(given: &Given, surface: &Surface, v: u32) -> bool {
+    let limit = given.limit_at(number_at(&surface.origin, v));
+    given.is_near(surface.spot_at(v), limit)
+}
+
+/// Returns whether the middles of the new faces, and points of their new sides at the vertex that stays, are near the given mesh, and that
+/// vertex if it moves.
 pub(crate) fn are_over(given: &Given, surface: &Surface, fan: &Fan, v: u32) -> bool {
     if given.faces.is_empty() {
         return true;
+    }
+    if fan.moves && !is_vertex_over(given, surface, v) {
+        return false;
     }
     for new in &fan.changed {
         let limit = given.limit_on(given_face(surface, new.corners));

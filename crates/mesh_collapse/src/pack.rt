@@ -78,6 +78,7 @@ fn pack_vertices(work: &mut Work, numbers: &Numbers) {
     work.costs.truncate(count);
     work.cheapest.truncate(count);
     work.floors.truncate(count);
+    work.planes.truncate(count);
     work.marks.marks.truncate(count);
 }
 
@@ -91,6 +92,9 @@ fn move_vertex(work: &mut Work, numbers: &Numbers, from: usize, to: usize) {
     }
     if from < work.floors.len() && to <= from {
         work.floors[to] = work.floors[from];
+    }
+    if from < work.planes.len() && to <= from {
+        work.planes[to] = work.planes[from];
     }
     let (old, new) = (short(from), short(to));
     let origin = number_at(&work.surface.origin, old);

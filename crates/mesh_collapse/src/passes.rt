@@ -1,7 +1,7 @@
 //! Passes over all vertices, each with a limit of cost.
 
 use crate::NoMemory;
-use crate::collapse::{Work, cheapest_edge, cost_of, try_edge};
+use crate::collapse::{Work, cheapest_of, cost_of, try_edge};
 use crate::fan::Fan;
 use crate::order::short;
 use crate::pack::pack_if_sparse;
@@ -19,6 +19,9 @@ const PART: usize = 16;
 
 /// All of the vertices, in 64ths.
 const ALL: usize = 64;
+
+/// Vertices move from this many times the faces on that are to be left: before that it takes longer, and brings little.
+const LATE: usize = 6;
 
 /// A pass that collapses fewer than one vertex of this many makes the next one take a greater part.
 const FEW: usize = 50;
@@ -59,8 +62,8 @@ fn try_vertex(work: &mut Work, fan: &mut Fan, u: u32, limit: f64) -> Result<(), 
         if !(cost <= limit) {
             return Ok(());
         }
-        let edge = cheapest_edge(work, u);
-        if try_edge(work, fan, edge)? {
+        let candidate = cheapest_of(work, u, cost);
+        if try_edge(work, fan, candidate)? {
             return Ok(());
         }
         if (u as usize) < work.floors.len() {
@@ -84,6 +87,30 @@ fn make_pass(work: &mut Work, fan: &mut Fan, least: usize, limit: f64) -> Result
     Ok(())
 }
 
+/// Begins to move vertices, and forgets what collapses without that cost.
+fn begin_places(work: &mut Work) {
+    work.places = true;
+    work.costs.fill(-1.0);
+    work.floors.fill(-1.0);
+}
+
+/// Begins to move vertices, if they move at all and few faces are left.
+fn begin_if_few(work: &mut Work, least: usize) {
+    let few = least == 0 || work.surface.live / LATE <= least;
+    if work.lists.moves && !work.places && few {
+        begin_places(work);
+    }
+}
+
+/// Begins to move vertices, if they move at all and have not moved yet, and returns whether that is so.
+fn begin_at_end(work: &mut Work) -> bool {
+    let begins = work.lists.moves && !work.places;
+    if begins {
+        begin_places(work);
+    }
+    begins
+}
+
 /// Makes passes until few enough faces are left, or none can go.
 pub(crate) fn make_passes(
     alloc: Global,
@@ -96,15 +123,19 @@ pub(crate) fn make_passes(
         if is_enough(work, least) {
             return Ok(());
         }
+        begin_if_few(work, least);
         let before = work.surface.live;
         let need = before.saturating_sub(least) / 2;
         let mut codes = codes_of(alloc, work)?;
         let Some(limit) = limit_of(&mut codes, need, part) else {
+            if begin_at_end(work) {
+                continue;
+            }
             return Ok(());
         };
         make_pass(work, fan, least, limit)?;
         let gone = before.saturating_sub(work.surface.live) / 2;
-        if gone == 0 && part >= ALL {
+        if gone == 0 && part >= ALL && !begin_at_end(work) {
             return Ok(());
         }
         part = if gone < work.surface.places.len() / FEW {

@@ -3,14 +3,14 @@
 use crate::NoMemory;
 use crate::fan::{Fan, Moved};
 use crate::given::{Given, ON_EDGE};
-use crate::numbers::{NONE, after, number_at, put};
+use crate::numbers::{NONE, number_at, put};
 use crate::order::short;
 use crate::surface::{Surface, between};
 use face_near::{Corners, nearest_on};
 use mesh_flips::Way;
 use std::alloc::Global;
 
-/// The given mesh, and for each face a list of its places that are near it. A vertex that is left is on no list.
+/// The given mesh, and for each face a list of its places that are near it. A vertex that is left is on no list, unless vertices move.
 #[derive(Drop)]
 pub(crate) struct Lists {
     pub(crate) given: Given,
@@ -18,15 +18,8 @@ pub(crate) struct Lists {
     pub(crate) head: Vec<u32>,
     /// The point after each one in its list.
     pub(crate) next: Vec<u32>,
-}
-
-/// Two faces that a collapse does not change, which points may be near too.
-#[derive(Clone, Copy)]
-struct Beside {
-    one: u32,
-    other: u32,
-    one_spots: Corners,
-    other_spots: Corners,
+    /// Whether each given vertex is on a list, since vertices move.
+    pub(crate) moves: bool,
 }
 
 /// The nearest face of a point so far.
@@ -63,22 +56,8 @@ impl Best {
     }
 }
 
-/// Returns the faces across the two that go, on the side of the vertex that stays.
-fn faces_beside(surface: &Surface, fan: &Fan) -> Beside {
-    let first = fan.ring.first().copied().unwrap_or(NONE);
-    let last = fan.ring.last().copied().unwrap_or(NONE);
-    let one = surface.twin(after(first)) / 3;
-    let other = surface.twin(after(last)) / 3;
-    Beside {
-        one,
-        other,
-        one_spots: surface.corners(surface.face(one)),
-        other_spots: surface.corners(surface.face(other)),
-    }
-}
-
 /// Returns the nearest face of a point among those that change and those beside.
-fn nearest_face(fan: &Fan, two: &Beside, p: Way, within: f64) -> Best {
+fn nearest_face(fan: &Fan, p: Way, within: f64) -> Best {
     let mut best = Best {
         face: NONE,
         square: f64::INFINITY,
@@ -87,15 +66,22 @@ fn nearest_face(fan: &Fan, two: &Beside, p: Way, within: f64) -> Best {
     for new in &fan.changed {
         best.improve(p, &new.spots, new.face, within);
     }
-    best.improve(p, &two.one_spots, two.one, within);
-    best.improve(p, &two.other_spots, two.other, within);
+    improved_beside(fan, p, within, best)
+}
+
+/// Returns the nearest face of a point among this one and those beside.
+fn improved_beside(fan: &Fan, p: Way, within: f64, best: Best) -> Best {
+    let mut best = best;
+    for other in &fan.beside {
+        best.improve(p, &other.spots, other.face, within);
+    }
     best
 }
 
 /// Finds a face that a point is near, and returns whether there is one.
-fn place_point(lists: &Lists, fan: &mut Fan, two: &Beside, point: u32) -> Result<bool, NoMemory> {
+fn place_point(lists: &Lists, fan: &mut Fan, point: u32) -> Result<bool, NoMemory> {
     let probe = lists.given.probe(point);
-    let best = nearest_face(fan, two, probe.at, probe.limit);
+    let best = nearest_face(fan, probe.at, probe.limit);
     if !best.is_near() {
         return Ok(false);
     }
@@ -107,16 +93,38 @@ fn place_point(lists: &Lists, fan: &mut Fan, two: &Beside, point: u32) -> Result
 }
 
 /// Finds faces that the points of a face's list are near, and returns whether there is one for each.
-fn place_list(lists: &Lists, fan: &mut Fan, two: &Beside, face: u32) -> Result<bool, NoMemory> {
+fn place_list(lists: &Lists, fan: &mut Fan, face: u32) -> Result<bool, NoMemory> {
     let mut point = number_at(&lists.head, face);
     for _ in 0..lists.next.len() {
         if point == NONE {
             break;
         }
-        if !place_point(lists, fan, two, point)? {
+        if !place_point(lists, fan, point)? {
             return Ok(false);
         }
         point = number_at(&lists.next, point);
+    }
+    Ok(true)
+}
+
+/// Finds faces that the points of the lists of faces that change are near, and returns whether there is one for each.
+fn place_staying(lists: &Lists, fan: &mut Fan) -> Result<bool, NoMemory> {
+    for i in 0..fan.staying.len() {
+        let h = fan.staying.get(i).copied().unwrap_or(NONE);
+        if !place_list(lists, fan, h / 3)? {
+            return Ok(false);
+        }
+    }
+    Ok(true)
+}
+
+/// Finds faces that the points of the lists of faces that go are near, and returns whether there is one for each.
+fn place_going(lists: &Lists, fan: &mut Fan) -> Result<bool, NoMemory> {
+    for i in 0..fan.going.len() {
+        let h = fan.going.get(i).copied().unwrap_or(NONE);
+        if !place_list(lists, fan, h / 3)? {
+            return Ok(false);
+        }
     }
     Ok(true)
 }
@@ -129,33 +137,52 @@ pub(crate) fn keeps_points(
     u: u32,
 ) -> Result<bool, NoMemory> {
     fan.moved.clear();
-    let two = faces_beside(surface, fan);
-    if !place_point(lists, fan, &two, number_at(&surface.origin, u))? {
+    if !lists.moves && !place_point(lists, fan, number_at(&surface.origin, u))? {
         return Ok(false);
     }
-    for i in 0..fan.ring.len() {
-        if i < fan.ring.len() {
-            let face = fan.ring[i] / 3;
-            if !place_list(lists, fan, &two, face)? {
-                return Ok(false);
-            }
-        }
+    if !place_staying(lists, fan)? {
+        return Ok(false);
     }
-    Ok(true)
+    place_going(lists, fan)
 }
 
 impl Lists {
-    /// Returns the lists at the start: the middle of each face and places on its sides, if these have to stay near.
-    pub(crate) fn of(alloc: Global, given: Given, faces: usize) -> Result<Lists, NoMemory> {
+    /// Returns the lists at the start: the middle of each face and places on its sides, if these have to stay near, and the vertices, if
+    /// these move.
+    pub(crate) fn of(
+        alloc: Global,
+        given: Given,
+        surface: &Surface,
+        moves: bool,
+    ) -> Result<Lists, NoMemory> {
         let mut lists = Lists {
-            head: vec![in alloc; NONE; faces]?,
+            head: vec![in alloc; NONE; surface.faces.len()]?,
             next: vec![in alloc; NONE; given.count()]?,
             given,
+            moves,
         };
         for f in 0..lists.given.faces.len() {
             lists.begin(short(f));
         }
+        if moves {
+            lists.note_vertices(alloc, surface)?;
+        }
         Ok(lists)
+    }
+
+    /// Puts each vertex on the list of one of its faces.
+    fn note_vertices(&mut self, alloc: Global, surface: &Surface) -> Result<(), NoMemory> {
+        let mut faces = vec![in alloc; NONE; surface.places.len()]?;
+        for (f, face) in surface.faces.iter().enumerate() {
+            let [a, b, c] = *face;
+            put(&mut faces, a, short(f));
+            put(&mut faces, b, short(f));
+            put(&mut faces, c, short(f));
+        }
+        for v in 0..faces.len() {
+            self.note(faces[v], short(v));
+        }
+        Ok(())
     }
 
     /// Appends a place to the list of a face.
@@ -185,11 +212,17 @@ impl Lists {
         }
     }
 
-    /// Moves points to the lists of the faces that they are near.
-    pub(crate) fn move_points(&mut self, fan: &Fan) {
-        for h in &fan.ring {
+    /// Clears the lists of faces.
+    fn clear(&mut self, edges: &[u32]) {
+        for h in edges {
             put(&mut self.head, *h / 3, NONE);
         }
+    }
+
+    /// Moves points to the lists of the faces that they are near.
+    pub(crate) fn move_points(&mut self, fan: &Fan) {
+        self.clear(&fan.staying);
+        self.clear(&fan.going);
         for moved in &fan.moved {
             self.note(moved.face, moved.point);
         }

@@ -2,6 +2,7 @@
 
 use crate::NoMemory;
 use crate::fan::{Changed, Fan};
+use crate::numbers::NONE;
 use crate::surface::{Surface, between, normal_of};
 use face_near::Corners;
 use mesh_flips::Way;
@@ -36,9 +37,27 @@ fn replaced(face: [u32; 3], u: u32, v: u32) -> [u32; 3] {
     ]
 }
 
+/// The ends of an edge that collapses.
+#[derive(Clone, Copy)]
+pub(crate) struct Ends {
+    /// The vertex that goes.
+    pub(crate) u: u32,
+    /// The vertex that stays, at its new place.
+    pub(crate) v: u32,
+    /// Where it was.
+    pub(crate) was: Way,
+}
+
+/// The worst qualities of faces.
+#[derive(Clone, Copy)]
+struct Worst {
+    new: f64,
+    old: f64,
+}
+
 /// Returns what a collapse makes of a face.
-fn changed(surface: &Surface, h: u32, u: u32, v: u32) -> Changed {
-    let corners = replaced(surface.face(h / 3), u, v);
+fn changed(surface: &Surface, h: u32, ends: &Ends) -> Changed {
+    let corners = replaced(surface.face(h / 3), ends.u, ends.v);
     let spots = surface.corners(corners);
     Changed {
         face: h / 3,
@@ -49,34 +68,51 @@ fn changed(surface: &Surface, h: u32, u: u32, v: u32) -> Changed {
     }
 }
 
+/// Returns the corners of a face before a collapse.
+fn corners_before(surface: &Surface, h: u32, ends: &Ends) -> Corners {
+    let [a, b, c] = surface.face(h / 3);
+    let t = surface.corners([a, b, c]);
+    Corners {
+        a: if a == ends.v { ends.was } else { t.a },
+        b: if b == ends.v { ends.was } else { t.b },
+        c: if c == ends.v { ends.was } else { t.c },
+    }
+}
+
 /// Returns whether a face is turned too far.
 fn is_turned(was: Way, new: Way) -> bool {
     !(was.dot(new) > LEAST_COSINE * (was.dot(was) * new.dot(new)).sqrt())
 }
 
-/// Lists the faces that a collapse from `u` to `v` changes, and returns whether they look about the same way and none is a sliver.
-pub(crate) fn has_shape(
+/// Lists what a collapse makes of a face, and returns whether it looks about the same way.
+fn add_face(
     surface: &Surface,
     fan: &mut Fan,
-    u: u32,
-    v: u32,
+    h: u32,
+    ends: &Ends,
+    worst: &mut Worst,
 ) -> Result<bool, NoMemory> {
+    let new = changed(surface, h, ends);
+    let old = corners_before(surface, h, ends);
+    let normal = normal_of(&old);
+    if is_turned(normal, new.normal) {
+        return Ok(false);
+    }
+    worst.new = worst.new.min(quality(&new.spots, new.normal));
+    worst.old = worst.old.min(quality(&old, normal));
+    fan.changed.push(new)?;
+    Ok(true)
+}
+
+/// Lists what a collapse makes of the faces that change, and returns whether they look about the same way and none is a sliver.
+pub(crate) fn has_shape(surface: &Surface, fan: &mut Fan, ends: &Ends) -> Result<bool, NoMemory> {
     fan.changed.clear();
-    let (mut worst, mut worst_before) = (1.0f64, 1.0f64);
-    let last = fan.ring.len().saturating_sub(1);
-    for i in 1..last {
-        if i < fan.ring.len() {
-            let h = fan.ring[i];
-            let new = changed(surface, h, u, v);
-            let old = surface.corners(surface.face(h / 3));
-            let normal = normal_of(&old);
-            if is_turned(normal, new.normal) {
-                return Ok(false);
-            }
-            worst = worst.min(quality(&new.spots, new.normal));
-            worst_before = worst_before.min(quality(&old, normal));
-            fan.changed.push(new)?;
+    let mut worst = Worst { new: 1.0, old: 1.0 };
+    for i in 0..fan.staying.len() {
+        let h = fan.staying.get(i).copied().unwrap_or(NONE);
+        if !add_face(surface, fan, h, ends, &mut worst)? {
+            return Ok(false);
         }
     }
-    Ok(worst >= SLIVER || worst >= worst_before)
+    Ok(worst.new >= SLIVER || worst.new >= worst.old)
 }

@@ -71,6 +71,19 @@ impl Surface {
         hull_among(&self.places, face)
     }
 
+    /// Moves a vertex to a place, if there is one, and returns where it was if that is elsewhere.
+    pub(crate) fn move_to(&mut self, v: u32, place: Option<Point>) -> Option<Point> {
+        let place = place?;
+        let was = self.places.get(v as usize).copied()?;
+        if was == place {
+            return None;
+        }
+        if (v as usize) < self.places.len() {
+            self.places[v as usize] = place;
+        }
+        Some(was)
+    }
+
     /// Returns whether a vertex may collapse.
     pub(crate) fn is_free(&self, v: u32) -> bool {
         self.edge_at(v) != NONE

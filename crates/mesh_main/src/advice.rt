@@ -15,7 +15,7 @@ const USES: [(&str, &str); 6] = [
     ),
     (
         "simplify",
-        "MESH OUT within=D [faces=N] [surface=yes] [comments=no]",
+        "MESH OUT within=D [faces=N] [surface=yes] [move=yes] [comments=no]",
     ),
     ("join", "TILES OUT"),
     ("inspect", "MESH"),

@@ -1,5 +1,5 @@
 -- A closed mesh as it is, is simplified: each vertex comes from itself, each face is kept, and each corner is at a corner of a face.
-use Rattle.std.proofs.Common.{ℕ, zero, suc, ◌≡◌, ◌+◌, ◌*◌, ◌<◌, inr, ap, sym, subst, ◌∙◌, arith, Bool, List, [], ◌∷◌, length, get_or, map}
+use Rattle.std.proofs.Common.{ℕ, zero, suc, ◌≡◌, ◌<◌, inr, ap, sym, subst, ◌∙◌, arith, Bool, List, [], ◌∷◌, length, get_or, map}
 use Rattle.std.proofs.Common.{ℤ, pos, ◌+ℤ◌, ◌-ℤ◌, ◌*ℤ◌, ◌≤ℤ◌}
 use Rattle.std.specs.List.{All}
 use Rattle.std.proofs.lemmas.Int.{ints}
@@ -10,7 +10,7 @@ use Rattle.mesh.proofs.Vertices.{get_or-below, length_below}
 use Rattle.mesh_edges.specs.Edges.{face_at, IsBalanced}
 use Rattle.face_near.specs.Near.{IsNearAt, IsNearFace}
 use Rattle.mesh_reach.specs.Reached.{AreReached}
-use Rattle.mesh_simplify.specs.Simplified.{IsVertexMap, IsOldFace}
+use Rattle.mesh_simplify.specs.Simplified.{IsVertexMap, IsAtOldPlace, IsOldFace}
 use Rattle.mesh_simplify.specs.Tested.{IsGood}
 use Rattle.mesh_simplify.proofs.Covered.{covers_itself}
 
@@ -81,8 +81,8 @@ reaches_itself n within points faces each i e l k d m =
     )
 
 -- each vertex comes from itself
-own_vertices : (points : List Point) → IsVertexMap (below (length points)) points points
-own_vertices points =
+own_vertices : (moves : Bool) (points : List Point) → IsVertexMap moves (below (length points)) points points
+own_vertices moves points =
     let n : ℕ = length points in
     record {
       within = λ k d l. omega (arith, l, length_below n, get_or-below n k d (omega (arith, l, length_below n)));
@@ -93,7 +93,8 @@ own_vertices points =
             get_or-below n i d (omega (arith, length_below n)),
             get_or-below n j d (omega (arith, length_below n)),
           );
-      places =
+      count = sym (length_below n);
+      places = λ stay.
           ext_get_or origin points (map (point_at points) (below n)) (sym (length-map (below n) (point_at points) ∙ length_below n))
           (λ i l.
           sym (get_or-map (point_at points) (below n) i 0 origin (omega (arith, length_below n)) ∙ ap (λ (v : ℕ). point_at points v) (get_or-below n i 0 l)));
@@ -111,26 +112,48 @@ own_face n (a ∷ b ∷ c ∷ []) i =
     let r : get_or (below n) c 0 ≡ c = get_or-below n c 0 i.4 in
     cc
 
-own_kept : (n : ℕ) (faces : List (List ℕ)) (i : ℕ) → All (IsFace n) faces → i < length faces → IsOldFace (below n) faces (face_at faces i)
-own_kept n faces i each l = (i, l, get_or_default faces i _ [] l ∙ sym (own_face n (face_at faces i) (each i [] l)))
+-- where it is
+own_places : (points : List Point) (f : List ℕ) → IsFace (length points) f → All (IsAtOldPlace points points (below (length points))) f
+own_places points [] i = absurd i
+own_places points (a ∷ []) i = absurd i
+own_places points (a ∷ b ∷ []) i = absurd i
+own_places points (a ∷ b ∷ c ∷ e ∷ x) i = absurd i
+own_places points (a ∷ b ∷ c ∷ []) i = λ k d l. by k d l
+  where
+    own : (v : ℕ) → v < length points → IsAtOldPlace points points (below (length points)) v
+    own v l = ap (λ (u : ℕ). point_at points u) (sym (get_or-below (length points) v 0 l))
 
-pub unchanged : (asked : Bool) (within : ℕ) (points : List Point) (faces : List (List ℕ)) → IsMesh points faces → IsBalanced faces
-    → IsGood asked within points faces points faces
-unchanged asked within points faces valid closed =
+    by : (k d : ℕ) → k < 3 → IsAtOldPlace points points (below (length points)) (get_or (a ∷ b ∷ c ∷ []) k d)
+    by zero d l = own a (omega (arith, i.0, i.3))
+    by (suc zero) d l = own b i.3
+    by (suc (suc zero)) d l = own c i.4
+    by (suc (suc (suc k))) d l = absurd (omega arith)
+
+own_kept : (points : List Point) (faces : List (List ℕ)) (i : ℕ) → All (IsFace (length points)) faces → i < length faces
+    → IsOldFace points points (below (length points)) faces (face_at faces i)
+own_kept points faces i each l =
+    let n : ℕ = length points in (
+      (i, l, get_or_default faces i _ [] l ∙ sym (own_face n (face_at faces i) (each i [] l))),
+      own_places points (face_at faces i) (each i [] l),
+    )
+
+pub unchanged : (asked moves : Bool) (within : ℕ) (points : List Point) (faces : List (List ℕ)) → IsMesh points faces → IsBalanced faces
+    → IsGood asked moves within points faces points faces
+unchanged asked moves within points faces valid closed =
     record {
       valid = valid;
       simplified =
           record {
             from = below (length points);
-            vertices = own_vertices points;
+            vertices = own_vertices moves points;
             closed = closed;
             single = λ h. h;
             distinct = λ h. h;
             reached = reaches_itself (length points) within points faces valid.each;
             apart = λ i j l m.
                 inr (
-                  own_kept (length points) faces i valid.each (omega arith),
-                  own_kept (length points) faces j valid.each m,
+                  own_kept points faces i valid.each (omega arith),
+                  own_kept points faces j valid.each m,
                 );
           };
       near = λ yes.

@@ -1,6 +1,7 @@
 //! The faces that the search found, with hints for its tests. No clause says anything of it.
 
 use crate::NoMemory;
+use geo_sign::Point;
 use mesh::Mesh;
 use mesh_collapse::{Collapsed, Request, collapse_edges};
 use std::alloc::Global;
@@ -12,6 +13,8 @@ pub(crate) struct Candidate {
     pub(crate) faces: Vec<[u32; 3]>,
     /// The old number of each vertex.
     pub(crate) from: Vec<u32>,
+    /// Where each vertex is.
+    pub(crate) points: Vec<Point>,
     /// For each face the number of an old one, which it may be.
     pub(crate) source: Vec<u32>,
     /// For each old vertex the number of a face that it may be near.
@@ -103,6 +106,17 @@ fn renumbered(
     Ok(list)
 }
 
+/// Returns the places of vertices, by their old numbers.
+fn places_at(alloc: Global, places: &[Point], from: &[u32]) -> Result<Vec<Point>, NoMemory> {
+    let mut list = Vec::with_capacity(alloc, from.len())?;
+    for v in from {
+        if let Some(place) = places.get(*v as usize) {
+            list.push(*place)?;
+        }
+    }
+    Ok(list)
+}
+
 /// Returns what the search finds for a mesh.
 pub(crate) fn find_candidate(
     alloc: Global,
@@ -114,10 +128,12 @@ pub(crate) fn find_candidate(
         faces,
         source,
         homes,
+        places,
     } = collapse_edges(alloc, &mesh.points, &mesh.faces, request, limits)?;
     let Used { from, numbers } = used_vertices(alloc, mesh.points.len(), &faces)?;
     Ok(Candidate {
         faces: renumbered(alloc, &faces, &numbers)?,
+        points: places_at(alloc, &places, &from)?,
         from,
         source,
         homes,

@@ -1,6 +1,6 @@
 //! The tests of a mesh, one after another.
 
-ghost use Rattle.std.specs.Prelude.{◌≡◌, ◌<◌, IfOk, All, AllPairs, length, map};
+ghost use Rattle.std.specs.Prelude.{◌≡◌, ◌<◌, false, IfOk, All, length, map};
 ghost use Rattle.std.specs.Bool.{OnTrue};
 ghost use Rattle.mesh.specs.Meshes.{IsMesh, point_at};
 ghost use Rattle.mesh_simplify.specs.Simplified.{IsSimplified};
@@ -9,8 +9,9 @@ use crate::NoMemory;
 use crate::distinct::are_distinct;
 use crate::double::stays_single;
 use crate::kept::are_apart_or_kept;
-use crate::valid::are_rising;
+use crate::valid::{are_as_many, are_rising};
 use mesh::Mesh;
+use mesh_collapse::Request;
 use mesh_edges::first_unbalanced;
 use mesh_reach::{Reach, first_unreached};
 use std::alloc::Global;
@@ -26,7 +27,7 @@ pub(crate) struct Hints<'a> {
     pub(crate) homes: &'a [u32],
 }
 
-/// Returns whether a mesh among old points is simplified.
+/// Returns whether a mesh whose vertices come from old ones is simplified.
 ///
 /// Each test is exact where it says yes. The time is that of sorting the edges and faces, and of testing pairs of faces whose boxes overlap.
 pub(crate) fn is_simplified(
@@ -34,14 +35,17 @@ pub(crate) fn is_simplified(
     old: &Mesh,
     mesh: &Mesh,
     hints: &Hints,
-    within: u32,
+    request: Request,
 ) -> Result<bool, NoMemory>
     requires old { IsMesh old.now.points.items old.now.faces.items }
     requires valid { IsMesh mesh.now.points.items mesh.now.faces.items }
     requires from { All (λ v. v < length old.now.points.items) hints.now.from.now }
-    requires points { mesh.now.points.items ≡ map (point_at old.now.points.items) hints.now.from.now }
-    ensures { IfOk result (λ yes. OnTrue yes (IsSimplified within old.now.points.items old.now.faces.items mesh.now.points.items mesh.now.faces.items)) }
+    requires points { request.moves ≡ false → mesh.now.points.items ≡ map (point_at old.now.points.items) hints.now.from.now }
+    ensures { IfOk result (λ yes. OnTrue yes (IsSimplified request.moves request.within old.now.points.items old.now.faces.items mesh.now.points.items mesh.now.faces.items)) }
 {
+    if !are_as_many(mesh, hints.from) {
+        return Ok(false);
+    }
     if !are_rising(hints.from) {
         return Ok(false);
     }
@@ -54,10 +58,13 @@ pub(crate) fn is_simplified(
     if !are_distinct(alloc, &mesh.faces)? {
         return Ok(false);
     }
-    let reach = Reach { fine: 1, within };
+    let reach = Reach {
+        fine: 1,
+        within: request.within,
+    };
     if let Some(_) = first_unreached(alloc, old, mesh, hints.homes, reach)? {
         return Ok(false);
     }
-    let kept = are_apart_or_kept(alloc, hints.from, &old.faces, mesh, hints.source)?;
+    let kept = are_apart_or_kept(alloc, old, mesh, hints.from, hints.source)?;
     Ok(kept)
 }

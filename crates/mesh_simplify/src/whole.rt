@@ -12,7 +12,7 @@ use crate::NoMemory;
 use crate::candidate::{Candidate, find_candidate};
 use crate::surface::{first_limits, is_near_if_asked, lower, push_far};
 use crate::tests::{Hints, is_simplified};
-use crate::valid::{is_mesh, points_of};
+use crate::valid::{is_mesh, keep_box, places_of};
 use mesh::Mesh;
 use mesh_collapse::Request;
 use mesh_edges::{UnbalancedEdge, first_unbalanced};
@@ -36,20 +36,21 @@ fn tested(
     alloc: Global,
     old: &Mesh,
     new: Candidate,
-    within: u32,
+    request: Request,
     surface: bool,
     far: &mut Vec<u32>,
 ) -> Result<Option<Mesh>, NoMemory>
     requires { IsMesh old.now.points.items old.now.faces.items }
-    ensures { IfOk result (λ new. IfSome new (λ m. IsGood surface within old.now.points.items old.now.faces.items m.points.items m.faces.items)) }
+    ensures { IfOk result (λ new. IfSome new (λ m. IsGood surface request.moves request.within old.now.points.items old.now.faces.items m.points.items m.faces.items)) }
 {
     let Candidate {
         faces,
         from,
+        points,
         source,
         homes,
     } = new;
-    let Some(points) = points_of(alloc, &old.points, &from)? else {
+    let Some(points) = places_of(alloc, &old.points, &from, points, request.moves)? else {
         return Ok(None);
     };
     let mesh = Mesh { points, faces };
@@ -61,11 +62,11 @@ fn tested(
         source: &source,
         homes: &homes,
     };
-    if !is_simplified(alloc, old, &mesh, &hints, within)? {
+    if !is_simplified(alloc, old, &mesh, &hints, request)? {
         return Ok(None);
     }
-    if !is_near_if_asked(alloc, old, &mesh, &homes, within, surface)? {
-        push_far(alloc, old, &mesh, &hints, within, far)?;
+    if !is_near_if_asked(alloc, old, &mesh, &homes, request.within, surface)? {
+        push_far(alloc, old, &mesh, &hints, request.within, far)?;
         return Ok(None);
     }
     Ok(Some(mesh))
@@ -80,13 +81,13 @@ fn found(
     surface: bool,
 ) -> Result<Option<Mesh>, NoMemory>
     requires { IsMesh mesh.now.points.items mesh.now.faces.items }
-    ensures { IfOk result (λ new. IfSome new (λ m. IsGood surface request.within mesh.now.points.items mesh.now.faces.items m.points.items m.faces.items)) }
+    ensures { IfOk result (λ new. IfSome new (λ m. IsGood surface request.moves request.within mesh.now.points.items mesh.now.faces.items m.points.items m.faces.items)) }
 {
     let mut limits = first_limits(alloc, mesh.points.len(), request.within, surface)?;
     let mut far = Vec::new(alloc);
     for _ in 0..ROUNDS {
         let new = find_candidate(alloc, mesh, request, &limits)?;
-        let new = tested(alloc, mesh, new, request.within, surface, &mut far)?;
+        let new = tested(alloc, mesh, new, request, surface, &mut far)?;
         if let Some(new) = new {
             return Ok(Some(new));
         }
@@ -103,7 +104,7 @@ fn found(
 fn simplified(alloc: Global, mesh: Mesh, request: Request, surface: bool) -> Result<Mesh, NoMemory>
     requires valid { IsMesh mesh.points.items mesh.faces.items }
     requires closed { IsBalanced mesh.faces.items }
-    ensures { IfOk result (λ new. IsGood surface request.within mesh.points.items mesh.faces.items new.points.items new.faces.items) }
+    ensures { IfOk result (λ new. IsGood surface request.moves request.within mesh.points.items mesh.faces.items new.points.items new.faces.items) }
 {
     match found(alloc, &mesh, request, surface)? {
         Some(new) => Ok(new),
@@ -112,8 +113,9 @@ fn simplified(alloc: Global, mesh: Mesh, request: Request, surface: bool) -> Res
 }
 
 /// Returns a closed mesh simplified: with fewer faces, down to a number of faces or as few as the search finds, and each corner of the
-/// given mesh within a distance of them. With `surface` each point of either mesh is within the distance of the other. A mesh for which the
-/// search finds none that passes all tests stays as it is.
+/// given mesh within a distance of them. With `surface` each point of either mesh is within the distance of the other. Vertices are where
+/// they are in the given mesh, unless the request lets them move. A mesh for which the search finds none that passes all tests stays as it
+/// is.
 pub fn simplify_mesh(
     alloc: Global,
     mesh: Mesh,
@@ -121,10 +123,10 @@ pub fn simplify_mesh(
     surface: bool,
 ) -> Result<Mesh, SimplifyError>
     requires { IsMesh mesh.points.items mesh.faces.items }
-    ensures simplified { IfOk result (λ new. IsSimplified request.within mesh.points.items mesh.faces.items new.points.items new.faces.items) }
+    ensures simplified { IfOk result (λ new. IsSimplified request.moves request.within mesh.points.items mesh.faces.items new.points.items new.faces.items) }
     ensures near { IfOk result (λ new. IsNearIfAsked surface request.within mesh.points.items mesh.faces.items new.points.items new.faces.items) }
     ensures valid { IfOk result (λ new. IsMesh new.points.items new.faces.items) }
-    ensures boxed { All (IsWithin BOX_LIMIT) mesh.points.items → IfOk result (λ new. All (IsWithin BOX_LIMIT) new.points.items) }
+    ensures boxed { IfOk result (λ new. All (IsWithin BOX_LIMIT) new.points.items) }
     ensures why { IfErr result (λ error. ExplainsSimplify mesh.faces.items error) }
 {
     match first_unbalanced(alloc, &mesh) {
@@ -133,7 +135,10 @@ pub fn simplify_mesh(
         Err(_) => return Err(SimplifyError::NoMemory),
     }
     match simplified(alloc, mesh, request, surface) {
-        Ok(new) => Ok(new),
+        Ok(new) => {
+            keep_box(&new.points);
+            Ok(new)
+        }
         Err(_) => Err(SimplifyError::NoMemory),
     }
 }

@@ -1,4 +1,4 @@
-//! `simplify MESH OUT within=D [faces=N] [surface=yes] [comments=no]`: its arguments, its answer and its line.
+//! `simplify MESH OUT within=D [faces=N] [surface=yes] [move=yes] [comments=no]`: its arguments, its answer and its line.
 ghost use Rattle.std.specs.Option.{option_map};
 ghost use Rattle.std.specs.Prelude.{◌≡◌, false, length, map, string_bytes, IfOk};
 ghost use Rattle.mesh.specs.Meshes.{Surface};
@@ -89,6 +89,7 @@ fn reply_to_mesh<'a>(
     let search = Request {
         within: request.options.within,
         faces: request.options.faces,
+        moves: request.moves,
     };
     match simplify_mesh(alloc, mesh, search, request.options.surface) {
         Ok(new) => Ok(reply_of_mesh(alloc, &new, digest, request, output)?),

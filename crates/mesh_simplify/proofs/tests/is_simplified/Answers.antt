@@ -1,10 +1,10 @@
 -- All tests said yes. The lists are read through borrowed slices.
-use Rattle.std.proofs.Common.{ℕ, ◌<◌, List, Option, IfNone, length, subst}
+use Rattle.std.proofs.Common.{ℕ, List, Option, IfNone, subst}
 use Rattle.std.proofs.lemmas.Bool.{OnTrue_from, OnTrue_at}
 use Rattle.mesh_edges.specs.Edges.{IsBalanced}
 use Rattle.mesh_edges.specs.declared.balance.UnbalancedEdge.{UnbalancedEdge}
 use Rattle.mesh_reach.specs.Reached.{AreReached}
-use Rattle.mesh_simplify.specs.Simplified.{AreDistinct, AreApartOrKept, IsSimplified}
+use Rattle.mesh_simplify.specs.Simplified.{AreDistinct, IsSimplified}
 use Rattle.mesh_simplify.proofs.Gathered.{single_read}
 use Rattle.mesh_simplify.proofs.tests.is_simplified.Goals as goal
 
@@ -13,7 +13,7 @@ returns c =
     let old = c.args.old.now in
     let mesh = c.args.mesh.now in
     let from = c.args.hints.now.from.now in
-    OnTrue_from c.in_ok-kept.kept (IsSimplified c.args.within old.points.items old.faces.items mesh.points.items mesh.faces.items)
+    OnTrue_from c.in_ok-kept.kept (IsSimplified c.args.request.moves c.args.request.within old.points.items old.faces.items mesh.points.items mesh.faces.items)
     (λ yes.
     record {
       from = from;
@@ -21,6 +21,7 @@ returns c =
           record {
             within = c.requires.from;
             rising = OnTrue_at c.if-not-are_rising.false c.are_rising.ensures;
+            count = OnTrue_at c.if-not-are_as_many.false c.are_as_many.ensures;
             places = c.requires.points;
           };
       closed =
@@ -34,10 +35,7 @@ returns c =
           (OnTrue_at c.if-not-branch-2.false c.in_ok-are_distinct.ensures);
       reached =
           subst
-          (λ (o : Option ℕ). IfNone o (AreReached 1 c.args.within old.points.items old.faces.items mesh.points.items mesh.faces.items))
+          (λ (o : Option ℕ). IfNone o (AreReached 1 c.args.request.within old.points.items old.faces.items mesh.points.items mesh.faces.items))
           c.in_default-2.is c.in_ok-first_unreached.ensures;
-      apart =
-          subst
-          (λ (fs : List (List ℕ)). (i j : ℕ) → i < j → j < length mesh.faces.items → AreApartOrKept mesh.points.items mesh.faces.items from fs i j)
-          c.deref-4.ensures.value (OnTrue_at yes c.in_ok-kept.ensures);
+      apart = OnTrue_at yes c.in_ok-kept.ensures;
     })

@@ -7,7 +7,7 @@ pub returns-in_ok-reply_of_mesh-in-Ok : goal.returns-in_ok-reply_of_mesh-in-Ok
 returns-in_ok-reply_of_mesh-in-Ok c =
     inl (record {
       simplified = surface_of c.in-Ok.new;
-      printed = record { valid = c.in-Ok.ensures.valid; boxed = c.in-Ok.ensures.boxed c.requires.boxed };
+      printed = record { valid = c.in-Ok.ensures.valid; boxed = c.in-Ok.ensures.boxed };
       so = c.in-Ok.ensures.simplified;
       near = c.in-Ok.ensures.near;
       is = c.in_ok-reply_of_mesh-in-Ok.ensures;
