@@ -132,7 +132,7 @@ TILES = ('tiles 2\ncut x 4000\ntile a.ply -2097152 -2097152 -2097152 4000 209715
 USAGE = ''.join(f'usage: recon-mesh {words}\n' for words in (
     'finish MESH OUT [pieces=N] [manifold=yes] [flips=no] [smooth=N within=D] [comments=no]',
     'move MESH TARGETS OUT smooth=N within=D [pieces=N] [manifold=yes] [flips=no] [comments=no]',
-    'simplify MESH OUT within=D [faces=N] [surface=yes] [comments=no]', 'join TILES OUT', 'inspect MESH', 'check MESH OUT'))
+    'simplify MESH OUT within=D [faces=N] [surface=yes] [move=yes] [comments=no]', 'join TILES OUT', 'inspect MESH', 'check MESH OUT'))
 
 
 @unittest.skipUnless(RECON_MESH, 'recon-mesh is not built here')
