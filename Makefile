@@ -90,8 +90,8 @@ bench: recon recon-mesh reference
 # libcgal-demo, colmap, python3-open3d). Then what recon-surface chooses for the clouds that Debian packs (also opencv-doc), beside Open3D.
 bench-others: recon recon-mesh
 	$(PYTHON) dev/bench others ./recon bench_scans
-	$(PYTHON) dev/bench simplified ./recon bench_scans
-	$(PYTHON) dev/bench weights ./recon bench_scans
+	$(PYTHON) dev/bench simplified ./recon bench_scans options=move=yes
+	$(PYTHON) dev/bench weights ./recon bench_scans noise=0.0005
 	$(PYTHON) dev/bench clouds ./recon bench_scans/clouds
 	$(PYTHON) dev/bench clouds_beside bench_scans/clouds
 
