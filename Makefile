@@ -95,10 +95,11 @@ bench-others: recon recon-mesh
 	$(PYTHON) dev/bench clouds ./recon bench_scans/clouds
 	$(PYTHON) dev/bench clouds_beside bench_scans/clouds
 
-# Times build alone on the three worst shapes and on a cube, a room and a torus of a million points, three runs each (ten minutes; BESIDE as
-# above), and prints the table of docs/explain/performance.md that has these.
-bench-short: recon reference
-	$(PYTHON) dev/bench build ./recon bench_scans scans=short check=no $(if $(BESIDE),beside=$(BESIDE))
+# Times build and check on the three worst shapes and on a cube, a room, a torus and a statue of a million points, beside the reference (BESIDE as
+# above), then recon-surface on the torus (a quarter of an hour; RUNS of each, else one), and prints the rows of docs/explain/performance.md.
+bench-short: recon recon-mesh reference
+	$(PYTHON) dev/bench build ./recon bench_scans scans=short runs=$(or $(RUNS),1) $(if $(BESIDE),beside=$(BESIDE))
+	$(PYTHON) dev/bench one_command ./recon ./recon-mesh bench_scans/torus.1000000.ply steps=0
 
 # Installs the two programs, their manual pages and the programs of tools/ under PREFIX (a second, where they are built; else they
 # are built first). recon-scan and the others run the package in share/recon by any Python 3.8 or later that has numpy and scipy.

@@ -5,12 +5,12 @@
 
   RECON              the built program
   FOLDER             where the pictures are written
-  PICTURE            inside, sight, room, smooth, unit, scanner, slice, finish, kitten, figurine, seen, nearest; all of them where
+  PICTURE            inside, sight, room, smooth, unit, scanner, slice, finish, kitten, figurine, seen, real, nearest; all of them where
                      none is named
 
 Scans are made by recon-make-scan, and drawn by render.py: points on white, surfaces with their outer side warm and their
-inner side blue. `finish` and `kitten` are of objects that Debian's package libcgal-demo has, `nearest` of the meshes that `make bench-others` has
-left in bench_scans. Some minutes.
+inner side blue. `finish` and `kitten` are of objects that Debian's package libcgal-demo has, `real` needs its packages
+opencv-doc and python3-opencv too, `nearest` is of the meshes that `make bench-others` has left in bench_scans. Some minutes.
 """
 from __future__ import annotations
 
@@ -35,13 +35,15 @@ from PIL import Image  # noqa: E402
 
 import render  # noqa: E402
 from tools_path import PACKAGE  # noqa: E402
-from bench import objects, sites, surfaces, unseen  # noqa: E402
+from bench import objects, real as real_scans, sites, surfaces, unseen  # noqa: E402
 
 DEV = os.path.dirname(os.path.abspath(__file__))
 CGAL = '/usr/share/doc/libcgal-dev/data.tar.gz'
 POINTS = '100000'
 # sites are scanned more coarsely than for docs/explain/accuracy.md
 SITE_SCALE = 0.6
+# pixels of a picture of a real scan, before it is halved
+REAL = 640
 TORUS, STATUE, ROOM = (0.3, 1, -0.7), (0.2, 1, -0.15), (0.4, 1, -0.8)
 WARM, INK, SIGHT = '#f2cfa2', '#333333', '#c0392b'
 
@@ -316,9 +318,9 @@ def nearest(folder: str, recon: str, work: str) -> None:
     save(np.concatenate(parts, axis=1), folder, 'nearest')
 
 
-def upright(view: render.View) -> render.View:
-    """Returns the view with y up."""
-    view.right = np.cross(view.toward, [0.0, 1.0, 0.0])
+def upright(view: render.View, y: float = 1.0) -> render.View:
+    """Returns the view with y up, or down if `y` is -1."""
+    view.right = np.cross(view.toward, [0.0, y, 0.0])
     view.right /= np.linalg.norm(view.right)
     view.up = np.cross(view.right, view.toward)
     view.light = -view.toward * 0.7 + view.up * 0.5 - view.right * 0.5
@@ -369,8 +371,22 @@ def seen(folder: str, recon: str, work: str) -> None:
         side_by_side(images, [name + '-closed.glb', name + '.glb'], folder, 'seen_' + name)
 
 
-def colored_mesh(path: str) -> tuple[np.ndarray, np.ndarray, np.ndarray]:
-    """Places, faces and colors of a mesh of recon-surface."""
+def real(folder: str, recon: str, work: str) -> None:
+    """The closed mesh and the open one of two real scans."""
+    os.environ['RECON'] = recon
+    images, titles = [], []
+    for name, made, view in (('hippo', real_scans.hippo, upright(render.View((0.35, -0.15, -1), (0, 0, 0), 0.5, REAL))),
+                             ('aloe', real_scans.aloe, upright(render.View((-0.3, 0.2, 1), (0, -0.1, 2), 1.2, REAL), -1))):
+        tool('surface', *made(work), '-o', os.path.join(work, name + '.ply'), '--no-check', '-q')
+        for part in (name + '-closed', name):
+            places, faces, colors = colored_mesh(os.path.join(work, part + '.ply'))
+            images.append(half(render.mesh_image(view, places, faces, is_flat=True, colors=colors)))
+            titles.append(part + '.glb')
+    side_by_side(images, titles, folder, 'seen_real')
+
+
+def colored_mesh(path: str) -> tuple[np.ndarray, np.ndarray, np.ndarray | None]:
+    """Places, faces and colors, if it has some, of a mesh of recon-surface."""
     with open(path, 'rb') as file:
         head, body = file.read().split(b'end_header\n', 1)
     kinds = {'double': '<f8', 'float': '<f4', 'uchar': 'u1'}
@@ -384,11 +400,13 @@ def colored_mesh(path: str) -> tuple[np.ndarray, np.ndarray, np.ndarray]:
     rows = np.frombuffer(body, columns, counts[0])
     face = [('count', 'u1'), ('corners', '<i4', 3)] + ([('unseen', 'u1')] if b'unseen' in head else [])
     faces = np.frombuffer(body, face, counts[1], rows.nbytes)['corners']
-    return np.stack([rows[axis] for axis in 'xyz'], axis=1), faces, np.stack([rows[hue] for hue in ('red', 'green', 'blue')], axis=1)
+    colors = np.stack([rows[hue] for hue in ('red', 'green', 'blue')], axis=1) if b'uchar red' in head else None
+    return np.stack([rows[axis] for axis in 'xyz'], axis=1), faces, colors
 
 
 PICTURES = {'inside': inside, 'sight': sight, 'room': room, 'smooth': smooth, 'unit': unit,
-            'scanner': scanner, 'slice': sliced, 'finish': finish, 'kitten': kitten, 'figurine': figurine, 'seen': seen, 'nearest': nearest}
+            'scanner': scanner, 'slice': sliced, 'finish': finish, 'kitten': kitten, 'figurine': figurine, 'seen': seen, 'real': real,
+            'nearest': nearest}
 
 
 def main() -> None:

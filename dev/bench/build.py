@@ -10,12 +10,12 @@ usage: dev/bench build RECON FOLDER [beside=PROGRAM] [sizes=N,N,..] [shapes=NAME
   shapes=NAME,..     shapes of recon-make-scan; without it cube,torus,room,statue. Where neither sizes nor shapes are given, the
                      worst shapes follow, each at a size of its own
   scans=NAME.N,..    these scans, each a shape with its own size, in the place of sizes and shapes; scans=short stands for the worst
-                     shapes, and a cube, a room and a torus of 1000000
+                     shapes, and a cube, a room, a torus and a statue of 1000000
   check=no           times `build` alone
   runs=N             runs of each, run by run with the unverified reference (default: 3)
 
-Seconds are the least and the greatest of the runs, and the ratio is that of the least ones. They rise where other work shares memory and
-caches, so compare programs of one row alone.
+Seconds are the least and the greatest of the runs, and ratios (`to build`: of check to build) are those of the least ones. They rise where other
+work shares memory and caches, so compare programs of one row alone.
 """
 from __future__ import annotations
 
@@ -67,7 +67,10 @@ def row_of(programs: list[str], folder: str, shape: str, size: int, count: int, 
     if len(programs) == 2:
         compared([built[program][0].line for program in programs], [texts(program, folder, name)[0] for program in programs])
         cells.append(f'{least(built[programs[0]]) / least(built[programs[1]]):.2f}')
-    return cells + (cells_of([measured(programs[0], 'check', scan, *texts(programs[0], folder, name)) for _ in range(count)]) if check else [])
+    if check:
+        checked = [measured(programs[0], 'check', scan, *texts(programs[0], folder, name)) for _ in range(count)]
+        cells += [*cells_of(checked), f'{least(checked) / least(built[programs[0]]):.2f}']
+    return cells
 
 
 def work(names: Sequence[str], options: Any) -> str:
@@ -77,7 +80,8 @@ def work(names: Sequence[str], options: Any) -> str:
     programs = [os.path.abspath(program) for program in (recon, options.beside) if program]
     resource.setrlimit(resource.RLIMIT_CORE, (0, 0))
     check = options.check != 'no'
-    printed_head('scan', 'build s', 'peak MB', *(['reference s', 'peak MB', 'ratio'] if len(programs) == 2 else []), *(['check s', 'peak MB'] if check else []))
+    beside, checks = ['reference s', 'peak MB', 'ratio'], ['check s', 'peak MB', 'to build']
+    printed_head('scan', 'build s', 'peak MB', *(beside if len(programs) == 2 else []), *(checks if check else []))
     scans = named(options.scans) if options.scans else [(shape, size) for size in sizes for shape in shapes]
     scans += WORST if not options.scans and not options.sizes and not options.shapes else ()
     for shape, size in scans:

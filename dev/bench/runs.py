@@ -13,8 +13,8 @@ from recon.toolbox.ply_text import Refusal
 SEED = '7'
 # Shapes whose lines of sight cross as many cells as possible, each with a number of rows that takes about as long as the others.
 WORST = (('tube', 20000), ('crowd', 1000000), ('paraboloid', 30000))
-# The worst, and three of the others as large as possible.
-SHORT = WORST + (('cube', 1000000), ('room', 1000000), ('torus', 1000000))
+# The worst, and the others as large as possible.
+SHORT = WORST + (('cube', 1000000), ('room', 1000000), ('torus', 1000000), ('statue', 1000000))
 # Makes a mesh by Open3D. Arguments: kind, points, `-` or the positions that saw them, output, spacing (0: computed), radii in spacings, the part
 # of low density to cut. With `-` the points are a NumPy file that has normals too, else a text whose normals are computed.
 OPEN3D = '''

@@ -3,15 +3,16 @@
 usage: dev/docs believed CRATE FILE CALL        (a call, as recon_cmd src/whole_run.rt run)
        dev/docs believed CRATE MODULE NAME..    (definitions of a file, as recon_cmd CheckLaws CheckEnds)
 
-guarantees.md has the totals of four contracts: what a yes of `recon check` for the text of a scan says about the mesh, what it says for any
-file, what each answer says about all three files, and the whole contract of the top call. The program prints the lines by file too. A contract depends on the definitions of specs/ that its clauses name,
-these on those that they name, and so on. Comments, imports and blank lines are not counted. Definitions of the toolchain are left
-out, and so are types that the code declares.
+guarantees.md has the totals of five contracts: what a yes of `recon check` for the text of a scan says about the mesh, when it says yes for
+such a text, what a yes says for any file, what each answer says about all three files, and the whole contract of the top call. The program
+prints the lines by file too. A contract depends on the definitions of specs/ that its clauses name, these on those that they name, and so on.
+Comments, imports and blank lines are not counted. Definitions of the toolchain are left out, and so are types that the code declares.
 
-docs/verification/audit.md, the page for auditors, has the first of these sets: the comment over each definition as a sentence, and the definition
-under it. Text, headings and order are written in the page itself, and a new definition, or a type or constant of the code that one uses, as a
-line that begins with crate and file; what stands in its place is printed. The page is invalid if a definition is missing or superfluous, has
-no comment or comes before one that it uses, or if one uses a name of the toolchain that the text does not explain in backticks.
+docs/verification/audit.md, the page for auditors, has the first two of these sets: the comment over each definition as a sentence, and the
+definition under it. The first part has the first set, the second part the rest of the second one. Text, headings and order are written in the
+page itself, and a new definition, or a type or constant of the code that one uses, as a line that begins with crate and file; what stands in its
+place is printed. The page is invalid if a definition is missing in its part or superfluous, has no comment or comes before one that it uses, or
+if one uses a name of the toolchain that the text before it does not explain in backticks.
 """
 from __future__ import annotations
 
@@ -27,6 +28,7 @@ PRINTED = '<!-- The definitions are printed by dev/docs from specs/. For a new o
 ENTRY = re.compile(r'(?ms)^\*\*`([^`]+)`\*\* \(`(\w+)`, `([\w/.]+)`\)\..*?^```text\n.*?^```\n')
 BY_DEFAULT = [
     ('recon_laws', 'Laws', 'IsPrintedFrom', 'IsBestMesh'),
+    ('recon_laws', 'ExactChecks', 'IsPrintedFrom', 'AreBest', 'AreWithinLimit'),
     ('recon_cmd', 'CheckLaws', 'IsBestOf'),
     ('recon_cmd', 'CheckLaws', 'CheckEnds'),
     ('recon_cmd', 'src/whole_run.rt', 'run'),
@@ -35,7 +37,8 @@ IMPORT = re.compile(r'(?ms)^[ ]*(?:pub |ghost )*use Rattle\.(\w+)\.specs\.(\w+)(
 HEAD = re.compile(r'(?:(?:abbrev|unfoldable|pub|record|data) )+(\S+)')
 NAME = re.compile(r'[^\s(){}\[\],;.]+')
 DECLARED = re.compile(r'(?ms)^(?:pub |ghost )*use Rattle\.(\w+)\.specs\.declared\.([\w.]+?)\.\{(.*?)\}')
-TOOLCHAIN = re.compile(r'(?ms)^(?:pub |ghost )*use Rattle\.std\.specs\.[\w.]+?\.\{(.*?)\}')
+LIBRARY = re.compile(r'(?ms)^(?:pub |ghost )*use Rattle\.(\w+)\.specs\.[\w.]+?\.\{(.*?)\}')
+COUNTS = ('{count} definitions, {lines} lines', '{count} more definitions, {lines} lines')
 AUDIT_ROW = re.compile(r'- `(\w+)/([\w/.]+)`: (`[^`]+`(?:, `[^`]+`)*)')
 Place = tuple[str, str, str]
 
@@ -65,6 +68,12 @@ def scope_of(text: str) -> tuple[dict[str, tuple[str, str, str]], dict[str, tupl
     return names, modules
 
 
+def toolchain_in(text: str) -> set[str]:
+    """Returns the names that a text imports from libraries of the toolchain."""
+    listed = ','.join(names for crate, names in LIBRARY.findall(text) if not (CRATES / crate).is_dir())
+    return {item.strip().strip('◌') for item in listed.split(',') if item.strip()}
+
+
 class File:
     """A file of specs/: its definitions, each as its lines, as it is shown with its inner comments, and the comment over it, and its scope."""
 
@@ -72,7 +81,7 @@ class File:
         text = (CRATES / crate / 'specs' / f'{module}.antt').read_text()
         self.names, self.modules = scope_of(text)
         self.declared = declared_in(text)
-        self.toolchain = {item.strip().strip('◌') for listed in TOOLCHAIN.findall(text) for item in listed.split(',') if item.strip()}
+        self.toolchain = toolchain_in(text)
         self.definitions: dict[str, list[str]] = {}
         self.shown: dict[str, list[str]] = {}
         self.said: dict[str, str] = {}
@@ -156,7 +165,7 @@ class Audited:
     def __init__(self, places: list[Place]) -> None:
         self.shown: dict[Place, tuple[str, list[str]]] = {}
         self.uses: dict[Place, set[Place]] = {}
-        self.toolchain: set[str] = set()
+        self.toolchain: dict[Place, set[str]] = {}
         reached = reached_from(places)
         self.lines = sum(map(len, reached.values()))
         self.count = len(reached)
@@ -165,7 +174,7 @@ class Audited:
             code = dict(code_of(*file.declared[name]) for name in set(NAME.findall(text)) & set(file.declared))
             self.shown |= {place: (file.said[place[2]], file.shown[place[2]]), **code}
             self.uses[place] = {home_of(it) for it in named_in(text, file.names, file.modules)} - {place} | set(code)
-            self.toolchain |= set(NAME.findall(text)) & file.toolchain
+            self.toolchain[place] = set(NAME.findall(text)) & file.toolchain
 
 
 def anchor(heading: str) -> str:
@@ -173,42 +182,79 @@ def anchor(heading: str) -> str:
     return '#' + re.sub(r'[^\w -]', '', heading.lower()).replace(' ', '-')
 
 
-def entry(place: Place, sentence: str, shown: list[str]) -> list[str]:
+def sentence_of(comment: str) -> str:
+    """Returns a comment with a capital and a full stop."""
+    return comment and f'{comment[0].upper()}{comment[1:].removesuffix(".")}.'
+
+
+def entry(place: Place, comment: str, shown: list[str]) -> list[str]:
     """Returns the lines of the page about one definition."""
     crate, file, name = place
-    return [f'**`{name}`** (`{crate}`, `{file}`). {sentence}', '', '```text', *shown, '```', '']
+    return [f'**`{name}`** (`{crate}`, `{file}`). {sentence_of(comment)}', '', '```text', *shown, '```', '']
 
 
 def source_of(page: str) -> str:
     """Returns the page for auditors as a source: definitions by their names, contents and counts by marks."""
     text = ENTRY.sub(lambda found: f'- `{found[2]}/{found[3]}`: `{found[1]}`\n', page.removeprefix(PRINTED + '\n'))
     text = re.sub(r'(?m)(?:^- \[[^\n]*\]\(#[^\n]*\n)+', '{contents}\n', text, count=1)
-    return re.sub(r'\d+ definitions, \d+ lines', '{count} definitions, {lines} lines', text, count=1)
+    for mark in COUNTS:
+        text = re.sub(re.sub(r'\\{\w+\\}', r'\\d+', re.escape(mark)), mark, text, count=1)
+    return text
 
 
-def audit_page(source: str, audited: Audited) -> tuple[str, list[str]]:
-    """Returns the page for auditors, and what is wrong with its source."""
-    before: set[Place] = set()
-    lines, faults = [PRINTED], []
+class Page:
+    """The page for auditors as it is printed: its lines, the definitions so far, the names that the text explains, and what is wrong."""
+
+    def __init__(self) -> None:
+        self.lines = [PRINTED]
+        self.before: set[Place] = set()
+        self.explained: set[str] = set()
+        self.faults: list[str] = []
+
+    def row(self, place: Place, audited: Audited) -> None:
+        """Adds a definition."""
+        if place not in audited.shown or place in self.before:
+            self.faults.append(f'{" ".join(place)} has a row {"twice" if place in self.before else "and is not used"}')
+            return
+        early = sorted(audited.uses.get(place, set()) - self.before)
+        self.faults += [f'{" ".join(place)} comes before {" ".join(it)}, which it uses' for it in early]
+        self.faults += [] if audited.shown[place][0] else [f'{" ".join(place)} has no comment']
+        unknown = sorted(audited.toolchain.get(place, set()) - self.explained)
+        self.faults += [f'the text before {" ".join(place)} does not explain `{name}`' for name in unknown]
+        self.before.add(place)
+        self.lines += entry(place, *audited.shown[place])
+
+    def text(self, line: str) -> None:
+        """Adds a line of the text."""
+        self.explained |= {name for marked in re.findall(r'`([^`\n]+)`', line) for name in NAME.findall(marked)}
+        self.lines.append(line)
+
+    def end(self, places: set[Place]) -> None:
+        """Ends the part that has these places."""
+        self.faults += [f'{" ".join(place)} has no row' for place in sorted(places - self.before)]
+
+    def printed(self) -> str:
+        """Returns the text of the page with its contents."""
+        contents = '\n'.join(f'- [{it[3:]}]({anchor(it[3:])})' for it in self.lines if it.startswith('## '))
+        return re.sub(r'\n{3,}', '\n\n', '\n'.join(self.lines)).strip('\n').replace('{contents}', contents) + '\n'
+
+
+def audit_page(source: str, first: Audited, second: Audited) -> tuple[str, list[str]]:
+    """Returns the page for auditors, and what is wrong with its source. The second part begins with its counts."""
+    page, audited, left = Page(), first, set(first.shown)
     for line in source.splitlines():
-        row = AUDIT_ROW.fullmatch(line)
-        lines += [] if row else [line]
-        for name in re.findall('`([^`]+)`', row[3]) if row else []:
-            place = (row[1], row[2], name)
-            if place not in audited.shown or place in before:
-                faults.append(f'{" ".join(place)} has a row {"twice" if place in before else "and is not used"}')
-                continue
-            faults += [f'{" ".join(place)} comes before {" ".join(it)}, which it uses' for it in sorted(audited.uses.get(place, set()) - before)]
-            faults += [] if audited.shown[place][0] else [f'{" ".join(place)} has no comment']
-            before.add(place)
-            lines += entry(place, *audited.shown[place])
-    faults += [f'{" ".join(place)} has no row' for place in sorted(set(audited.shown) - before)]
-    explained = {name for marked in re.findall(r'`([^`\n]+)`', '\n'.join(lines[:lines.index('```text')])) for name in NAME.findall(marked)}
-    faults += [f'the text does not explain `{name}`' for name in sorted(audited.toolchain - explained)]
-    headings = [line[3:] for line in lines if line.startswith('## ')]
-    contents = '\n'.join(f'- [{it}]({anchor(it)})' for it in headings)
-    text = re.sub(r'\n{3,}', '\n\n', '\n'.join(lines)).strip('\n') + '\n'
-    return text.replace('{contents}', contents).replace('{count}', str(audited.count)).replace('{lines}', str(audited.lines)), faults
+        if row := AUDIT_ROW.fullmatch(line):
+            for name in re.findall('`([^`]+)`', row[3]):
+                page.row((row[1], row[2], name), audited)
+            continue
+        if COUNTS[1] in line:
+            page.end(left)
+            audited, left = second, set(second.shown) - set(first.shown)
+        page.text(line.replace(COUNTS[0], f'{first.count} definitions, {first.lines} lines').replace(
+            COUNTS[1], f'{second.count - first.count} more definitions, {second.lines - first.lines} lines'))
+    page.end(left)
+    page.faults += [] if audited is second else [f'no line has `{COUNTS[1]}`']
+    return page.printed(), page.faults
 
 
 def told(crate: str, place: str, *names: str) -> str:
@@ -236,12 +282,18 @@ def with_counts(page: str) -> str:
     return page
 
 
+def audited_of(call: tuple[str, ...]) -> Audited:
+    """Returns the definitions that some of one file rest on."""
+    crate, module, *names = call
+    return Audited([(crate, module, name) for name in names])
+
+
 def checked() -> Report:
     """Prints the page for auditors and the counts of guarantees.md, and finds what is wrong with the source of the first."""
-    crate, module, *names = BY_DEFAULT[0]
-    audited = Audited([(crate, module, name) for name in names])
-    page, faults = audit_page(source_of(AUDIT.read_text()), audited)
-    return Report(faults, f'{audited.count} definitions for auditors, {audited.lines} lines', {AUDIT: page, PROMISES: with_counts(PROMISES.read_text())})
+    first, second = audited_of(BY_DEFAULT[0]), audited_of(BY_DEFAULT[1])
+    page, faults = audit_page(source_of(AUDIT.read_text()), first, second)
+    said = f'{first.count} definitions for auditors, {first.lines} lines; with the second part {second.count}, {second.lines} lines'
+    return Report(faults, said, {AUDIT: page, PROMISES: with_counts(PROMISES.read_text())})
 
 
 def main(words: list[str]) -> int:

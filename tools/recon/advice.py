@@ -95,9 +95,11 @@ def mistake(cloud: Cloud, parts: np.ndarray, args: Any, folder: Path) -> Optiona
     return 'the lines of sight fit if the normals point the other way, out of the object' if other < 0.1 and other < now / 3 else None
 
 
-def because(why: Optional[str], cloud: Cloud) -> str:
-    """The mistake at the end of a message, if one is known: 0,0,0 is often stated where a position is unknown."""
-    if why is None and not cloud.is_made_up and not cloud.scanners.any(axis=1).all():
+def because(why: Optional[str], cloud: Cloud, parts: np.ndarray) -> str:
+    """The mistake at the end of a message, if one is known: 0,0,0 is often stated where a position is unknown, but the first of several scans may stand
+    there. `parts` are those of the lines of each scanner that are blocked."""
+    wrong = cloud.scanners[parts > 0] if parts.any() else cloud.scanners
+    if why is None and not cloud.is_made_up and not wrong.any(axis=1).all():
         why = 'one is 0,0,0, which programs write if it is unknown'
     return '' if why is None else ': ' + why
 
@@ -110,7 +112,7 @@ def looked_at(surface: Surface, cloud: Cloud, texture: Spacing, args: Any, folde
     if cloud.is_made_up:
         if against > LOOK:
             choices.warn(f'{against:.2f} contradictions for each line of sight, more than {LOOK}: check the normals'
-                         + because(mistake(cloud, parts, args, folder), cloud))
+                         + because(mistake(cloud, parts, args, folder), cloud, parts))
         return Verdict(0.0, against > LOOK, against > WRONG)
     has_named = bool(parts.any()) or blocked > NAMED and len(parts) > ONE_BY_ONE
     if not (has_named or against > WRONG):
@@ -119,7 +121,7 @@ def looked_at(surface: Surface, cloud: Cloud, texture: Spacing, args: Any, folde
     verdict = verdict_of(against, blocked, has_named, why is not None)
     found = [f'{blocked:.0%} of the lines of sight cross the surface well before their points'] if has_named else []
     found += [f'there are {against:.2f} contradictions for each line of sight'] if against > LOOK else []
-    choices.warn(' and '.join(found) + (f': {to_check(parts, cloud)}{because(why, cloud)}' if verdict.is_suspect else
+    choices.warn(' and '.join(found) + (f': {to_check(parts, cloud)}{because(why, cloud, parts)}' if verdict.is_suspect else
                  '; no mistake of the positions was found that explains them, so noise or outliers may'))
     return verdict
 
@@ -136,7 +138,7 @@ def why_empty(cloud: Cloud, texture: Spacing, args: Any, folder: Path) -> str:
     if shape:
         return f'{shape}, so there is no surface'
     _, parts = blocked_of(cloud, texture)
-    why = because(mistake(cloud, parts, args, folder), cloud)
+    why = because(mistake(cloud, parts, args, folder), cloud, parts)
     if why:
         return f'there is no surface: {"check the normals" if cloud.is_made_up else to_check(parts, cloud)}{why}'
     if args.smooth is not None and args.smooth > 3:

@@ -27,6 +27,8 @@ NAMED, OF_ALL, OF_ONE, AGAIN, FEWEST, ONE_BY_ONE = 0.05, 1600, 40, 1000, 20, 100
 GRAZING = 0.35
 FAR, MUCH = 200.0, 100.0
 FEW, TRIED = 2500, 6
+# of up to this many positions, also a wrong sign of one alone is looked for
+ALONE = 8
 AXES = 'xyz'
 
 
@@ -170,43 +172,65 @@ def turned(order: Tuple[int, ...], signs: Tuple[int, ...]) -> Callable[[np.ndarr
     return lambda scanners: scanners[:, list(order)] * np.array(signs)
 
 
+ALL_SIGNS = sorted(itertools.product((1, -1), repeat=3), key=lambda signs: signs.count(-1))
+
+
+def changes_of_signs(of: str = '', are: str = 'they are') -> Iterator[Change]:
+    """Yields wrong signs, the fewest first; `of` and `are` are what the text calls the positions that have them."""
+    for signs in ALL_SIGNS[1:]:
+        wrong = [axis for axis, sign in zip(AXES, signs) if sign < 0]
+        yield Change(f'{" and ".join(wrong)}{of} {"has" if len(wrong) == 1 else "have"} the wrong sign, so {are} on the wrong side', turned((0, 1, 2), signs))
+
+
 def changes() -> Iterator[Change]:
     """Yields the mistakes that are looked for, the simplest first."""
-    all_signs = sorted(itertools.product((1, -1), repeat=3), key=lambda signs: signs.count(-1))
     for factor, what in ((1 / 0.3048, 'they are in meters and the points in feet'), (0.3048, 'they are in feet and the points in meters'),
                          (1000.0, 'they are in meters and the points in millimeters'), (0.001, 'they are in millimeters and the points in meters')):
         yield Change(what, scaled(factor))
-    for signs in all_signs[1:]:
-        wrong = [axis for axis, sign in zip(AXES, signs) if sign < 0]
-        yield Change(f'{" and ".join(wrong)} {"has" if len(wrong) == 1 else "have"} the wrong sign, so they are on the wrong side', turned((0, 1, 2), signs))
-    for signs in all_signs:
+    yield from changes_of_signs()
+    for signs in ALL_SIGNS:
         for order in itertools.permutations(range(3)):
             if order != (0, 1, 2):
                 with_signs = ', '.join(('-' if sign < 0 else '') + AXES[k] for k, sign in zip(order, signs))
                 yield Change(f'their axes are in another order: their {with_signs} are x, y, z of the points', turned(order, signs))
 
 
+class Trial(NamedTuple):
+    """A mistake of some positions."""
+    change: Change
+    is_wrong: np.ndarray
+
+
+def trials_of(is_wrong: np.ndarray) -> Iterator[List[Trial]]:
+    """Yields lists of mistakes to try: those of all these positions; then, if they are all there are, and few, a wrong sign of one alone."""
+    yield [Trial(change, is_wrong) for change in changes()]
+    if is_wrong.all() and 1 < len(is_wrong) <= ALONE:
+        yield [Trial(change, one) for change in changes_of_signs(' of one', 'it is') for one in np.eye(len(is_wrong), dtype=bool)]
+
+
 def likeliest(points: np.ndarray, scanners: np.ndarray, first: np.ndarray, is_wrong: np.ndarray,
               quality: Callable[[np.ndarray, np.ndarray, np.ndarray], float]) -> Optional[str]:
-    """Says which mistake explains the positions `is_wrong` (k,): the simplest with which the lines of sight of a sample fit. `quality` returns the
-    contradictions for each line of sight of a mesh of some points, scanners and first scanners, or 1 if there is none. None if nothing fits."""
+    """Says which mistake explains the positions `is_wrong` (k,): the simplest with which the lines of sight of a sample fit. If all of a few positions may be
+    wrong, one alone may be too. `quality` returns the contradictions for each line of sight of a mesh of some points, scanners and first scanners, or 1 if
+    there is none. None if nothing fits."""
     rows = np.sort(np.random.default_rng(2).permutation(np.flatnonzero(first >= 0))[:FEW])
     if len(rows) < NEAR:
         return None
     some, seen = points[rows], first[rows]
     texture, tree = spacing(some), tree_of(some)
-    open_ones: List[Tuple[float, int, Change]] = []
-    for number, change in enumerate(changes()):
-        blocked = blocked_part(some, without(change, scanners, is_wrong), seen, texture, tree, SIGHTS // 8)
-        if blocked <= LOOK_BLOCKED:
-            open_ones.append((round(blocked, 2), number, change))
     now = quality(some, scanners, seen)
-    for _, _, change in sorted(open_ones, key=lambda it: it[:2])[:TRIED]:
-        right = without(change, scanners, is_wrong)
-        against = quality(some, right, seen)
-        if against < LOOK and against < now / 3:
-            row = int(np.argmax(is_wrong))
-            return f'the lines of sight fit if {change.what} (for example {words_of(right[row])} instead of {words_of(scanners[row])})'
+    for trials in trials_of(is_wrong):
+        open_ones: List[Tuple[float, int, Trial]] = []
+        for number, trial in enumerate(trials):
+            blocked = blocked_part(some, without(trial.change, scanners, trial.is_wrong), seen, texture, tree, SIGHTS // 8)
+            if blocked <= LOOK_BLOCKED:
+                open_ones.append((round(blocked, 2), number, trial))
+        for _, _, trial in sorted(open_ones, key=lambda it: it[:2])[:TRIED]:
+            right = without(trial.change, scanners, trial.is_wrong)
+            against = quality(some, right, seen)
+            if against < LOOK and against < now / 3:
+                row = int(np.argmax(trial.is_wrong))
+                return f'the lines of sight fit if {trial.change.what} (for example {words_of(right[row])} instead of {words_of(scanners[row])})'
     return None
 
 

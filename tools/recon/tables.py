@@ -46,7 +46,7 @@ class Table(NamedTuple):
 
     def colors(self) -> np.ndarray | None:
         """Red, green and blue as bytes; of 16 bits the upper eight, of parts of 1 their 255-fold. Where there are none, intensity as gray."""
-        if not all(name in self.columns for name in COLORS):
+        if not have_colors(self.columns):
             return gray_of(self.columns[INTENSITY]) if INTENSITY in self.columns else None
         columns = [self.columns[name] for name in COLORS]
         if all(column.dtype == np.uint8 for column in columns):
@@ -55,6 +55,11 @@ class Table(NamedTuple):
         most = float(values.max(initial=0))
         factor = 1 / 257 if most > 255 else 255.0 if 0 < most <= 1 and bool((values % 1 != 0).any()) else 1.0
         return np.clip(np.floor(values * factor + 1e-9), 0, 255).astype(np.uint8)
+
+
+def have_colors(columns: Dict[str, np.ndarray]) -> bool:
+    """Returns whether columns have colors. Where all are black, a program wrote a format with colors of points without any."""
+    return all(name in columns for name in COLORS) and any(bool(columns[name].any()) for name in COLORS)
 
 
 def gray_of(intensity: np.ndarray) -> np.ndarray | None:
@@ -103,12 +108,9 @@ class Gathering:
 
     @staticmethod
     def wanted_of(source: Source) -> Dict[str, int]:
-        """The places of the columns that are kept, other than those of points and scanners. Intensity is kept where there are no colors."""
+        """The places of the columns that are kept, other than those of points and scanners."""
         names = [p.name.lower() for p in source.columns]
-        wanted = {name: names.index(name) for name in WANTED if name in names and source.columns[names.index(name)].count_kind is None}
-        if all(name in wanted for name in COLORS):
-            wanted.pop(INTENSITY, None)
-        return wanted
+        return {name: names.index(name) for name in WANTED if name in names and source.columns[names.index(name)].count_kind is None}
 
     def run_blocks(self) -> None:
         """Takes the points in blocks. Raises `NotPlain`, also after some, where only row by row is read."""
@@ -164,8 +166,10 @@ class Gathering:
         self.rows = []
 
     def table(self) -> Table:
-        """The whole scan."""
+        """The whole scan, without intensity if it has colors."""
         columns = {name: np.concatenate(parts) if parts else np.zeros(0) for name, parts in self.parts.items()}
+        if have_colors(columns):
+            columns.pop(INTENSITY, None)
         source = self.source
         scanners = np.array([list(map(float, position)) for position in source.positions], float).reshape(-1, 3) if source.has_scanners else None
         numbers = np.concatenate([*self.numbers, np.zeros(0, np.int32)]).astype(np.int64)

@@ -40,6 +40,7 @@ use Rattle.low.specs.Numbers.{
 }
 use Rattle.low.specs.declared.limits.TheConstants.{MOST}
 use Rattle.low.specs.declared.limits.Kind.TheVariants.{Small as little}
+use Rattle.far.specs.Integers.{ℤ}
 
 -- of a section
 use Rattle.std.specs.List.{sum_by}
@@ -49,6 +50,10 @@ use Rattle.std.specs.List.{sum_by}
 pub record IsFew (n : ℕ) : Type 0 where
   -- the bound
   pub few : other n ≤ MOST little
+
+-- All are.
+abbrev pub AreFew : ℤ → Type 0
+AreFew z = (n : ℕ) → IsFew n
 """
 LIMITS = """/// Sizes.
 #[derive(Clone)]
@@ -61,7 +66,7 @@ pub enum Kind {
 /// bound.
 pub const MOST: u8 = 8;
 """
-SOURCE = """# Few: {count}, {lines} lines
+SOURCE = """# Few: {count} definitions, {lines} lines
 
 {contents}
 
@@ -72,17 +77,24 @@ SOURCE = """# Few: {count}, {lines} lines
 - `low/Numbers`: `other`
 - `low/src/limits.rt`: `MOST`, `Kind`
 - `high/Weights`: `IsFew`
+
+## All
+
+{count} more definitions, {lines} lines. `ℤ` is known.
+
+- `high/Weights`: `AreFew`
 """
 PAGE = believed.PRINTED + """
-# Few: 2, 4 lines
+# Few: 2 definitions, 4 lines
 
 - [Numbers & `others`](#numbers--others)
+- [All](#all)
 
 `ℕ` and `≤`, `≡` are known.
 
 ## Numbers & `others`
 
-**`other`** (`low`, `Numbers`). the other one
+**`other`** (`low`, `Numbers`). The other one.
 
 ```text
 abbrev pub other : ℕ → ℕ
@@ -104,12 +116,23 @@ pub enum Kind {
 }
 ```
 
-**`IsFew`** (`high`, `Weights`). at most MOST, whatever it is
+**`IsFew`** (`high`, `Weights`). At most MOST, whatever it is.
 
 ```text
 pub record IsFew (n : ℕ) : Type 0 where
   -- the bound
   pub few : other n ≤ MOST little
+```
+
+## All
+
+1 more definitions, 2 lines. `ℤ` is known.
+
+**`AreFew`** (`high`, `Weights`). All are.
+
+```text
+abbrev pub AreFew : ℤ → Type 0
+AreFew z = (n : ℕ) → IsFew n
 ```
 """
 CODE = """ghost use Rattle.high.specs.Both.{IsBoth as AreBoth, IsOther};
@@ -147,11 +170,11 @@ class Believed(InFolder):
             write(name, text.encode())
         crates, believed.CRATES = believed.CRATES, pathlib.Path.cwd()
         try:
-            audited = believed.Audited([('high', 'Weights', 'IsFew')])
+            first, second = (believed.Audited([('high', 'Weights', name)]) for name in ('IsFew', 'AreFew'))
         finally:
             believed.CRATES = crates
-        equal(believed.audit_page(SOURCE, audited), (PAGE, []))
-        equal(believed.audit_page(believed.source_of(PAGE), audited), (PAGE, []))
+        equal(believed.audit_page(SOURCE, first, second), (PAGE, []))
+        equal(believed.audit_page(believed.source_of(PAGE), first, second), (PAGE, []))
         for old, new, faults in (
                 ('- `low/Numbers`: `other`\n', '', ['high Weights IsFew comes before low Numbers other, which it uses',
                                                                               'low Numbers other has no row']),
@@ -160,8 +183,11 @@ class Believed(InFolder):
                                        'low src/limits.rt MOST has no row']),
                 ('- `high', '- `low/Numbers`: `other`\n- `high',
                  ['low Numbers other has a row twice']),
-                ('`≤`', 'less', ['the text does not explain `≤`'])):
-            equal(believed.audit_page(SOURCE.replace(old, new), audited)[1], faults)
+                ('IsFew`', 'IsFew`, `AreFew`', ['high Weights AreFew has a row and is not used']),
+                ('{count} more', 'More', ['high Weights AreFew has a row and is not used', 'no line has `{count} more definitions, {lines} lines`']),
+                ('`≤`', 'less', ['the text before high Weights IsFew does not explain `≤`']),
+                ('`ℤ`', 'That', ['the text before high Weights AreFew does not explain `ℤ`'])):
+            equal(believed.audit_page(SOURCE.replace(old, new, 1), first, second)[1], faults)
 
     def test_the_page_for_auditors_is_as_printed(self) -> None:
         status, said, error = call('docs', 'believed')

@@ -6,20 +6,23 @@ import unittest
 import numpy as np
 
 from helpers import RECON, InFolder, call, equal
+from recon.advice import because
 from recon.clouds import spacing
+from recon.inputs import Cloud
+from recon.library import Sights
 from recon.positions import LOOK_BLOCKED, blocked_part, blocked_scanners, far_positions, shape_of, verdict_of
 from test_surface import listed
 
 PLACE = np.array([0.0, -3.0, 1.0])
 
 
-def half(count: int = 900, seed: int = 1) -> tuple[np.ndarray, np.ndarray]:
+def half(count: int = 900, seed: int = 1, place: np.ndarray = PLACE) -> tuple[np.ndarray, np.ndarray]:
     """The part of an ellipsoid that is seen from one place, and its normals."""
     ways = np.random.default_rng(seed).normal(size=(4 * count, 3))
     points = ways / np.linalg.norm(ways, axis=1)[:, None] * [1, 0.6, 0.4]
     normals = points / np.array([1, 0.6, 0.4]) ** 2
     normals /= np.linalg.norm(normals, axis=1)[:, None]
-    is_seen = np.einsum('ij,ij->i', PLACE - points, normals) > 0.15 * np.linalg.norm(PLACE - points, axis=1)
+    is_seen = np.einsum('ij,ij->i', place - points, normals) > 0.15 * np.linalg.norm(place - points, axis=1)
     return points[is_seen][:count], normals[is_seen][:count]
 
 
@@ -73,6 +76,12 @@ class Positions(unittest.TestCase):
         for rows, seen in ((points, np.full(50, -1)), (points[:5], np.zeros(5, int)), (points[:1].repeat(30, axis=0), np.zeros(30, int))):
             equal(blocked_part(rows, PLACE[None], seen, spacing(rows)), 0.0)
 
+    def test_a_right_position_may_be_0_0_0(self) -> None:
+        points, places = half(50)[0], np.array([[0.0, 0.0, 0.0], [0.2, 0.0, 8.0]])
+        cloud = Cloud(points, places, Sights(np.ones(50, int), np.arange(50) % 2), None)
+        for parts, is_told in (([0, 0.1], False), ([0.1, 0], True), ([0.1, 0.1], True), ([0, 0], True)):
+            equal((parts, '0,0,0' in because(None, cloud, np.array(parts)), because('x', cloud, np.array(parts))), (parts, is_told, ': x'))
+
     def test_other_frames_and_units(self) -> None:
         points = half()[0]
         there = np.array([432100.0, 5412000.0, 300.0])
@@ -122,6 +131,14 @@ class Messages(InFolder):
         said = next(line for line in error.splitlines() if 'check the' in line)
         equal((got, ': check the scanner position -0.739,2.388,-0.8 (' in said, '(for example -0.739,2.388,0.8 instead of -0.739,2.388,-0.8)' in said),
               (4, True, True))
+
+    def test_one_of_two_positions_on_the_wrong_side(self) -> None:
+        # each sees half of an ellipsoid, so neither has many blocked lines
+        listed('left.xyz', half()[0])
+        listed('right.xyz', half(seed=3, place=np.array([1.5, -2.5, 1.0]))[0])
+        for left, status, part in (('0,-3,1', 0, ''), ('0,3,1', 4, 'the lines of sight fit if y of one has the wrong sign, so it is on the wrong side (for example 0,-3,1')):
+            got, _, error = call('surface', f'left.xyz={left}', 'right.xyz=1.5,-2.5,1', '-o', 'out.ply', '--no-check', '--program', RECON)
+            equal((left, got, 'check the' in error, part in error), (left, status, bool(part), True))
 
     def test_points_that_make_no_surface(self) -> None:
         points = half()[0]

@@ -39,8 +39,8 @@ def shown(is_terminal: bool, *steps: Any, **how: Any) -> str:
 class Lines(unittest.TestCase):
     def test_what_a_line_says(self) -> None:
         for part, seconds, spent, pace, said in ((None, None, 7.2, 1, 'x: 7 s so far'), (lambda: 0.25, None, 30, 1, 'x: 25%, about 90 s left'),
-                (None, 40.0, 10, 1, 'x: 25%, about 30 s left'), (None, 40.0, 10, 3, 'x: 8%, about 2 min left'), (None, 10.0, 100, 1, 'x: 87%, about 15 s left'),
-                (lambda: None, 40.0, 10, 1, 'x: 25%, about 30 s left'), (lambda: 0.0, 9.0, 20, 1, 'x: 20 s so far'), (lambda: 1.0, None, 20, 1, 'x: 20 s so far')):
+                (None, 40.0, 10, 1, 'x: 25%, about 30 s left'), (None, 40.0, 10, 3, 'x: 8%, about 2 min left'), (None, 10.0, 19, 1, 'x: 87%, about 3 s left'),
+                (None, 10.0, 30, 1, 'x: 30 s so far'), (lambda: None, 40.0, 10, 1, 'x: 25%, about 30 s left'), (lambda: 0.0, 9.0, 20, 1, 'x: 20 s so far'), (lambda: 1.0, None, 20, 1, 'x: 20 s so far')):
             mine = Step('x', part, seconds)
             mine.begun -= spent
             equal(mine.text(pace), said)

@@ -25,15 +25,16 @@ INVALID = [(), ('within=0',), ('within=8388609',), ('within=1.5',), ('within=',)
 # the line of an error in a header, and what is changed there
 INVALID_HEADERS = [(3, ' within=8 ', ' within=0 '), (3, ' within=8 ', ' within=8388609 '), (3, ' within=8 ', ' within=08 '), (3, ' within=8 ', ' '),
                    (3, ' faces=9', ''), (3, ' faces=9', ' faces=4294967296'), (3, ' faces=9', ' faces=9 '), (3, ' faces=9', ' surface=no faces=9'),
-                   (3, ' faces=9', ' faces=9 surface=yes'), (3, 'mesh simplify', 'mesh simplifies'),
+                   (3, ' faces=9', ' faces=9 surface=yes'), (3, ' faces=9', ' faces=9 move=yes'), (3, ' faces=9', ' move=no faces=9'),
+                   (3, ' faces=9', ' move=yes surface=yes faces=9'), (3, 'mesh simplify', 'mesh simplifies'),
                    (4, 'scale 1', 'scale 0'), (5, 'sha256 ', 'sha256  ')]
 
 
-def stated(text: str, within: int, faces: int, source: str, scale: int = 1, surface: bool = False) -> str:
+def stated(text: str, within: int, faces: int, source: str, scale: int = 1, surface: bool = False, moves: bool = False) -> str:
     """Returns a mesh with the comments of a simplified one."""
     digest = hashlib.sha256(source.encode()).hexdigest()
     head, rest = text.split('element vertex', 1)
-    options = f'within={within} {"surface=yes " if surface else ""}faces={faces}'
+    options = f'within={within} {"surface=yes " if surface else ""}{"move=yes " if moves else ""}faces={faces}'
     return f'{head}comment recon-mesh simplify {options}\ncomment scale {scale}\ncomment sha256 {digest}\nelement vertex{rest}'
 
 
@@ -90,7 +91,7 @@ class Simplify(InFolder):
                 new = mesh_of(read('out.ply'))
                 equal(faults(old, new, within, bool(more), moves), [])
                 assert least <= len(new[1]) < 400, len(new[1])
-                equal(read('out.ply'), stated(mesh_text(*new), within, least, read('mesh.ply'), 1, bool(more)))
+                equal(read('out.ply'), stated(mesh_text(*new), within, least, read('mesh.ply'), 1, bool(more), moves))
                 equal(mesh_program('check', 'mesh.ply', 'out.ply')[0], 0)
                 triangles = [tuple(new[0][v] for v in face) for face in new[1]]
                 far.append(sum(min(float(square_to_triangle(p, *t)) for t in triangles) for p in places))
@@ -117,6 +118,19 @@ class Simplify(InFolder):
         equal(len(cube), len(places))
         write('mesh.ply', mesh_text(cube, [turned(face) for face in faces]))
         equal(mesh_program('simplify', 'mesh.ply', 'out.ply', 'within=1')[:2], (0, 'simplified points 8 faces 12\n'))
+
+    def test_a_dip_under_a_piece_stays_open(self) -> None:
+        places, faces = ball(8, 3000, 0.02)
+        a, b, c = faces.pop()
+        low, high = (tuple(round(part * sum(places[v][axis] for v in (a, b, c)) / 3) for axis in range(3)) for part in (0.98, 1.2))
+        u, t = len(places), len(places) + 1
+        new_faces = [(a, b, u), (b, c, u), (c, a, u), (a, c, b), (a, b, t), (b, c, t), (c, a, t)]
+        old = [*places, low, high], [turned(face) for face in [*faces, *new_faces]]
+        write('mesh.ply', mesh_text(*old))
+        equal(mesh_program('simplify', 'mesh.ply', 'out.ply', 'within=300', 'faces=110')[0], 0)
+        new = mesh_of(read('out.ply'))
+        equal(faults(old, new, 300), [])
+        assert len(new[1]) <= 120, len(new[1])
 
     def test_meshes_that_stay_as_they_are(self) -> None:
         for points, faces in ((POINTS, FACES), ([], []), (POINTS, []), two_cubes((1, 1, 1)), two_cubes((1, 1, 0))):

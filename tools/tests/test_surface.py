@@ -304,6 +304,14 @@ class Words(InFolder):
         order = np.argsort(colors[:, 0], kind='stable')
         equal(((np.diff(gray[order, 0].astype(int)) >= 0).all(), gray.min(), gray.max(), (gray[:, 0] == gray[:, 2]).all()), (True, 0, 255, True))
 
+    def test_points_that_are_all_black_have_no_colors(self) -> None:
+        write('a.pts', '3\n1 2 3 0.5 0 0 0\n4 5 6 0.25 0 0 0\n7 8 9 1 0 0 0\n')
+        colors = read_table(['a.pts=0,0,5'])[0].colors()
+        assert colors is not None
+        equal(colors[:, 1].argsort().tolist(), [1, 0, 2])
+        write('b.xyz', '1 2 3 0 0 0\n4 5 6 0 0 0\n')
+        equal(read_table(['b.xyz=0,0,5'])[0].colors(), None)
+
     def test_scans_are_loaded_as_they_were_written(self) -> None:
         write('a.ply', head(2, 'double x, double y, double z, ushort red, ushort green, ushort blue, int scanner', 1)
               + '1 2 3 0 257 65535 0\n4 5 -6e1 0 0 0 0\n7 8 9\n')

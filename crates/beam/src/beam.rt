@@ -20,44 +20,49 @@ ghost use Rattle.beam.specs.Ways.{IsRayIn};
 ghost use Rattle.beam.specs.Beams.{IsPassage, IsWaiting, AreWaiting, AllWait, total, weight_on, still_added, steps_left, work};
 
 use crate::NoMemory;
+use crate::view::View;
 use crate::waiting::{Queue, Waiting, put, take};
 use crate::ways::{Ray, Ways, side_entered, ways_into};
-use geo_sign::Point;
 use std::alloc::Global;
 use std::collections::BinaryHeap;
 use tetra_store::{CellId, Tetra};
 use tetra_walk::NO_SIDE;
 
-/// Counts a line of sight at the facet of a side, and has it wait in the adjacent cell.
-fn cross(
-    alloc: Global,
-    t: &Tetra,
-    s: Point,
+/// A line of sight that leaves a cell through a side.
+#[derive(Clone, Copy)]
+struct Exit {
     cell: CellId,
     side: usize,
     ray: Ray,
+}
+
+/// Counts a line of sight at the facet of a side, and has it wait in the adjacent cell.
+fn cross(
+    alloc: Global,
+    view: &View<'_>,
+    exit: Exit,
     queue: &mut Queue,
     crossed: &mut [u32],
 ) -> Result<(), NoMemory>
-    requires delaunay { IsDelaunay (vertices_of t.now) (links_of t.now.slots) }
-    requires data_point { IsWithin DATA_LIMIT s }
-    requires waiting { AllWait t.now s queue.old.cells.items }
-    requires ray { IsWaiting t.now s cell ray }
-    requires side { side < 4 }
-    requires through { is_crossed (vertices_of t.now) ray.vertex (displaced s) (facet_of ((links_of t.now.slots).at cell) side) ≡ true }
-    requires fits { 4 * length t.now.slots ≤ length crossed.old }
-    requires room { slice_index crossed.old (4 * cell + side) + ray.added < 2 ^ 32 }
+    requires delaunay { IsDelaunay (vertices_of view.now.t.now) (links_of view.now.t.now.slots) }
+    requires data_point { IsWithin DATA_LIMIT view.now.s }
+    requires waiting { AllWait view.now.t.now view.now.s queue.old.cells.items }
+    requires ray { IsWaiting view.now.t.now view.now.s exit.cell exit.ray }
+    requires side { exit.side < 4 }
+    requires through { is_crossed (vertices_of view.now.t.now) exit.ray.vertex (displaced view.now.s) (facet_of ((links_of view.now.t.now.slots).at exit.cell) exit.side) ≡ true }
+    requires fits { 4 * length view.now.t.now.slots ≤ length crossed.old }
+    requires room { slice_index crossed.old (4 * exit.cell + exit.side) + exit.ray.added < 2 ^ 32 }
     ensures count { length crossed.new ≡ length crossed.old }
-    ensures waiting { OnOk result (AllWait t.now s queue.new.cells.items) }
-    ensures sums { OnOk result ((id k : ℕ) → IsLive (links_of t.now.slots) id → k < 4 → slice_index crossed.new (4 * id + k) + total (still_added t.now s id k) queue.new.cells.items ≡ slice_index crossed.old (4 * id + k) + total (still_added t.now s id k) queue.old.cells.items + still_added t.now s id k cell ray) }
-    ensures work { OnOk result (work t.now s queue.new.cells.items + 1 ≤ work t.now s queue.old.cells.items + 2 * steps_left t.now s cell ray) }
+    ensures waiting { OnOk result (AllWait view.now.t.now view.now.s queue.new.cells.items) }
+    ensures sums { OnOk result ((id k : ℕ) → IsLive (links_of view.now.t.now.slots) id → k < 4 → slice_index crossed.new (4 * id + k) + total (still_added view.now.t.now view.now.s id k) queue.new.cells.items ≡ slice_index crossed.old (4 * id + k) + total (still_added view.now.t.now view.now.s id k) queue.old.cells.items + still_added view.now.t.now view.now.s id k exit.cell exit.ray) }
+    ensures work { OnOk result (work view.now.t.now view.now.s queue.new.cells.items + 1 ≤ work view.now.t.now view.now.s queue.old.cells.items + 2 * steps_left view.now.t.now view.now.s exit.cell exit.ray) }
 {
-    t.facts();
-    crossed[4 * cell.number() + side] += ray.added;
-    match t.across(cell, side as u8) {
+    view.t.facts();
+    crossed[4 * exit.cell.number() + exit.side] += exit.ray.added;
+    match view.t.across(exit.cell, exit.side as u8) {
         None => unreachable!(),
         Some(next) => {
-            put(alloc, t, s, queue, next, ray)?;
+            put(alloc, view, queue, next, exit.ray)?;
             Ok(())
         }
     }
@@ -72,17 +77,17 @@ struct Passage {
 }
 
 /// Returns a cell as lines of sight leave it.
-fn passage_of(t: &Tetra, s: Point, cell: CellId) -> Passage
-    requires delaunay { IsDelaunay (vertices_of t.now) (links_of t.now.slots) }
-    requires live { IsLive (links_of t.now.slots) cell }
-    ensures { IsPassage t.now s cell result }
+fn passage_of(view: &View<'_>, cell: CellId) -> Passage
+    requires delaunay { IsDelaunay (vertices_of view.now.t.now) (links_of view.now.t.now.slots) }
+    requires live { IsLive (links_of view.now.t.now.slots) cell }
+    ensures { IsPassage view.now.t.now view.now.s cell result }
 {
-    t.facts();
-    let vertices = t.vertices(cell);
+    view.t.facts();
+    let vertices = view.t.vertices(cell);
     Passage {
         cell,
         vertices,
-        ways: ways_into(t, vertices, s),
+        ways: ways_into(view.t, vertices, view.s),
     }
 }
 
@@ -90,57 +95,60 @@ fn passage_of(t: &Tetra, s: Point, cell: CellId) -> Passage
 #[inline(always)]
 fn step(
     alloc: Global,
-    t: &Tetra,
-    s: Point,
+    view: &View<'_>,
     from: &Passage,
     ray: &Ray,
     queue: &mut Queue,
     crossed: &mut [u32],
 ) -> Result<(), NoMemory>
-    requires delaunay { IsDelaunay (vertices_of t.now) (links_of t.now.slots) }
-    requires data_point { IsWithin DATA_LIMIT s }
-    requires waiting { AllWait t.now s queue.old.cells.items }
-    requires from { IsPassage t.now s from.now.cell from.now }
-    requires ray { IsWaiting t.now s from.now.cell ray.now }
-    requires fits { 4 * length t.now.slots ≤ length crossed.old }
-    requires room { (k : ℕ) → k < 4 → slice_index crossed.old (4 * from.now.cell + k) + still_added t.now s from.now.cell k from.now.cell ray.now < 2 ^ 32 }
+    requires delaunay { IsDelaunay (vertices_of view.now.t.now) (links_of view.now.t.now.slots) }
+    requires data_point { IsWithin DATA_LIMIT view.now.s }
+    requires waiting { AllWait view.now.t.now view.now.s queue.old.cells.items }
+    requires from { IsPassage view.now.t.now view.now.s from.now.cell from.now }
+    requires ray { IsWaiting view.now.t.now view.now.s from.now.cell ray.now }
+    requires fits { 4 * length view.now.t.now.slots ≤ length crossed.old }
+    requires room { (k : ℕ) → k < 4 → slice_index crossed.old (4 * from.now.cell + k) + still_added view.now.t.now view.now.s from.now.cell k from.now.cell ray.now < 2 ^ 32 }
     ensures count { length crossed.new ≡ length crossed.old }
-    ensures waiting { OnOk result (AllWait t.now s queue.new.cells.items) }
-    ensures sums { OnOk result ((id k : ℕ) → IsLive (links_of t.now.slots) id → k < 4 → slice_index crossed.new (4 * id + k) + total (still_added t.now s id k) queue.new.cells.items ≡ slice_index crossed.old (4 * id + k) + total (still_added t.now s id k) queue.old.cells.items + still_added t.now s id k from.now.cell ray.now) }
-    ensures work { OnOk result (work t.now s queue.new.cells.items ≤ work t.now s queue.old.cells.items + 2 * steps_left t.now s from.now.cell ray.now) }
+    ensures waiting { OnOk result (AllWait view.now.t.now view.now.s queue.new.cells.items) }
+    ensures sums { OnOk result ((id k : ℕ) → IsLive (links_of view.now.t.now.slots) id → k < 4 → slice_index crossed.new (4 * id + k) + total (still_added view.now.t.now view.now.s id k) queue.new.cells.items ≡ slice_index crossed.old (4 * id + k) + total (still_added view.now.t.now view.now.s id k) queue.old.cells.items + still_added view.now.t.now view.now.s id k from.now.cell ray.now) }
+    ensures work { OnOk result (work view.now.t.now view.now.s queue.new.cells.items ≤ work view.now.t.now view.now.s queue.old.cells.items + 2 * steps_left view.now.t.now view.now.s from.now.cell ray.now) }
 {
-    t.facts();
-    let side = side_entered(t, from.vertices, s, &from.ways, ray);
+    view.t.facts();
+    let side = side_entered(view.t, from.vertices, view.s, &from.ways, ray);
     if side == NO_SIDE {
         return Ok(());
     }
-    cross(alloc, t, s, from.cell, side, *ray, queue, crossed)?;
+    let exit = Exit {
+        cell: from.cell,
+        side,
+        ray: *ray,
+    };
+    cross(alloc, view, exit, queue, crossed)?;
     Ok(())
 }
 
 /// Has all lines of sight that wait in a cell leave it.
 fn leave(
     alloc: Global,
-    t: &Tetra,
-    s: Point,
+    view: &View<'_>,
     from: &Waiting,
     queue: &mut Queue,
     crossed: &mut [u32],
 ) -> Result<(), NoMemory>
-    requires delaunay { IsDelaunay (vertices_of t.now) (links_of t.now.slots) }
-    requires data_point { IsWithin DATA_LIMIT s }
-    requires waiting { AllWait t.now s queue.old.cells.items }
-    requires from { AreWaiting t.now s from.now }
-    requires fits { 4 * length t.now.slots ≤ length crossed.old }
-    requires room { (id k : ℕ) → IsLive (links_of t.now.slots) id → k < 4 → slice_index crossed.old (4 * id + k) + total (still_added t.now s id k) queue.old.cells.items + sum_by (still_added t.now s id k from.now.cell) from.now.rays.items < 2 ^ 32 }
+    requires delaunay { IsDelaunay (vertices_of view.now.t.now) (links_of view.now.t.now.slots) }
+    requires data_point { IsWithin DATA_LIMIT view.now.s }
+    requires waiting { AllWait view.now.t.now view.now.s queue.old.cells.items }
+    requires from { AreWaiting view.now.t.now view.now.s from.now }
+    requires fits { 4 * length view.now.t.now.slots ≤ length crossed.old }
+    requires room { (id k : ℕ) → IsLive (links_of view.now.t.now.slots) id → k < 4 → slice_index crossed.old (4 * id + k) + total (still_added view.now.t.now view.now.s id k) queue.old.cells.items + sum_by (still_added view.now.t.now view.now.s id k from.now.cell) from.now.rays.items < 2 ^ 32 }
     ensures count { length crossed.new ≡ length crossed.old }
-    ensures waiting { OnOk result (AllWait t.now s queue.new.cells.items) }
-    ensures sums { OnOk result ((id k : ℕ) → IsLive (links_of t.now.slots) id → k < 4 → slice_index crossed.new (4 * id + k) + total (still_added t.now s id k) queue.new.cells.items ≡ slice_index crossed.old (4 * id + k) + total (still_added t.now s id k) queue.old.cells.items + sum_by (still_added t.now s id k from.now.cell) from.now.rays.items) }
-    ensures work { OnOk result (work t.now s queue.new.cells.items ≤ work t.now s queue.old.cells.items + 2 * sum_by (steps_left t.now s from.now.cell) from.now.rays.items) }
+    ensures waiting { OnOk result (AllWait view.now.t.now view.now.s queue.new.cells.items) }
+    ensures sums { OnOk result ((id k : ℕ) → IsLive (links_of view.now.t.now.slots) id → k < 4 → slice_index crossed.new (4 * id + k) + total (still_added view.now.t.now view.now.s id k) queue.new.cells.items ≡ slice_index crossed.old (4 * id + k) + total (still_added view.now.t.now view.now.s id k) queue.old.cells.items + sum_by (still_added view.now.t.now view.now.s id k from.now.cell) from.now.rays.items) }
+    ensures work { OnOk result (work view.now.t.now view.now.s queue.new.cells.items ≤ work view.now.t.now view.now.s queue.old.cells.items + 2 * sum_by (steps_left view.now.t.now view.now.s from.now.cell) from.now.rays.items) }
 {
-    let passage = passage_of(t, s, from.cell);
+    let passage = passage_of(view, from.cell);
     for ray in &from.rays {
-        step(alloc, t, s, &passage, ray, queue, crossed)?;
+        step(alloc, view, &passage, ray, queue, crossed)?;
     }
     Ok(())
 }
@@ -148,21 +156,20 @@ fn leave(
 /// Follows all lines of sight that wait until each has ended.
 fn follow(
     alloc: Global,
-    t: &Tetra,
-    s: Point,
+    view: &View<'_>,
     queue: &mut Queue,
     crossed: &mut [u32],
 ) -> Result<(), NoMemory>
-    requires delaunay { IsDelaunay (vertices_of t.now) (links_of t.now.slots) }
-    requires data_point { IsWithin DATA_LIMIT s }
-    requires waiting { AllWait t.now s queue.old.cells.items }
-    requires fits { 4 * length t.now.slots ≤ length crossed.old }
-    requires room { (id k : ℕ) → IsLive (links_of t.now.slots) id → k < 4 → slice_index crossed.old (4 * id + k) + total (still_added t.now s id k) queue.old.cells.items < 2 ^ 32 }
+    requires delaunay { IsDelaunay (vertices_of view.now.t.now) (links_of view.now.t.now.slots) }
+    requires data_point { IsWithin DATA_LIMIT view.now.s }
+    requires waiting { AllWait view.now.t.now view.now.s queue.old.cells.items }
+    requires fits { 4 * length view.now.t.now.slots ≤ length crossed.old }
+    requires room { (id k : ℕ) → IsLive (links_of view.now.t.now.slots) id → k < 4 → slice_index crossed.old (4 * id + k) + total (still_added view.now.t.now view.now.s id k) queue.old.cells.items < 2 ^ 32 }
     ensures count { length crossed.new ≡ length crossed.old }
-    ensures sums { OnOk result ((id k : ℕ) → IsLive (links_of t.now.slots) id → k < 4 → slice_index crossed.new (4 * id + k) ≡ slice_index crossed.old (4 * id + k) + total (still_added t.now s id k) queue.old.cells.items) }
+    ensures sums { OnOk result ((id k : ℕ) → IsLive (links_of view.now.t.now.slots) id → k < 4 → slice_index crossed.new (4 * id + k) ≡ slice_index crossed.old (4 * id + k) + total (still_added view.now.t.now view.now.s id k) queue.old.cells.items) }
 {
     while let Some(from) = take(queue) {
-        leave(alloc, t, s, &from, queue, crossed)?;
+        leave(alloc, view, &from, queue, crossed)?;
     }
     Ok(())
 }
@@ -192,26 +199,25 @@ impl Beams {
     pub fn count(
         &mut self,
         alloc: Global,
-        t: &Tetra,
-        s: Point,
+        view: &View<'_>,
         end: CellId,
         rays: Vec<Ray>,
         crossed: &mut [u32],
     ) -> Result<(), NoMemory>
-        requires delaunay { IsDelaunay (vertices_of t.now) (links_of t.now.slots) }
-        requires data_point { IsWithin DATA_LIMIT s }
-        requires end { IsEndCell t.now s end }
-        requires rays { All (IsRayIn t.now) rays.items }
-        requires fits { 4 * length t.now.slots ≤ length crossed.old }
-        requires room { (id k : ℕ) → IsLive (links_of t.now.slots) id → k < 4 → slice_index crossed.old (4 * id + k) + sum_by (weight_on t.now s id k) rays.items < 2 ^ 32 }
+        requires delaunay { IsDelaunay (vertices_of view.now.t.now) (links_of view.now.t.now.slots) }
+        requires data_point { IsWithin DATA_LIMIT view.now.s }
+        requires end { IsEndCell view.now.t.now view.now.s end }
+        requires rays { All (IsRayIn view.now.t.now) rays.items }
+        requires fits { 4 * length view.now.t.now.slots ≤ length crossed.old }
+        requires room { (id k : ℕ) → IsLive (links_of view.now.t.now.slots) id → k < 4 → slice_index crossed.old (4 * id + k) + sum_by (weight_on view.now.t.now view.now.s id k) rays.items < 2 ^ 32 }
         ensures count { length crossed.new ≡ length crossed.old }
-        ensures added { OnOk result ((id k : ℕ) → IsLive (links_of t.now.slots) id → k < 4 → slice_index crossed.new (4 * id + k) ≡ slice_index crossed.old (4 * id + k) + sum_by (weight_on t.now s id k) rays.items) }
+        ensures added { OnOk result ((id k : ℕ) → IsLive (links_of view.now.t.now.slots) id → k < 4 → slice_index crossed.new (4 * id + k) ≡ slice_index crossed.old (4 * id + k) + sum_by (weight_on view.now.t.now view.now.s id k) rays.items) }
     {
-        t.facts();
+        view.t.facts();
         self.queue.cells.clear();
         self.queue.order.clear();
         self.queue.cells.push(Waiting { cell: end, rays })?;
-        follow(alloc, t, s, &mut self.queue, crossed)?;
+        follow(alloc, view, &mut self.queue, crossed)?;
         Ok(())
     }
 }

@@ -8,11 +8,11 @@ ghost use Rattle.beam.specs.Beams.{IsWaiting, AllWait, total};
 
 use crate::NoMemory;
 use crate::order::rank_of;
+use crate::view::View;
 use crate::ways::Ray;
-use geo_sign::Point;
 use std::alloc::Global;
 use std::collections::BinaryHeap;
-use tetra_store::{CellId, Tetra};
+use tetra_store::CellId;
 
 /// A cell, and the lines of sight that have come to it and not gone on.
 #[derive(Drop)]
@@ -89,12 +89,12 @@ fn note_place(queue: &mut Queue, cell: CellId, place: usize)
 }
 
 /// Notes the rank of a cell.
-fn note_rank(t: &Tetra, s: Point, queue: &mut Queue, cell: CellId) -> Result<(), NoMemory>
-    requires { IsLive (links_of t.now.slots) cell }
+fn note_rank(view: &View<'_>, queue: &mut Queue, cell: CellId) -> Result<(), NoMemory>
+    requires { IsLive (links_of view.now.t.now.slots) cell }
     ensures { queue.new.cells.items ≡ queue.old.cells.items }
 {
-    t.facts();
-    let rank = rank_of(t, t.vertices(cell), s);
+    view.t.facts();
+    let rank = rank_of(view.t, view.t.vertices(cell), view.s);
     queue.order.push((rank, cell.number()))?;
     Ok(())
 }
@@ -102,15 +102,14 @@ fn note_rank(t: &Tetra, s: Point, queue: &mut Queue, cell: CellId) -> Result<(),
 /// Has a line of sight wait in a cell, with the others that do.
 pub(crate) fn put(
     alloc: Global,
-    t: &Tetra,
-    s: Point,
+    view: &View<'_>,
     queue: &mut Queue,
     cell: CellId,
     ray: Ray,
 ) -> Result<(), NoMemory>
-    requires waiting { AllWait t.now s queue.old.cells.items }
-    requires ray { IsWaiting t.now s cell ray }
-    ensures waiting { OnOk result (AllWait t.now s queue.new.cells.items) }
+    requires waiting { AllWait view.now.t.now view.now.s queue.old.cells.items }
+    requires ray { IsWaiting view.now.t.now view.now.s cell ray }
+    ensures waiting { OnOk result (AllWait view.now.t.now view.now.s queue.new.cells.items) }
     ensures sums { OnOk result ((f : ℕ → Ray → ℕ) → total f queue.new.cells.items ≡ total f queue.old.cells.items + f cell ray) }
     ensures few { OnOk result (length queue.new.cells.items ≤ length queue.old.cells.items + 1) }
 {
@@ -122,7 +121,7 @@ pub(crate) fn put(
         None => {
             let last = count_of(queue);
             note_place(queue, cell, last);
-            note_rank(t, s, queue, cell)?;
+            note_rank(view, queue, cell)?;
             queue.cells.push(alone(alloc, cell, ray)?)?;
             Ok(())
         }

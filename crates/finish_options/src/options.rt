@@ -38,6 +38,8 @@ pub struct SimplifyOptions {
     pub faces: u32,
     /// Each point of either mesh has to be that near to the other, not corners alone (default: false).
     pub surface: bool,
+    /// Vertices move to where they suit the faces around them (default: false).
+    pub moves: bool,
 }
 
 /// What was done to a mesh.

@@ -1,7 +1,7 @@
 -- Reads one after another: none changes a file, so what is read at any time holds of the files as they were at the start
 -- (files_back).
 use Rattle.std.proofs.Common.{ℕ, ◌≡◌, ◌+◌, ◌<◌, ◌≤◌, ◌∙◌, arith, sym, refl, subst, List, [], ◌∷◌, ◌++◌, length, get_or, below_more}
-use Rattle.std.proofs.Common.{Option, Some, None, IfSome, Result, Ok, Err, inl, inr, unwrap_or}
+use Rattle.std.proofs.Common.{Option, Some, None, IfSome, Result, Ok, Err, inl, unwrap_or}
 use Rattle.std.proofs.lemmas.List.{get_or_append_left}
 use Rattle.std.proofs.Math.Seq.{get_or-append_seam}
 use Rattle.host.specs.State.{State, Told, Files, file_bytes}
@@ -108,12 +108,6 @@ pub all_read : (limit : ℕ) (o : Option Told) (tiles : List TileLine) (meshes :
 all_read limit None tiles meshes i all n h = tt
 all_read limit (Some told) tiles meshes i all n h =
     record { count = n ∙ all; each = λ j t m l. h j (subst (λ (k : ℕ). j < k) (sym all) l) t m }
-
--- none was read
-pub none_read : (limit : ℕ) (o : Option Told) (tiles : List TileLine) (meshes : List Mesh)
-    → IfSome o (λ told. FilesBelow limit tiles meshes 0 told.files)
-none_read limit None tiles meshes = tt
-none_read limit (Some told) tiles meshes = λ j l. absurd (omega (arith, l))
 
 -- ---- one mesh
 -- the file is longer than the limit

@@ -1,12 +1,15 @@
 -- The answers of `join`: how they end, how many files they read, and what they say of the files as they were at the start.
-use Rattle.std.proofs.Common.{ℕ, ◌≡◌, ◌⊎◌, inl, inr, ◌+◌, ◌*◌, ◌<◌, ◌≤◌, ◌∙◌, arith, ap, sym, refl, subst, List, [], ◌∷◌, length}
+use Rattle.std.proofs.Common.{ℕ, ◌≡◌, inl, inr, ◌+◌, ◌<◌, ◌≤◌, ◌∙◌, arith, ap, sym, refl, subst, List, [], ◌∷◌, length}
 use Rattle.std.proofs.Common.{Option, Some, None, IfSome, false, unwrap_or, Result, Ok, Err, IfOk}
 use Rattle.host.specs.State.{State, Told, Files, file_bytes}
 use Rattle.host.specs.Whole.{OnlyReads}
+use Rattle.line_text.specs.Lists.{WithMemory}
 use Rattle.line_text.specs.declared.refusal.LineRefusal.{LineRefusal}
+use Rattle.line_text.specs.declared.refusal.LineRefusal.TheVariants.{BadLine, Order, Cut, NoMemory}
 use Rattle.mesh.specs.declared.mesh.Mesh.{Mesh}
 use Rattle.mesh_join.specs.declared.owners.Core.{Core}
 use Rattle.tile_list.specs.Entries.{IsTileList}
+use Rattle.tile_list.specs.Refusals.{IsRefusedTiles}
 use Rattle.tile_list.specs.declared.entry.Entry.{Entry}
 use Rattle.tile_list.specs.declared.entry.Entry.TheVariants as entries
 use Rattle.tile_list.specs.declared.entry.TileLine.{TileLine}
@@ -16,12 +19,10 @@ use Rattle.command_run.specs.Steps.{IsAnswered, IsReplied, ReadsFor}
 use Rattle.command_run.specs.Words.{Names}
 use Rattle.command_run.specs.declared.reply.Line.{Line}
 use Rattle.command_run.specs.declared.reply.Reply.{Reply}
-use Rattle.command_run.specs.declared.status.Status.{Status}
-use Rattle.command_run.specs.declared.status.Status.TheVariants.{Done, Refused}
 use Rattle.command_run.proofs.MeshReplies.{done_or_refused}
 use Rattle.join_cmd.specs.Lines.{too_long_tiles_line, tiles_error_line}
-use Rattle.join_cmd.specs.Join.{join_reads, join_task, meshes_read, tiles_of, cores_of, AreMeshFiles, IsRejectedTile, JoinAnswer}
-use Rattle.join_cmd.specs.Join.{TilesAnswer, ListAnswer, ToTiles}
+use Rattle.join_cmd.specs.Join.{join_reads, join_task, meshes_read, tiles_of, cores_of, IsRejectedTile, JoinAnswer}
+use Rattle.join_cmd.specs.Join.{AreMeshFiles, TilesAnswer, ListAnswer, ToTiles}
 use Rattle.join_cmd.specs.Reading.{HasEnded, OnlyReadsTimes}
 use Rattle.join_cmd.proofs.FileReads.{files_back}
 
@@ -30,7 +31,7 @@ use Rattle.join_cmd.proofs.FileReads.{files_back}
 answer_joined : (output : List ℕ) (cores : List Core) (meshes : List Mesh) (answer : Answer)
     → JoinAnswer output cores meshes answer → answer.reads ≡ join_reads
 answer_joined output cores meshes answer (inl writes) = ap (λ (a : Answer). a.reads) writes.is
-answer_joined output cores meshes answer (inr (why, is)) = ap (λ (a : Answer). a.reads) is
+answer_joined output cores meshes answer (inr (why, so, is)) = ap (λ (a : Answer). a.reads) is
 
 answer_tiles : (limit : ℕ) (output : List ℕ) (files : Files) (tiles : List TileLine) (answer : Answer)
     → TilesAnswer limit output files tiles answer → answer.reads ≡ join_reads
@@ -40,7 +41,7 @@ answer_tiles limit output files tiles answer (inr (line, rejected, is)) = ap (λ
 answer_list : (limit : ℕ) (output : List ℕ) (files : Files) (bytes : List ℕ) (answer : Answer)
     → ListAnswer limit output files bytes answer → answer.reads ≡ join_reads
 answer_list limit output files bytes answer (inl (list, is, tiles)) = answer_tiles limit output files (tiles_of list) answer tiles
-answer_list limit output files bytes answer (inr (why, line, said, is)) = ap (λ (a : Answer). a.reads) is
+answer_list limit output files bytes answer (inr (line, rejected, is)) = ap (λ (a : Answer). a.reads) is
 
 answer_reads : (limit : ℕ) (names : Names) (files : Files) (answer : Answer) → ToTiles limit names files answer
     → answer.reads ≡ join_reads
@@ -82,12 +83,38 @@ pub rejected_ends : (reads : ℕ) (line : List ℕ) (reply : Reply) → answer_o
 rejected_ends reads line reply is = inr (ap (λ (a : Answer). a.status) is)
 
 -- ---- what they say
+-- an error that has a line is one of the text
+with_line : (why : LineRefusal) (P : Type 0) (line : List ℕ) → tiles_error_line why ≡ Some line → WithMemory why P → P
+with_line (BadLine n) P line said p = p
+with_line (Order n) P line said p = p
+with_line Cut P line said p = p
+with_line NoMemory P line said p = absurd (cc)
+
 -- a list is rejected
 pub list_rejected : (limit : ℕ) (output bytes line : List ℕ) (why : LineRefusal) (reply : Reply) (o : Option Told)
-    → tiles_error_line why ≡ Some line → answer_of join_reads reply ≡ invalid join_reads line
+    → WithMemory why (IsRefusedTiles bytes why) → tiles_error_line why ≡ Some line
+    → answer_of join_reads reply ≡ invalid join_reads line
     → IfSome o (λ told. ListAnswer limit output told.files bytes (answer_of join_reads reply))
-list_rejected limit output bytes line why reply None said is = tt
-list_rejected limit output bytes line why reply (Some told) said is = inr (why, line, said, is)
+list_rejected limit output bytes line why reply None refused said is = tt
+list_rejected limit output bytes line why reply (Some told) refused said is =
+    inr (line, (why, with_line why (IsRefusedTiles bytes why) line said refused, said), is)
+
+-- the files of all tiles are read, and their meshes are answered
+pub tiles_answered : (limit : ℕ) (output bytes : List ℕ) (list : List Entry) (read held : List TileLine) (meshes : List Mesh)
+    (answer : Answer) (o : Option Told) → IsTileList bytes list → read ≡ tiles_of list → held ≡ tiles_of list
+    → IfSome o (λ told. AreMeshFiles limit told.files read meshes) → JoinAnswer output (cores_of held) meshes answer
+    → IfSome o (λ told. ListAnswer limit output told.files bytes answer)
+tiles_answered limit output bytes list read held meshes answer None is_list same_read same_held are joined = tt
+tiles_answered limit output bytes list read held meshes answer (Some told) is_list same_read same_held are joined =
+    inl (
+      list,
+      is_list,
+      inl (
+        meshes,
+        subst (λ (ts : List TileLine). AreMeshFiles limit told.files ts meshes) same_read are,
+        subst (λ (ts : List TileLine). JoinAnswer output (cores_of ts) meshes answer) same_held joined,
+      ),
+    )
 
 -- the file of a tile is rejected
 pub tile_rejected : (limit : ℕ) (output bytes line : List ℕ) (list : List Entry) (tiles : List TileLine) (reply : Reply)
@@ -101,24 +128,6 @@ tile_rejected limit output bytes line list tiles reply (Some told) is_list same 
       list,
       is_list,
       inr (line, subst (λ (ts : List TileLine). IsRejectedTile limit told.files ts line) same rejected, is),
-    )
-
--- tiles are joined, or not
-pub tiles_answered : (limit : ℕ) (output bytes : List ℕ) (list : List Entry) (tiles : List TileLine) (meshes : List Mesh)
-    (reply : Reply) (o : Option Told) → IsTileList bytes list → tiles ≡ tiles_of list
-    → IfSome o (λ told. AreMeshFiles limit told.files tiles meshes)
-    → JoinAnswer output (cores_of tiles) meshes (answer_of join_reads reply)
-    → IfSome o (λ told. ListAnswer limit output told.files bytes (answer_of join_reads reply))
-tiles_answered limit output bytes list tiles meshes reply None is_list same are answer = tt
-tiles_answered limit output bytes list tiles meshes reply (Some told) is_list same are answer =
-    inl (
-      list,
-      is_list,
-      inl (
-        meshes,
-        subst (λ (ts : List TileLine). AreMeshFiles limit told.files ts meshes) same are,
-        subst (λ (ts : List TileLine). JoinAnswer output (cores_of ts) meshes (answer_of join_reads reply)) same answer,
-      ),
     )
 
 -- ---- the whole

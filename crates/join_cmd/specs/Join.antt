@@ -13,9 +13,10 @@
 --   IsRejectedTile limit files tiles line   the same for the file of one of the tiles
 --   join_done output tiles ..       the answer that writes this mesh
 --   WritesJoined output cores ..    the answer writes a join of the meshes
---   IsNotJoined answer              the answer says why tiles are not joined
+--   IsNotJoined cores meshes answer   the meshes are not joined, and the answer says why
 --   JoinAnswer output cores meshes answer   one of the two
 --   TilesAnswer limit output files tiles answer   the answer to the tiles of a list
+--   IsRejectedList bytes line       the bytes are not a list of tiles, for which this is the line
 --   ListAnswer limit output files bytes answer   the answer to the bytes of a list
 --   ToTiles limit names files answer   the answer of the command to these files
 --   join_task names                 the command `join`
@@ -25,12 +26,14 @@ use Rattle.geo_sign.specs.Point.{Point, point}
 use Rattle.line_text.specs.declared.refusal.LineRefusal.{LineRefusal}
 use Rattle.mesh.specs.declared.mesh.Mesh.{Mesh}
 use Rattle.mesh_join.specs.Joins.{IsJoining}
+use Rattle.mesh_join.specs.Refusals.{IsRefusedJoin}
 use Rattle.mesh_join.specs.declared.join.Refusal.{Refusal}
 use Rattle.mesh_join.specs.declared.owners.Core.{Core}
 use Rattle.mesh_ply.specs.Refusals.{IsRefusedMesh}
 use Rattle.mesh_ply.specs.Texts.{mesh_text, IsPrinted}
 use Rattle.mesh_ply.specs.declared.refusal.MeshRefusal.{MeshRefusal}
 use Rattle.tile_list.specs.Entries.{IsTileList}
+use Rattle.tile_list.specs.Refusals.{IsRefusedTiles}
 use Rattle.tile_list.specs.declared.read.TheConstants.{TILE_LIMIT}
 use Rattle.tile_list.specs.declared.entry.Corner.{Corner}
 use Rattle.tile_list.specs.declared.entry.Entry.{Entry}
@@ -120,13 +123,14 @@ pub record WritesJoined (output : List ℕ) (cores : List Core) (meshes : List M
   pub so : IsJoining cores meshes points faces moved filled
   pub is : answer ≡ join_done output (length meshes) points faces moved filled
 
--- the answer says why tiles are not joined
-abbrev pub IsNotJoined : Answer → Type 0
-IsNotJoined answer = (why : Refusal) × (answer ≡ invalid join_reads (join_error_line why))
+-- the meshes are not joined for a reason, which the line says
+abbrev pub IsNotJoined : List Core → List Mesh → Answer → Type 0
+IsNotJoined cores meshes answer =
+    (why : Refusal) × IsRefusedJoin cores meshes why × (answer ≡ invalid join_reads (join_error_line why))
 
 -- a join is written, or it is said why not
 abbrev pub JoinAnswer : (output : List ℕ) → List Core → List Mesh → Answer → Type 0
-JoinAnswer output cores meshes answer = WritesJoined output cores meshes answer ⊎ IsNotJoined answer
+JoinAnswer output cores meshes answer = WritesJoined output cores meshes answer ⊎ IsNotJoined cores meshes answer
 
 -- the meshes in the files of the tiles are joined, or one of the files is rejected
 abbrev pub TilesAnswer : (limit : ℕ) → (output : List ℕ) → Files → List TileLine → Answer → Type 0
@@ -134,11 +138,15 @@ TilesAnswer limit output files tiles answer =
     ((meshes : List Mesh) × AreMeshFiles limit files tiles meshes × JoinAnswer output (cores_of tiles) meshes answer)
     ⊎ ((line : List ℕ) × IsRejectedTile limit files tiles line × (answer ≡ invalid join_reads line))
 
+-- the bytes are no list of tiles: the line says the first error
+abbrev pub IsRejectedList : (bytes line : List ℕ) → Type 0
+IsRejectedList bytes line = (why : LineRefusal) × IsRefusedTiles bytes why × (tiles_error_line why ≡ Some line)
+
 -- the bytes are a list whose tiles are answered, or they are rejected
 abbrev pub ListAnswer : (limit : ℕ) → (output : List ℕ) → Files → (bytes : List ℕ) → Answer → Type 0
 ListAnswer limit output files bytes answer =
     ((list : List Entry) × IsTileList bytes list × TilesAnswer limit output files (tiles_of list) answer)
-    ⊎ ((why : LineRefusal) × (line : List ℕ) × (tiles_error_line why ≡ Some line) × (answer ≡ invalid join_reads line))
+    ⊎ ((line : List ℕ) × IsRejectedList bytes line × (answer ≡ invalid join_reads line))
 
 -- the answer to these files: the list is too long, or answered
 abbrev pub ToTiles : (limit : ℕ) → Names → Files → Answer → Type 0

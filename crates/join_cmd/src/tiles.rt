@@ -1,7 +1,7 @@
 //! The tiles of a list, and their cores.
 
 ghost use Rattle.std.specs.Prelude.{◌≡◌, IfOk, All};
-ghost use Rattle.tile_list.specs.Entries.{IsBoxedEntry, IsBoxedCorner, IsBoxedTile};
+ghost use Rattle.tile_list.specs.Entries.{IsBoxedCorner, IsBoxedTile, IsEntry};
 ghost use Rattle.join_cmd.specs.Join.{point_of_corner, tiles_of, core_of, cores_of};
 
 use command_run::NoMemory;
@@ -15,7 +15,7 @@ pub(crate) fn tiles_in<'a>(
     alloc: Global,
     entries: &[Entry<'a>],
 ) -> Result<Vec<TileLine<'a>>, NoMemory>
-    requires { All IsBoxedEntry entries.now }
+    requires { All IsEntry entries.now }
     ensures tiles { IfOk result (λ tiles. tiles.items ≡ tiles_of entries.now) }
     ensures boxed { IfOk result (λ tiles. All IsBoxedTile tiles.items) }
 {

@@ -53,7 +53,7 @@ simplify_done output request digest mesh =
 pub record WritesSimplified (output : List ℕ) (request : SimplifyRequest) (digest : List ℕ) (mesh : Surface) (answer : Answer) : Type 0 where
   pub simplified : Surface
   pub printed : IsPrinted simplified.points simplified.faces
-  pub so : IsSimplified request.moves request.options.within mesh.points mesh.faces simplified.points simplified.faces
+  pub so : IsSimplified request.options.moves request.options.within mesh.points mesh.faces simplified.points simplified.faces
   pub near : IsNearIfAsked request.options.surface request.options.within mesh.points mesh.faces simplified.points simplified.faces
   pub is : answer ≡ simplify_done output request digest simplified
 

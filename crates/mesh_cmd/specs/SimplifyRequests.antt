@@ -63,8 +63,7 @@ abbrev pub request_of : GivenNumbers → Option SimplifyRequest
 request_of o =
     option_map
     (λ within. record {
-      options = record { within = within; faces = faces_or_none o.faces; surface = o.surface };
-      moves = o.moves;
+      options = record { within = within; faces = faces_or_none o.faces; surface = o.surface; moves = o.moves };
       comments = o.comments;
     }) o.within
 

@@ -10,8 +10,6 @@ use finish_options::{FARTHEST, SimplifyOptions};
 pub struct SimplifyRequest {
     /// How it is simplified.
     pub options: SimplifyOptions,
-    /// Vertices move (default: false).
-    pub moves: bool,
     /// Comments of the header state it (default: true).
     pub comments: bool,
 }
@@ -64,10 +62,10 @@ fn request_of(given: GivenNumbers) -> Option<SimplifyRequest>
         within,
         faces: faces_or_none(given.faces),
         surface: given.surface,
+        moves: given.moves,
     };
     Some(SimplifyRequest {
         options,
-        moves: given.moves,
         comments: given.comments,
     })
 }

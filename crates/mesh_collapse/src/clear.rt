@@ -74,7 +74,14 @@ fn are_known_apart(points: &[Point], one: [u32; 3], other: [u32; 3]) -> bool {
     are_apart(points, one, other) && are_apart(points, other, one)
 }
 
-/// Returns whether a new face is apart from another face. The planes of the two are tried in floating point first.
+/// Returns whether all corners of a face are those of another.
+fn is_same(one: [u32; 3], other: [u32; 3]) -> bool {
+    let [a, b, c] = other;
+    has(one, a) && has(one, b) && has(one, c)
+}
+
+/// Returns whether a new face is apart from another face, and has not its three corners. The planes of the two are tried in floating point
+/// first.
 fn is_apart(
     places: &[Point],
     new: &Changed,
@@ -82,6 +89,9 @@ fn is_apart(
     spots: &Corners,
     normal: Way,
 ) -> bool {
+    if is_same(new.corners, other) {
+        return false;
+    }
     if is_off(new.normal, new.corners, new.spots.a, other, spots) {
         return true;
     }

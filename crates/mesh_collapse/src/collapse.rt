@@ -16,6 +16,7 @@ use crate::over::are_over;
 use crate::passes::make_passes;
 use crate::planes::{Planes, UNKNOWN, cheapest_placed, placed};
 use crate::reach::{Lists, keeps_points};
+use crate::repeat::{History, Notes, Step, history_of, repeat};
 use crate::shape::{Ends, has_shape};
 use crate::surface::Surface;
 use geo_sign::Point;
@@ -44,6 +45,8 @@ pub struct Collapsed {
     pub homes: Vec<u32>,
     /// For each given vertex where it is, if it is left.
     pub places: Vec<Point>,
+    /// How the search went, if limits are given.
+    pub history: History,
 }
 
 /// All that a search works on.
@@ -65,11 +68,14 @@ pub(crate) struct Work {
     pub(crate) places: bool,
     /// The number of each given vertex along the curve.
     pub(crate) vertices: Vec<u32>,
+    pub(crate) notes: Notes,
 }
 
-/// Returns whether a collapse may be made, where the vertex that stays is at its new place.
+/// Returns whether a collapse may be made, where the vertex that stays is at its new place. One that an earlier search made is not tested
+/// for what other faces have to do with it.
 fn is_allowed(work: &mut Work, fan: &mut Fan, ends: &Ends) -> Result<bool, NoMemory> {
-    if !work.marks.is_linked(&work.surface, &fan.ring, &fan.star) {
+    let known = work.notes.is_known(&work.surface, fan);
+    if !known && !work.marks.is_linked(&work.surface, &fan.ring, &fan.star) {
         return Ok(false);
     }
     fan.note_collapse(&work.surface)?;
@@ -78,6 +84,9 @@ fn is_allowed(work: &mut Work, fan: &mut Fan, ends: &Ends) -> Result<bool, NoMem
     }
     if !keeps_points(&work.surface, &work.lists, fan, ends.u)? {
         return Ok(false);
+    }
+    if known {
+        return Ok(true);
     }
     if !is_clear(&work.surface, &work.boxes, fan, ends.v) {
         return Ok(false);
@@ -106,8 +115,21 @@ pub(crate) fn try_edge(
         let _ = work.surface.move_to(v, was);
         return Ok(false);
     }
+    note_step(work, &ends)?;
     commit(work, fan, ends.u, v);
     Ok(true)
+}
+
+/// Notes a collapse that is made.
+fn note_step(work: &mut Work, ends: &Ends) -> Result<(), NoMemory> {
+    let Some(place) = work.surface.places.get(ends.v as usize).copied() else {
+        return Ok(());
+    };
+    work.notes.note(Step {
+        from: number_at(&work.surface.origin, ends.u),
+        to: number_at(&work.surface.origin, ends.v),
+        place,
+    })
 }
 
 /// Returns the half edge of the cheapest collapse of a vertex whose cost is known.
@@ -157,7 +179,13 @@ pub(crate) fn cost_of(work: &mut Work, u: u32) -> f64 {
 }
 
 /// Returns the work on a mesh.
-fn work_on(alloc: Global, ordered: Ordered, given: Given, moves: bool) -> Result<Work, NoMemory> {
+fn work_on(
+    alloc: Global,
+    ordered: Ordered,
+    given: Given,
+    moves: bool,
+    keeps: bool,
+) -> Result<Work, NoMemory> {
     let Ordered {
         vertices,
         places,
@@ -190,6 +218,7 @@ fn work_on(alloc: Global, ordered: Ordered, given: Given, moves: bool) -> Result
         planes: vec![in alloc; UNKNOWN; if moves { count } else { 0 }]?,
         places: false,
         vertices,
+        notes: Notes::empty(alloc, keeps),
         surface,
     })
 }
@@ -208,7 +237,7 @@ fn limits_of(
     Ok(list)
 }
 
-/// Returns the given mesh in its order, with its faces if limits are given.
+/// Returns the given mesh in its order, with its faces if some limits are less than the distance.
 fn given_of(
     alloc: Global,
     ordered: &Ordered,
@@ -216,28 +245,33 @@ fn given_of(
     limits: &[u32],
 ) -> Result<Given, NoMemory> {
     let list = limits_of(alloc, &ordered.vertices, within, limits)?;
-    let faces = if limits.is_empty() {
-        &[]
-    } else {
+    let faces = if limits.iter().any(|limit| *limit < within) {
         &ordered.faces[..]
+    } else {
+        &[]
     };
-    Given::of(alloc, &ordered.places, faces, list)
+    Given::of(alloc, &ordered.places, faces, list, within)
 }
 
-/// Collapses edges of a mesh while its given vertices stay within a distance of the faces, down to a number of faces.
+/// Collapses edges of a mesh while its given vertices stay within a distance of the faces, down to a number of faces. Around vertices whose
+/// limits are less than the distance, points of the given faces and of the new ones are looked at too.
 ///
-/// Nothing is promised of the result. The search makes some 30 passes over the vertices, each in the time of sorting them.
+/// Nothing is promised of the result. The search makes some 30 passes over the vertices, each in the time of sorting them. It first repeats
+/// an earlier search on the same mesh, if that has a history.
 pub fn collapse_edges(
     alloc: Global,
     points: &[Point],
     faces: &[[u32; 3]],
     request: Request,
     limits: &[u32],
+    history: &History,
 ) -> Result<Collapsed, NoMemory> {
     let ordered = along_curve(alloc, points, faces)?;
     let given = given_of(alloc, &ordered, request.within, limits)?;
-    let mut work = work_on(alloc, ordered, given, request.moves)?;
+    let mut work = work_on(alloc, ordered, given, request.moves, !limits.is_empty())?;
     let mut fan = Fan::empty(alloc);
+    repeat(alloc, &mut work, &mut fan, history)?;
     make_passes(alloc, &mut work, &mut fan, request.faces as usize)?;
-    collapsed_of(alloc, &work, points)
+    let history = history_of(alloc, &mut work)?;
+    collapsed_of(alloc, &work, points, history)
 }

@@ -55,6 +55,8 @@ pub(crate) struct Fan {
     pub(crate) moved: Vec<Moved>,
     /// Whether the vertex that stays moves.
     pub(crate) moves: bool,
+    /// The least distance within which one of the points that move to other faces has to stay.
+    pub(crate) least: f64,
 }
 
 impl Fan {
@@ -69,6 +71,7 @@ impl Fan {
             changed: Vec::new(alloc),
             moved: Vec::new(alloc),
             moves: false,
+            least: f64::INFINITY,
         }
     }
 

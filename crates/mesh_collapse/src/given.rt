@@ -1,5 +1,5 @@
-//! The given mesh, and its places that have to stay near the faces: its vertices, and if all of its points have to, three on
-//! each edge and the middles of its faces too.
+//! The given mesh, and its places that have to stay near the faces: its vertices, and on faces whose vertices have to stay nearer than
+//! others three on each edge and the middle too.
 //!
 //! Of `V` vertices and `F` faces, place `v` is vertex `v`, place `V + 3 h + k` is on half edge `h`, and place `V + 9 F + f` is the middle of
 //! face `f`.
@@ -20,10 +20,12 @@ use std::num::saturating_f64_to_i64;
 #[derive(Drop)]
 pub(crate) struct Given {
     pub(crate) points: Vec<Point>,
-    /// The faces; none if only vertices have to stay near.
+    /// The faces; none if all vertices have to stay equally near.
     pub(crate) faces: Vec<[u32; 3]>,
     /// For each vertex how near faces have to stay to it, and to the faces around it.
     pub(crate) limits: Vec<u32>,
+    /// How near faces have to stay to most vertices.
+    pub(crate) within: f64,
     boxes: Boxes,
 }
 
@@ -67,12 +69,13 @@ fn hull_around(p: Way, reach: f64) -> Hull {
 }
 
 impl Given {
-    /// Returns a given mesh, with its faces if all of its points have to stay near.
+    /// Returns a given mesh, with its faces if some vertices have to stay nearer than others.
     pub(crate) fn of(
         alloc: Global,
         places: &[Point],
         faces: &[[u32; 3]],
         limits: Vec<u32>,
+        within: u32,
     ) -> Result<Given, NoMemory> {
         let mut points = Vec::with_capacity(alloc, places.len())?;
         points.extend_from_slice(places)?;
@@ -83,6 +86,7 @@ impl Given {
             boxes: Boxes::of(alloc, places, &own)?,
             faces: own,
             limits,
+            within: f64::from(within),
         })
     }
 
@@ -98,6 +102,16 @@ impl Given {
     pub(crate) fn limit_on(&self, face: [u32; 3]) -> f64 {
         let [a, b, c] = face;
         self.limit_at(a).min(self.limit_at(b)).min(self.limit_at(c))
+    }
+
+    /// Returns whether faces have to stay nearer to a vertex than to most.
+    pub(crate) fn is_strict(&self, v: u32) -> bool {
+        self.limit_at(v) < self.within
+    }
+
+    /// Returns whether they have to stay nearer to a face.
+    pub(crate) fn is_strict_on(&self, f: u32) -> bool {
+        self.limit_on(self.face(f)) < self.within
     }
 
     /// Returns a face.

@@ -4,6 +4,7 @@ use crate::NoMemory;
 use crate::collapse::{Collapsed, Work};
 use crate::numbers::{NONE, number_at, put};
 use crate::order::short;
+use crate::repeat::History;
 use geo_sign::Point;
 use std::alloc::Global;
 
@@ -60,12 +61,14 @@ pub(crate) fn collapsed_of(
     alloc: Global,
     work: &Work,
     points: &[Point],
+    history: History,
 ) -> Result<Collapsed, NoMemory> {
     let mut list = Collapsed {
         faces: Vec::with_capacity(alloc, work.surface.live)?,
         source: Vec::with_capacity(alloc, work.surface.live)?,
         homes: vec![in alloc; NONE; work.vertices.len()]?,
         places: Vec::with_capacity(alloc, points.len())?,
+        history,
     };
     list.places.extend_from_slice(points)?;
     note_places(work, &mut list.places);

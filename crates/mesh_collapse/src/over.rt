@@ -1,4 +1,4 @@
-//! Whether the new faces of a collapse stay near the given mesh, by some of their points.
+//! Whether the new faces of a collapse stay near the given mesh, by some of their points, where faces have to stay nearer than elsewhere.
 
 use crate::fan::{Changed, Fan};
 use crate::given::{Given, middle_of};
@@ -53,10 +53,13 @@ fn given_face(surface: &Surface, face: [u32; 3]) -> [u32; 3] {
     ]
 }
 
-/// Returns whether a vertex is near the given mesh.
-fn is_vertex_over(given: &Given, surface: &Surface, v: u32) -> bool {
-    let limit = given.limit_at(number_at(&surface.origin, v));
-    given.is_near(surface.spot_at(v), limit)
+/// Returns how near the new faces have to stay to the given mesh: as near as to one of their corners, or of the points that move to them.
+fn limit_of(given: &Given, surface: &Surface, fan: &Fan) -> f64 {
+    let mut limit = fan.least;
+    for new in &fan.changed {
+        limit = limit.min(given.limit_on(given_face(surface, new.corners)));
+    }
+    limit
 }
 
 /// Returns whether the middles of the new faces, and points of their new sides at the vertex that stays, are near the given mesh, and that
@@ -65,11 +68,14 @@ pub(crate) fn are_over(given: &Given, surface: &Surface, fan: &Fan, v: u32) -> b
     if given.faces.is_empty() {
         return true;
     }
-    if fan.moves && !is_vertex_over(given, surface, v) {
+    let limit = limit_of(given, surface, fan);
+    if !(limit < given.within) {
+        return true;
+    }
+    if fan.moves && !given.is_near(surface.spot_at(v), limit) {
         return false;
     }
     for new in &fan.changed {
-        let limit = given.limit_on(given_face(surface, new.corners));
         if !given.is_near(middle_of(&new.spots), limit) {
             return false;
         }

@@ -160,9 +160,14 @@ pub(crate) fn pack(alloc: Global, work: &mut Work) -> Result<(), NoMemory> {
     Ok(())
 }
 
+/// Returns whether less than six tenths of the faces are left.
+pub(crate) fn is_sparse(work: &Work) -> bool {
+    work.surface.live <= work.surface.faces.len() / 10 * 6
+}
+
 /// Leaves out what is gone, if less than six tenths of the faces are left.
 pub(crate) fn pack_if_sparse(alloc: Global, work: &mut Work) -> Result<(), NoMemory> {
-    if work.surface.live > work.surface.faces.len() / 10 * 6 {
+    if !is_sparse(work) {
         return Ok(());
     }
     pack(alloc, work)

@@ -81,6 +81,7 @@ fn improved_beside(fan: &Fan, p: Way, within: f64, best: Best) -> Best {
 /// Finds a face that a point is near, and returns whether there is one.
 fn place_point(lists: &Lists, fan: &mut Fan, point: u32) -> Result<bool, NoMemory> {
     let probe = lists.given.probe(point);
+    fan.least = fan.least.min(probe.limit);
     let best = nearest_face(fan, probe.at, probe.limit);
     if !best.is_near() {
         return Ok(false);
@@ -137,6 +138,7 @@ pub(crate) fn keeps_points(
     u: u32,
 ) -> Result<bool, NoMemory> {
     fan.moved.clear();
+    fan.least = f64::INFINITY;
     if !lists.moves && !place_point(lists, fan, number_at(&surface.origin, u))? {
         return Ok(false);
     }
@@ -147,8 +149,8 @@ pub(crate) fn keeps_points(
 }
 
 impl Lists {
-    /// Returns the lists at the start: the middle of each face and places on its sides, if these have to stay near, and the vertices, if
-    /// these move.
+    /// Returns the lists at the start: the middle of each face that has to stay nearer than others and places on its sides, and the
+    /// vertices, if these move.
     pub(crate) fn of(
         alloc: Global,
         given: Given,
@@ -162,7 +164,9 @@ impl Lists {
             moves,
         };
         for f in 0..lists.given.faces.len() {
-            lists.begin(short(f));
+            if lists.given.is_strict_on(short(f)) {
+                lists.begin(short(f));
+            }
         }
         if moves {
             lists.note_vertices(alloc, surface)?;

@@ -57,43 +57,54 @@ impl Extent {
     }
 }
 
-/// Returns the box of a face.
-fn extent_of(onto: &Mesh, i: usize) -> Option<Extent> {
-    let face = onto.faces.get(i)?;
-    Some(Extent::of(&corners_of(&onto.points, *face)))
+/// A face that may be near a part, with its box, so that most faces are left out without a look at their corners.
+#[derive(Clone, Copy)]
+pub(crate) struct Nearby {
+    face: usize,
+    extent: Extent,
 }
 
-/// Appends those of the last numbers whose faces may be within reach of some of a part.
-fn push_near(
-    onto: &Mesh,
-    part: &Part,
-    within: u32,
-    list: &mut Vec<usize>,
-    from: usize,
-) -> Result<(), NoMemory> {
+impl Nearby {
+    /// Returns a face by its number, if there is one.
+    pub(crate) fn of(onto: &Mesh, face: usize) -> Option<Nearby> {
+        let corners = onto.faces.get(face)?;
+        Some(Nearby {
+            face,
+            extent: Extent::of(&corners_of(&onto.points, *corners)),
+        })
+    }
+}
+
+/// Exchanges two faces of a list.
+fn exchange(list: &mut [Nearby], i: usize, j: usize) {
+    if i < list.len() && j < list.len() {
+        list.swap(i, j);
+    }
+}
+
+/// Moves those of the first faces of a list that may be within reach of some of a part to its front, and returns how many they are.
+fn bring_near(part: &Part, within: u32, list: &mut [Nearby], count: usize) -> usize {
     let extent = Extent::of(&part.spots);
     let reach = f64::from(within);
-    for at in from..list.len() {
-        if let Some(i) = list.get(at).copied() {
-            if extent_of(onto, i).is_some_and(|it| it.meets(&extent, reach)) {
-                list.push(i)?;
-            }
+    let mut near = 0usize;
+    for at in 0..count.min(list.len()) {
+        if list[at].extent.meets(&extent, reach) {
+            exchange(list, near, at);
+            near = near.saturating_add(1);
         }
     }
-    Ok(())
+    near
 }
 
-/// Returns whether all of a part is shown to be within reach of one of the last faces of a list.
-fn is_near_one(onto: &Mesh, part: &Part, within: u32, list: &[usize], from: usize) -> bool
+/// Returns whether all of a part is shown to be within reach of one of the first faces of a list.
+fn is_near_one(onto: &Mesh, part: &Part, within: u32, list: &[Nearby], count: usize) -> bool
     requires { All (IsFace (length onto.now.points.items)) onto.now.faces.items }
     ensures { OnTrue result (IsTriangleCovered within onto.now.points.items onto.now.faces.items part.now.scale part.now.a part.now.b part.now.c) }
 {
     let extent = Extent::of(&part.spots);
     let reach = f64::from(within);
-    for i in list.iter().skip(from) {
-        if extent_of(onto, *i).is_some_and(|it| it.holds(&extent, reach))
-            && is_part_near(onto, *i, part, within)
-        {
+    for near in list.iter().take(count) {
+        if near.extent.holds(&extent, reach) && is_part_near(onto, near.face, part, within) {
             return true;
         }
     }
@@ -102,48 +113,45 @@ fn is_near_one(onto: &Mesh, part: &Part, within: u32, list: &[usize], from: usiz
 
 /// Returns whether each point of a part is shown to be within reach of a face, by parts of parts down to a depth.
 ///
-/// The faces that are tried are those of `list` from `from` on. It is as long as before if the answer is yes.
+/// The faces that are tried are the first `count` of `list`. Their order changes.
 pub(crate) fn is_covered(
     onto: &Mesh,
     part: &Part,
     within: u32,
-    list: &mut Vec<usize>,
-    from: usize,
+    list: &mut [Nearby],
+    count: usize,
     depth: u32,
 ) -> Result<bool, NoMemory>
     requires { All (IsFace (length onto.now.points.items)) onto.now.faces.items }
     ensures { IfOk result (λ yes. OnTrue yes (IsTriangleCovered within onto.now.points.items onto.now.faces.items part.now.scale part.now.a part.now.b part.now.c)) }
 {
-    let start = list.len();
-    push_near(onto, part, within, list, from)?;
-    if is_near_one(onto, part, within, list, start) {
-        list.truncate(start);
+    let near = bring_near(part, within, list, count);
+    if is_near_one(onto, part, within, list, near) {
         return Ok(true);
     }
-    if depth == 0 || list.len() == start {
+    if depth == 0 || near == 0 {
         return Ok(false);
     }
     if !part.is_small() {
         return Ok(false);
     }
     let corner = part.corner();
-    if !is_covered(onto, &corner, within, list, start, depth - 1)? {
+    if !is_covered(onto, &corner, within, list, near, depth - 1)? {
         return Ok(false);
     }
     let turned = part.turned();
     let corner = turned.corner();
-    if !is_covered(onto, &corner, within, list, start, depth - 1)? {
+    if !is_covered(onto, &corner, within, list, near, depth - 1)? {
         return Ok(false);
     }
     let turned = turned.turned();
     let corner = turned.corner();
-    if !is_covered(onto, &corner, within, list, start, depth - 1)? {
+    if !is_covered(onto, &corner, within, list, near, depth - 1)? {
         return Ok(false);
     }
     let middle = part.middle();
-    if !is_covered(onto, &middle, within, list, start, depth - 1)? {
+    if !is_covered(onto, &middle, within, list, near, depth - 1)? {
         return Ok(false);
     }
-    list.truncate(start);
     Ok(true)
 }

@@ -6,7 +6,7 @@ ghost use Rattle.mesh.specs.Meshes.{IsFace, IsMesh, point_at};
 ghost use Rattle.mesh_cover.specs.Covers.{IsCovered, IsFaceCovered, IsTriangleCovered};
 
 use crate::NoMemory;
-use crate::cover::is_covered;
+use crate::cover::{Nearby, is_covered};
 use crate::near::{corners_of, is_part_near};
 use crate::part::Part;
 use crate::place::Place;
@@ -24,6 +24,7 @@ const DEPTH: u32 = 8;
 struct Search {
     order: FaceOrder,
     found: Vec<usize>,
+    nearby: Vec<Nearby>,
 }
 
 /// Returns a span with a distance added on both sides.
@@ -63,14 +64,18 @@ fn whole(points: &[Point], a: u32, b: u32, c: u32) -> Part
     }
 }
 
-/// Puts the numbers of faces in the place of their positions in an order.
-fn take_faces(numbers: &[u32], found: &mut [usize]) {
-    for at in 0..found.len() {
-        found[at] = match numbers.get(found[at]) {
-            Some(number) => *number as usize,
-            None => usize::MAX,
-        };
+/// Lists the faces of a mesh whose boxes overlap a box.
+fn find_nearby(onto: &Mesh, hull: Hull, search: &mut Search) -> Result<(), NoMemory> {
+    search.found.clear();
+    search.nearby.clear();
+    search.order.tree.near(hull, &mut search.found)?;
+    for at in &search.found {
+        let number = search.order.numbers.get(*at).copied();
+        if let Some(near) = number.and_then(|i| Nearby::of(onto, i as usize)) {
+            search.nearby.push(near)?;
+        }
     }
+    Ok(())
 }
 
 /// Returns whether all of a part is shown to be within reach of the hinted face of a vertex.
@@ -108,11 +113,9 @@ fn is_face_covered(
     if is_near_hint(onto, &part, within, hints, c) {
         return Ok(true);
     }
-    search.found.clear();
-    let hull = widened(hull_of(points, face), within);
-    search.order.tree.near(hull, &mut search.found)?;
-    take_faces(&search.order.numbers, &mut search.found);
-    let covered = is_covered(onto, &part, within, &mut search.found, 0, DEPTH)?;
+    find_nearby(onto, widened(hull_of(points, face), within), search)?;
+    let count = search.nearby.len();
+    let covered = is_covered(onto, &part, within, &mut search.nearby, count, DEPTH)?;
     Ok(covered)
 }
 
@@ -144,6 +147,7 @@ fn search_of(alloc: Global, onto: &Mesh) -> Result<Search, NoMemory>
     Ok(Search {
         order: faces_in_order(alloc, onto)?,
         found: Vec::new(alloc),
+        nearby: Vec::new(alloc),
     })
 }
 
@@ -166,20 +170,21 @@ pub fn find_uncovered(
     first_of_faces(&home.points, &home.faces, onto, hints, within, &mut search)
 }
 
-/// Returns the numbers of all such faces. Nothing is stated of them: they are hints.
+/// Returns the numbers of all such faces from a number on. Nothing is stated of them: they are hints.
 pub fn list_uncovered(
     alloc: Global,
     home: &Mesh,
     onto: &Mesh,
     hints: &[u32],
     within: u32,
+    first: usize,
 ) -> Result<Vec<usize>, NoMemory>
     requires home { IsMesh home.now.points.items home.now.faces.items }
     requires onto { IsMesh onto.now.points.items onto.now.faces.items }
 {
     let mut search = search_of(alloc, onto)?;
     let mut list = Vec::new(alloc);
-    for i in 0..home.faces.len() {
+    for i in first..home.faces.len() {
         if !is_face_covered(
             &home.points,
             home.faces[i],

@@ -8,7 +8,7 @@ use Rattle.std.proofs.Math.Seq.{get_or-append_seam}
 use Rattle.geo_sign.specs.Point.{Point}
 use Rattle.mesh.specs.declared.mesh.Mesh.{Mesh}
 use Rattle.std.proofs.lemmas.List.Elements.{All-contains, All-from_get_or, Contains-get_or, Contains-append_left}
-use Rattle.std.proofs.lemmas.List.Elements.{Contains-append_right, Contains-append_cases}
+use Rattle.std.proofs.lemmas.List.Elements.{Contains-append_right, Contains-append_cases, All-push}
 use Rattle.geo_sign.specs.Rising.{IsBefore}
 use Rattle.mesh.specs.Meshes.{IsFace}
 use Rattle.mesh_join.specs.Joins.{faces_of, lists_of, owns, AreTiles, HasOwnerWith, IsJoin, IsJoined, IsNumbered, OwnsFirst}
@@ -128,3 +128,9 @@ numbered_more places meshes tiles t i n before here =
     ∙ (ap (λ (k : ℕ). get_or (lists_of tiles ++ t.faces.items ∷ []) k []) (sym n ∙ sym (count tiles))
     ∙ get_or-append_seam (lists_of tiles) t.faces.items [] [])))
     (here m))
+
+-- what holds of each list holds of one more
+pub all_more : (P : List (List ℕ) → Type 0) (tiles : List Tile) (t : Tile) → All P (lists_of tiles) → P t.faces.items
+    → All P (lists_of (tiles ++ t ∷ []))
+all_more P tiles t all here =
+    subst (λ (ls : List (List (List ℕ))). All P ls) (sym (lists_more tiles t)) (All-push P (lists_of tiles) t.faces.items all here)

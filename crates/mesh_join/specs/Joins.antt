@@ -18,10 +18,12 @@
 --   face_at_places numbers f   a tile's face by numbers of places
 --   IsNumbered places points faces list   the list has exactly the tile's faces, by numbers of places
 --   AreMeshesNumbered places meshes lists   each mesh with its list
---   IsClosedJoin o lists filling points faces   a closed mesh whose faces are a join
+--   IsMeshOfJoin o lists filling points faces   a mesh whose faces are a join
+--   IsClosedJoin o lists filling points faces   a closed one
+--   AreListsOf places meshes lists   fewer than 2^32 places, ascending, and the faces of meshes by their numbers, sorted
 --   IsJoining cores meshes points faces moved filled   a closed mesh whose faces are a join of the meshes, with the numbers
 --                              of moved edges and of filled faces
-use Rattle.std.specs.Prelude.{ℕ, ◌≡◌, ◌+◌, ◌<◌, ◌==◌, ◌&&◌, ◌⊎◌, ◌↔◌, Bool, true, Option, Some, None, nat_eq, nat_lt}
+use Rattle.std.specs.Prelude.{ℕ, ◌≡◌, ◌+◌, ◌<◌, ◌^◌, ◌==◌, ◌&&◌, ◌⊎◌, ◌↔◌, Bool, true, Option, Some, None, nat_eq, nat_lt}
 use Rattle.std.specs.Prelude.{min, max, if◌then◌else◌, ℤ, pos, ◌+ℤ◌, ◌*ℤ◌, ◌<ℤ◌, int_le, int_lt, List, [], ◌∷◌, length, map}
 use Rattle.std.specs.Prelude.{slice_index, slice_index_or, All, AllPairs, Contains}
 use Rattle.std.specs.Cmp.Lexicographic.{slice_cmp}
@@ -139,14 +141,28 @@ AreMeshesNumbered places meshes lists =
     (i : ℕ) (m : Mesh) → i < length meshes
     → IsNumbered places (slice_index_or meshes i m).points.items (slice_index_or meshes i m).faces.items (faces_of lists i)
 
--- a closed mesh that is a join of the lists, each place with a face numbered anew
-pub record IsClosedJoin (o : Owners) (lists : List (List (List ℕ))) (filling : List (List ℕ)) (points : List Point)
+-- a mesh that is a join of the lists, each place with a face numbered anew
+pub record IsMeshOfJoin (o : Owners) (lists : List (List (List ℕ))) (filling : List (List ℕ)) (points : List Point)
     (faces : List (List ℕ)) : Type 0 where
   pub facets : List (List ℕ)
   pub is_join : IsJoin o lists filling facets
   pub same_points : points ≡ (mesh_of o.places.items facets).points
   pub same_faces : faces ≡ (mesh_of o.places.items facets).faces
+
+-- the mesh of a join, and it is closed
+pub record IsClosedJoin (o : Owners) (lists : List (List (List ℕ))) (filling : List (List ℕ)) (points : List Point)
+    (faces : List (List ℕ)) : Type 0 where
+  pub join : IsMeshOfJoin o lists filling points faces
   pub balanced : IsBalanced faces
+
+-- the places rise, and the lists are the meshes by numbers of them
+pub record AreListsOf (places : List Point) (meshes : List Mesh) (lists : List (List (List ℕ))) : Type 0 where
+  pub few : length places < 2 ^ 32
+  pub rising : ArePlacesRising places
+  pub count : length lists ≡ length meshes
+  pub numbered : AreMeshesNumbered places meshes lists
+  pub sorted : All (IsSorted (slice_cmp nat_cmp)) lists
+  pub valid : All (All (IsFace (length places))) lists
 
 -- a closed mesh that is a join of the meshes
 pub record IsJoining (cores : List Core) (meshes : List Mesh) (points : List Point) (faces : List (List ℕ)) (moved filled : ℕ)
@@ -155,9 +171,7 @@ pub record IsJoining (cores : List Core) (meshes : List Mesh) (points : List Poi
   pub lists : List (List (List ℕ))
   pub filling : List (List ℕ)
   pub same_cores : owners.cores.items ≡ cores
-  pub count : length lists ≡ length meshes
-  pub rising : ArePlacesRising owners.places.items
-  pub numbered : AreMeshesNumbered owners.places.items meshes lists
+  pub are_lists : AreListsOf owners.places.items meshes lists
   pub closed : IsClosedJoin owners lists filling points faces
   pub moved_is : moved ≡ hash_map_len owners.moved
   pub filled_is : filled ≡ length filling

@@ -1,2 +1,4 @@
 pub mod Joins
 pub mod Laws
+pub mod Places
+pub mod Refusals

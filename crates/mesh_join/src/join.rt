@@ -1,12 +1,15 @@
 //! The joined mesh, closed.
 
-ghost use Rattle.std.specs.Prelude.{◌≡◌, ◌<◌, ◌^◌, ℕ, List, IfOk, IfNone, All, length};
+ghost use Rattle.std.specs.Prelude.{◌≡◌, ◌<◌, ◌^◌, ◌↔◌, ℕ, List, IsTrue, IfOk, IfErr, All, length};
 ghost use Rattle.std.specs.HashMap.{hash_map_len};
 ghost use Rattle.std.specs.Bool.{OnTrue};
 ghost use Rattle.mesh.specs.Meshes.{IsFace, IsMesh};
 ghost use Rattle.mesh_edges.specs.Edges.{IsBalanced};
-ghost use Rattle.mesh_join.specs.Joins.{lists_of, AreMeshesNumbered, ArePlacesRising, AreTiles, IsClosedJoin, IsJoin, IsJoining};
+ghost use Rattle.mesh_join.specs.Joins.{lists_of, AreListsOf, AreTiles, IsClosedJoin, IsJoin, IsJoining, IsMeshOfJoin};
+ghost use Rattle.mesh_join.specs.Refusals.{IsRefusedJoin, StaysOpen};
+ghost use Rattle.mesh_join.specs.declared.owners.Core.{Core};
 
+use crate::all_places::all_places;
 use crate::fill::patches_of;
 use crate::held::{Tile, joined_faces};
 use crate::owners::{Core, Owners};
@@ -16,6 +19,7 @@ use crate::search::moved_edges;
 use crate::slots::places_of;
 use crate::twins::twins_of;
 use crate::{Mesh, NoMemory};
+use geo_sign::Point;
 use half_edges::{are_twins, paired_meshes_are_closed};
 use mesh::mesh_of_facets;
 use mesh_edges::{UnbalancedEdge, first_unbalanced};
@@ -39,7 +43,7 @@ pub enum Refusal {
     TooMany,
     /// The tile with this number has a face with two vertices at one place.
     Flat(usize),
-    /// An edge stays open: by its vertices in the mesh that was tried.
+    /// An edge stays open, also with filled faces: by its vertices in the mesh that was tried last.
     Open(UnbalancedEdge),
 }
 
@@ -49,6 +53,13 @@ struct Trial {
     mesh: Mesh,
     facets: Vec<[u32; 3]>,
     twins: Vec<u32>,
+}
+
+/// Places, and the faces of tiles by their numbers.
+#[derive(Drop)]
+struct Numbering {
+    places: Vec<Point>,
+    tiles: Vec<Tile>,
 }
 
 /// Returns the joined faces and those of a list, ascending.
@@ -79,7 +90,7 @@ fn attempt(
     requires few { length owners.now.places.items < 2 ^ 32 }
     requires tiles { AreTiles owners.now (lists_of tiles.now) }
     requires filling { All (IsFace (length owners.now.places.items)) filling.now }
-    ensures join { IfOk result (λ a. IsBalanced a.mesh.faces.items → IsClosedJoin owners.now (lists_of tiles.now) filling.now a.mesh.points.items a.mesh.faces.items) }
+    ensures join { IfOk result (λ a. IsMeshOfJoin owners.now (lists_of tiles.now) filling.now a.mesh.points.items a.mesh.faces.items) }
     ensures valid { IfOk result (λ a. IsMesh a.mesh.points.items a.mesh.faces.items) }
 {
     let facets = facets_of(alloc, owners, tiles, filling)?;
@@ -93,12 +104,24 @@ fn attempt(
 }
 
 /// Returns whether the twins of a mesh show that it is closed.
-fn is_closed(mesh: &Mesh, twins: &[u32]) -> bool
+fn is_paired(mesh: &Mesh, twins: &[u32]) -> bool
     requires { IsMesh mesh.now.points.items mesh.now.faces.items }
     ensures { OnTrue result (IsBalanced mesh.now.faces.items) }
 {
     paired_meshes_are_closed();
     are_twins(&mesh.faces, twins)
+}
+
+/// Returns whether a mesh is closed. If its twins do not show that, all edges are sorted.
+fn is_closed(alloc: Global, mesh: &Mesh, twins: &[u32]) -> Result<bool, NoMemory>
+    requires { IsMesh mesh.now.points.items mesh.now.faces.items }
+    ensures { IfOk result (λ closed. IsTrue closed ↔ IsBalanced mesh.now.faces.items) }
+{
+    if is_paired(mesh, twins) {
+        return Ok(true);
+    }
+    let edge = first_unbalanced(alloc, mesh)?;
+    Ok(edge.is_none())
 }
 
 /// Returns the faces of a list that are valid among `n` places.
@@ -119,17 +142,17 @@ fn close(
     alloc: Global,
     owners: &Owners,
     tiles: &[Tile],
-) -> Result<Result<Joined, Refusal>, NoMemory>
+) -> Result<Result<Joined, UnbalancedEdge>, NoMemory>
     requires few { length owners.now.places.items < 2 ^ 32 }
     requires tiles { AreTiles owners.now (lists_of tiles.now) }
     ensures closed { IfOk result (λ r. IfOk r (λ j. (filling : List (List ℕ)) × IsClosedJoin owners.now (lists_of tiles.now) filling j.mesh.points.items j.mesh.faces.items × (j.filled ≡ length filling))) }
     ensures moved { IfOk result (λ r. IfOk r (λ j. j.moved ≡ hash_map_len owners.now.moved)) }
     ensures valid { IfOk result (λ r. IfOk r (λ j. IsMesh j.mesh.points.items j.mesh.faces.items)) }
+    ensures open { IfOk result (λ r. IfErr r (StaysOpen owners.now (lists_of tiles.now))) }
 {
     let moved = owners.moved.len();
-    let none = Vec::new(alloc);
-    let first = attempt(alloc, owners, tiles, &none)?;
-    if is_closed(&first.mesh, &first.twins) {
+    let first = attempt(alloc, owners, tiles, &[])?;
+    if is_closed(alloc, &first.mesh, &first.twins)? {
         return Ok(Ok(Joined {
             mesh: first.mesh,
             moved,
@@ -146,7 +169,29 @@ fn close(
             moved,
             filled: filling.len(),
         })),
-        Some(edge) => Ok(Err(Refusal::Open(edge))),
+        Some(edge) => Ok(Err(edge)),
+    }
+}
+
+/// Numbers the places of vertices. Those that are found soon are used if they fit, else those of a verified sort.
+fn number(alloc: Global, meshes: &[Mesh]) -> Result<Result<Numbering, Refusal>, NoMemory>
+    requires { All (λ m. IsMesh m.points.items m.faces.items) meshes.now }
+    ensures lists { IfOk result (λ r. IfOk r (λ n. AreListsOf n.places.items meshes.now (lists_of n.tiles.items))) }
+    ensures refused { IfOk result (λ r. IfErr r (λ why. (cores : List Core) → IsRefusedJoin cores meshes.now why)) }
+{
+    let places = places_of(alloc, meshes)?;
+    if places.len() <= u32::MAX as usize && are_rising(&places) {
+        if let Ok(tiles) = tiles_of(alloc, &places, meshes)? {
+            return Ok(Ok(Numbering { places, tiles }));
+        }
+    }
+    let places = all_places(alloc, meshes)?;
+    if places.len() > u32::MAX as usize {
+        return Ok(Err(Refusal::TooMany));
+    }
+    match tiles_of(alloc, &places, meshes)? {
+        Ok(tiles) => Ok(Ok(Numbering { places, tiles })),
+        Err(tile) => Ok(Err(Refusal::Flat(tile))),
     }
 }
 
@@ -154,8 +199,8 @@ fn close(
 ///
 /// A tile owns the edges whose middle lies in its core, but for some edges that are moved to another tile, so that tiles agree about
 /// every face. Where they still do not, faces of no tile fill what stays open. Both are looked for without a promise; the result is
-/// verified: a face is joined exactly if the owners of its three edges have it, and the mesh is closed. `Refusal` says nothing of
-/// the tiles but for `Flat`.
+/// verified: a face is joined exactly if the owners of its three edges have it, and the mesh is closed. So is an error: `Flat` and
+/// `TooMany` are about the meshes, and `Open` is about the join that was found and the faces that fill it.
 ///
 /// Places and faces are sorted, and all else is linear but for faces at several cores.
 pub fn join_tiles(
@@ -167,14 +212,11 @@ pub fn join_tiles(
     requires valid { All (λ m. IsMesh m.points.items m.faces.items) meshes.now }
     ensures joining { IfOk result (λ r. IfOk r (λ j. IsJoining cores.items meshes.now j.mesh.points.items j.mesh.faces.items j.moved j.filled)) }
     ensures valid { IfOk result (λ r. IfOk r (λ j. IsMesh j.mesh.points.items j.mesh.faces.items)) }
+    ensures refused { IfOk result (λ r. IfErr r (IsRefusedJoin cores.items meshes.now)) }
 {
-    let places = places_of(alloc, meshes)?;
-    if places.len() > u32::MAX as usize || !are_rising(&places) {
-        return Ok(Err(Refusal::TooMany));
-    }
-    let tiles = match tiles_of(alloc, &places, meshes)? {
-        Ok(tiles) => tiles,
-        Err(tile) => return Ok(Err(Refusal::Flat(tile))),
+    let Numbering { places, tiles } = match number(alloc, meshes)? {
+        Ok(numbering) => numbering,
+        Err(why) => return Ok(Err(why)),
     };
     let moved = moved_edges(alloc, &cores, &places, &tiles)?;
     let owners = Owners {
@@ -182,5 +224,8 @@ pub fn join_tiles(
         places,
         moved,
     };
-    close(alloc, &owners, &tiles)
+    match close(alloc, &owners, &tiles)? {
+        Ok(joined) => Ok(Ok(joined)),
+        Err(edge) => Ok(Err(Refusal::Open(edge))),
+    }
 }

@@ -13,6 +13,7 @@
 //! the mesh is closed.
 #![tactic(auto)]
 
+mod all_places;
 mod apart;
 mod crossing;
 mod fill;

@@ -1,5 +1,6 @@
 //! Collects the places of vertices, and finds their numbers soon. No clause depends on it: `are_rising` and `numbers_of` verify them.
 
+use crate::all_places::all_places;
 use crate::{Mesh, NoMemory};
 use geo_sign::Point;
 use std::alloc::Global;
@@ -84,7 +85,7 @@ fn frame_of(meshes: &[Mesh]) -> Frame {
 }
 
 /// Returns the number of points of all meshes.
-fn count_of(meshes: &[Mesh]) -> usize {
+pub(crate) fn count_of(meshes: &[Mesh]) -> usize {
     let mut count = 0usize;
     for mesh in meshes {
         count = count.saturating_add(mesh.points.len());
@@ -110,22 +111,11 @@ fn keys_of(alloc: Global, frame: &Frame, meshes: &[Mesh]) -> Result<Vec<u64>, No
     Ok(keys)
 }
 
-/// Returns the places of all vertices where keys have more than 64 bits.
-fn wide_places(alloc: Global, meshes: &[Mesh]) -> Result<Vec<Point>, NoMemory> {
-    let mut places = Vec::new(alloc);
-    for mesh in meshes {
-        places.extend_from_slice(&mesh.points)?;
-    }
-    places.sort_unstable();
-    places.dedup();
-    Ok(places)
-}
-
 /// Returns the places of all vertices, ascending, each once.
 pub(crate) fn places_of(alloc: Global, meshes: &[Mesh]) -> Result<Vec<Point>, NoMemory> {
     let frame = frame_of(meshes);
     if !frame.is_small() {
-        return wide_places(alloc, meshes);
+        return all_places(alloc, meshes);
     }
     let keys = keys_of(alloc, &frame, meshes)?;
     let mut places = Vec::with_capacity(alloc, keys.len())?;

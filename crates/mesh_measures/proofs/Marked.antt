@@ -107,42 +107,6 @@ module _ (faces : List (List ℕ)) (sides : List Side) (i : ℕ) where
 
 -- the corners at vertices
 module _ (faces : List (List ℕ)) (c v : ℕ) (at : start faces c ≡ v) where
-  -- a vertex that was not seen
-  pub seen_more : (seen : List Bool) → v < length seen → IsFlagged (HasCorner faces c) seen
-      → IsFlagged (HasCorner faces (c + 1)) (set seen v true)
-  seen_more seen l was =
-      marked_as (λ w. HasCorner faces c w ⊎ (w ≡ v)) (HasCorner faces (c + 1)) (set seen v true) (λ w m p. to w p)
-      (λ w m h. from w h) (marked_one (HasCorner faces c) seen v l was)
-    where
-      to : (w : ℕ) → HasCorner faces c w ⊎ (w ≡ v) → HasCorner faces (c + 1) w
-      to w (inl h) = (h.0, omega (arith, h.1), h.2)
-      to w (inr e) = (c, omega arith, at ∙ sym e)
-
-      from : (w : ℕ) → HasCorner faces (c + 1) w → HasCorner faces c w ⊎ (w ≡ v)
-      from w h =
-          elim (cases_lt h.0 c) [
-            | inl less ↦ inl (h.0, less, h.2)
-            | inr more ↦
-                let e : h.0 ≡ c = omega (arith, h.1) in
-                inr (sym h.2 ∙ (ap (start faces) e ∙ at))
-          ]
-
-  -- one that was
-  pub seen_again : (seen : List Bool) → HasCorner faces c v → IsFlagged (HasCorner faces c) seen
-      → IsFlagged (HasCorner faces (c + 1)) seen
-  seen_again seen had was =
-      marked_as (HasCorner faces c) (HasCorner faces (c + 1)) seen (λ w m h. (h.0, omega (arith, h.1), h.2)) (λ w m h. from w h)
-      was
-    where
-      from : (w : ℕ) → HasCorner faces (c + 1) w → HasCorner faces c w
-      from w h =
-          elim (cases_lt h.0 c) [
-            | inl less ↦ (h.0, less, h.2)
-            | inr more ↦
-                let e : h.0 ≡ c = omega (arith, h.1) in
-                (had.0, had.1, had.2 ∙ (sym at ∙ (ap (start faces) (sym e) ∙ h.2)))
-          ]
-
   module _ (parents : List ℕ) (R : ℕ → Type 0) (flags : List Bool) where
     abbrev Was : ℕ → Type 0
     Was w = R w ⊎ HasSecond faces parents c w

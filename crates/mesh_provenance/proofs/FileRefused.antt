@@ -5,7 +5,6 @@
 use Rattle.std.proofs.Common.{ℕ, ◌≡◌, ◌-◌, ◌^◌, ◌⊎◌, inl, inr, refl, ap, sym, subst, ◌∙◌, arith, Option, Some, None, List, ◌++◌}
 use Rattle.std.proofs.Common.{Result, Ok, Err, IfOk, IfErr, IsErr, MatchResult}
 use Rattle.geo_sign.specs.Point.{Point}
-use Rattle.line_text.specs.Numbers.{BeginsWithNone}
 use Rattle.line_text.proofs.Fronts.{cut_or_bad_same}
 use Rattle.line_text.proofs.Parts.{IsOnce, IsPassed, number_once, number_passed}
 use Rattle.certificate.specs.Stamps.{IsDigest}
@@ -18,10 +17,9 @@ use Rattle.mesh_ply.proofs.MeshRefused.{mesh_once, printed_not_refused}
 use Rattle.mesh_provenance.specs.declared.provenance.AnnotatedMesh.{AnnotatedMesh}
 use Rattle.mesh_provenance.specs.declared.provenance.Provenance.{Provenance}
 use Rattle.mesh_provenance.specs.Laws.{IsFile}
-use Rattle.mesh_provenance.specs.Refusals.{head_text, Origin, IsOrigin, origin_text, RefusedOrigin, later, AtMeshBehind, AtOrigin}
-use Rattle.mesh_provenance.specs.Refusals.{IsReadBehind, IsRefusedFile}
-use Rattle.finish_options.specs.declared.options.Made.{Made}
-use Rattle.mesh_provenance.specs.Texts.{IsMade, scale_word, digest_line, text_after_format, file_text}
+use Rattle.mesh_provenance.specs.Refusals.{Origin, IsOrigin, origin_text, RefusedOrigin, later, AtMeshBehind, AtOrigin}
+use Rattle.mesh_provenance.specs.Refusals.{IsRefusedFile}
+use Rattle.mesh_provenance.specs.Texts.{scale_word, digest_line, text_after_format, file_text}
 use Rattle.mesh_provenance.proofs.FileCodes.{head_code, origin_parts, origin_code, printed_parts, annotated_parts, head_not_printed}
 use Rattle.mesh_provenance.proofs.FileCodes.{file_code}
 
@@ -82,35 +80,6 @@ pub behind_refused : (text rest : List ℕ) (o : Origin) (r : MeshRefusal) → I
 behind_refused text rest o r form front (inl none) = inl none
 behind_refused text rest o r form front (inr h) =
     inr (inr (record { value = o; rest = rest; form = form; front = front; next = h }))
-
-pub head_refused : (text rest : List ℕ) (o : Made) (r : MeshRefusal) → IsMade o → text ≡ head_text o ++ rest
-    → (r ≡ NoMemory) ⊎ AtOrigin rest r → (r ≡ NoMemory) ⊎ IsRefusedFile text r
-head_refused text rest o r form front (inl none) = inl none
-head_refused text rest o r form front (inr h) =
-    inr (inr (record { value = o; rest = rest; form = form; front = front; next = h }))
-
-pub printed_refused : (text : List ℕ) (r : MeshRefusal) → BeginsWithNone IsMade head_text text
-    → (r ≡ NoMemory) ⊎ IsRefusedMesh text r → (r ≡ NoMemory) ⊎ IsRefusedFile text r
-printed_refused text r none (inl e) = inl e
-printed_refused text r none (inr h) = inr (inl (none, h))
-
--- ---- valid lines
-pub file_is : (text rest : List ℕ) (o : Made) (p : Provenance) (ps : List Point) (fs : List (List ℕ)) → IsMade o
-    → text ≡ head_text o ++ rest → IsReadBehind o rest p ps fs → IsFile (Some p) ps fs × (text ≡ file_text (Some p) ps fs)
-file_is text rest o p ps fs form front h = (
-  (
-    record {
-      made = subst IsMade (sym h.made) form;
-      fine = h.origin.0;
-      digest = h.origin.1;
-    },
-    h.printed,
-  ),
-  front
-      ∙ (ap (λ (t : List ℕ). head_text o ++ t) h.text_is
-      ∙ (ap (λ (x : Made). head_text x ++ (origin_text (p.fine, p.digest) ++ text_after_format ps fs)) (sym h.made)
-      ∙ sym (annotated_parts p ps fs))),
-)
 
 -- ---- what reading answers
 -- the text of a mesh with its provenance, or its printed form

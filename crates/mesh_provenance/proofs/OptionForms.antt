@@ -6,7 +6,6 @@ use Rattle.std.proofs.lemmas.List.{get_or-append_right, take-append-drop, drop_m
 use Rattle.line_text.specs.Numbers.{ended, counted, BeginsWithNone}
 use Rattle.geo_sign.specs.Numbers.{IsBetween}
 use Rattle.line_text.proofs.Codes.{behind_same, ended_code}
-use Rattle.finish_options.specs.declared.options.SmoothOptions.{SmoothOptions}
 use Rattle.finish_options.specs.declared.options.TheConstants.{MOST_STEPS, FARTHEST}
 use Rattle.mesh_provenance.specs.Options.{IsSmoothing, AreOptions, pieces_word, split_word, flips_word, steps_word, within_word}
 use Rattle.mesh_provenance.specs.Options.{smooth_end, flips_end, split_end, options_end}
@@ -16,9 +15,6 @@ use Rattle.mesh_provenance.proofs.OptionCodes.{smooth_not_flips, flips_not_split
 use Rattle.mesh_provenance.proofs.OptionCodes.{stop_split, decimal_lacks_stops, number_stopped, split_of, pieces_within}
 
 -- ---- the numbers of smoothing
-pub no_smooth : (text : List ℕ) → ((rest : List ℕ) → ¬ (text ≡ steps_word ++ rest)) → BeginsWithNone IsNumbers numbers_end text
-no_smooth text other = λ v r h e. other _ (e ∙ numbers_parts v r)
-
 pub no_steps : (text behind : List ℕ) → text ≡ steps_word ++ behind
     → BeginsWithNone (IsBetween 1 MOST_STEPS) (λ n. ended n 32) behind → BeginsWithNone IsNumbers numbers_end text
 no_steps text behind is none =
@@ -33,16 +29,6 @@ no_within text behind last n is fits then none = λ v r h e.
     (sym then ∙ behind_same steps_word _ _ (sym is ∙ (e ∙ numbers_parts v r))) in
     none v.within r h.1 first.1
 
-pub numbers_are : (text behind last rest : List ℕ) (v : SmoothOptions) → text ≡ steps_word ++ behind
-    → behind ≡ ended v.steps 32 ++ last → last ≡ counted within_word v.within ++ rest → text ≡ numbers_end v ++ rest
-numbers_are text behind last rest v e f g =
-    e ∙ (ap (λ (t : List ℕ). steps_word ++ t) (f ∙ ap (λ (t : List ℕ). ended v.steps 32 ++ t) g) ∙ sym (numbers_parts v rest))
-
-pub no_smoothing : (text : List ℕ) → ((rest : List ℕ) → ¬ (text ≡ (10 ∷ []) ++ rest))
-    → BeginsWithNone IsNumbers numbers_end text → BeginsWithNone IsSmoothing smooth_end text
-no_smoothing text end none None r h e = end r e
-no_smoothing text end none (Some v) r h e = none v r h e
-
 -- ---- flips
 pub none_after_flips : (text behind : List ℕ) → text ≡ flips_word ++ behind → BeginsWithNone IsSmoothing smooth_end behind
     → BeginsWithNone IsFlipsTail flips_end text
@@ -50,22 +36,12 @@ none_after_flips text behind is none (true, s) r h e = smooth_not_flips s r behi
 none_after_flips text behind is none (false, s) r h e =
     none s r h (behind_same flips_word _ _ (sym is ∙ (e ∙ no_flips_parts s r)))
 
-pub none_without_flips : (text : List ℕ) → ((rest : List ℕ) → ¬ (text ≡ flips_word ++ rest))
-    → BeginsWithNone IsSmoothing smooth_end text → BeginsWithNone IsFlipsTail flips_end text
-none_without_flips text other none (true, s) r h e = none s r h e
-none_without_flips text other none (false, s) r h e = other _ (e ∙ no_flips_parts s r)
-
 -- ---- the split
 pub none_after_split : (text behind : List ℕ) → text ≡ split_word ++ behind → BeginsWithNone IsFlipsTail flips_end behind
     → BeginsWithNone IsSplitTail split_end text
 none_after_split text behind is none (false, p) r h e = flips_not_split p r behind (sym e ∙ is)
 none_after_split text behind is none (true, p) r h e =
     none p r h (behind_same split_word _ _ (sym is ∙ (e ∙ split_parts p r)))
-
-pub none_without_split : (text : List ℕ) → ((rest : List ℕ) → ¬ (text ≡ split_word ++ rest))
-    → BeginsWithNone IsFlipsTail flips_end text → BeginsWithNone IsSplitTail split_end text
-none_without_split text other none (false, p) r h e = none p r h e
-none_without_split text other none (true, p) r h e = other _ (e ∙ split_parts p r)
 
 -- ---- the number of pieces
 -- no number from 1 on that fits 32 bits, with a space or a line feed after it

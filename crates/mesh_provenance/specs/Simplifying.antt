@@ -4,6 +4,8 @@
 --   simplify_word, faces_word   the texts before the two numbers
 --   surface_word           the text that says that all points are meant
 --   covered_text surface   this text, empty at the default
+--   move_word              the text that says that vertices move
+--   moved_text moves       this text, empty at the default
 --   simplify_end o         the options, and the end of their line
 use Rattle.std.specs.Prelude.{ℕ, ◌-◌, ◌^◌, Bool, true, false, List, [], ◌++◌, codes}
 use Rattle.line_text.specs.Numbers.{space, ended, counted}
@@ -32,6 +34,16 @@ abbrev pub covered_text : Bool → List ℕ
 covered_text true = surface_word
 covered_text false = []
 
--- the distance, whether all points are meant, and the number of faces, to the end of the line
+-- vertices may be elsewhere
+unfoldable pub move_word : List ℕ
+move_word = codes "move=yes "
+
+-- the same, if it was asked
+abbrev pub moved_text : Bool → List ℕ
+moved_text true = move_word
+moved_text false = []
+
+-- the distance, whether all points are meant, whether vertices move, and the number of faces, to the end of the line
 abbrev pub simplify_end : SimplifyOptions → List ℕ
-simplify_end o = ended o.within space ++ (covered_text o.surface ++ counted faces_word o.faces)
+simplify_end o =
+    ended o.within space ++ (covered_text o.surface ++ (moved_text o.moves ++ counted faces_word o.faces))

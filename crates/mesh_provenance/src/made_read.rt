@@ -2,11 +2,11 @@
 
 ghost use Rattle.std.specs.Prelude.{◌≡◌, ◌++◌, ℕ, List, false, IfSome, IfNone};
 ghost use Rattle.line_text.specs.Numbers.{BeginsWithNone};
-ghost use Rattle.mesh_provenance.specs.Simplifying.{AreSimplifyOptions, surface_word, covered_text, simplify_end};
+ghost use Rattle.mesh_provenance.specs.Simplifying.{AreSimplifyOptions, surface_word, covered_text, move_word, moved_text, simplify_end};
 ghost use Rattle.mesh_provenance.specs.Texts.{IsMade, made_line};
 
 use crate::options_read::options_first;
-use crate::words::{faces, finish, simplify, surface};
+use crate::words::{faces, finish, moves, simplify, surface};
 use finish_options::{FARTHEST, Made, SimplifyOptions};
 use line_text::{behind, counted_within, number_within};
 
@@ -21,6 +21,17 @@ fn surface_first(text: &[u8]) -> (bool, &[u8])
     }
 }
 
+/// Returns whether the text begins with that vertices move, and what follows.
+fn moves_first(text: &[u8]) -> (bool, &[u8])
+    ensures is { text.now ≡ moved_text result.0 ++ result.1.now }
+    ensures none { result.0 ≡ false → (rest : List ℕ) → ¬ (text.now ≡ move_word ++ rest) }
+{
+    match behind(text, moves()) {
+        Some(rest) => (true, rest),
+        None => (false, text),
+    }
+}
+
 /// Returns the options of simplifying up to the end of their line.
 fn simplifying_first(text: &[u8]) -> Option<(SimplifyOptions, &[u8])>
     ensures some { IfSome result (λ read. AreSimplifyOptions read.0 × (text.now ≡ simplify_end read.0 ++ read.1.now)) }
@@ -28,11 +39,13 @@ fn simplifying_first(text: &[u8]) -> Option<(SimplifyOptions, &[u8])>
 {
     let (within, rest) = number_within(text, b' ', 1, FARTHEST as u64)?;
     let (surface, rest) = surface_first(rest);
+    let (moves, rest) = moves_first(rest);
     let (count, rest) = counted_within(rest, faces(), 0, u32::MAX as u64)?;
     let options = SimplifyOptions {
         within: within as u32,
         faces: count as u32,
         surface,
+        moves,
     };
     Some((options, rest))
 }

@@ -2,13 +2,13 @@
 
 ghost use Rattle.std.specs.Prelude.{◌≡◌, ◌++◌, OnOk};
 ghost use Rattle.mesh_provenance.specs.Options.{pieces_text, split_text, flips_text, smooth_text, options_end};
-ghost use Rattle.mesh_provenance.specs.Simplifying.{simplify_word, covered_text, simplify_end};
+ghost use Rattle.mesh_provenance.specs.Simplifying.{simplify_word, covered_text, moved_text, simplify_end};
 ghost use Rattle.mesh_provenance.specs.Texts.{finish_word, digest_line, made_line, provenance_lines, text_after_format, annotated_text};
 
 use crate::provenance::Provenance;
 use crate::words::{
-    faces, finish, first_line, format, header_rest, header_to_faces, no_flips, pieces, scale,
-    sha256, simplify, smooth, split, surface, vertices, within,
+    faces, finish, first_line, format, header_rest, header_to_faces, moves, no_flips, pieces,
+    scale, sha256, simplify, smooth, split, surface, vertices, within,
 };
 use cert_text::digits_of;
 use finish_options::{FinishOptions, Made, SimplifyOptions, SmoothOptions};
@@ -92,6 +92,17 @@ fn push_surface(out: &mut Vec<u8>, all: bool) -> Result<(), NoMemory>
     }
 }
 
+/// Appends that vertices move, if they do.
+fn push_moves(out: &mut Vec<u8>, asked: bool) -> Result<(), NoMemory>
+    ensures { OnOk result (out.new.items ≡ out.old.items ++ moved_text asked) }
+{
+    if asked {
+        out.extend_from_slice(moves())
+    } else {
+        Ok(())
+    }
+}
+
 /// Appends the line of a simplified mesh.
 fn push_simplifying(out: &mut Vec<u8>, options: SimplifyOptions) -> Result<(), NoMemory>
     ensures { OnOk result (out.new.items ≡ out.old.items ++ (simplify_word ++ simplify_end options)) }
@@ -100,6 +111,7 @@ fn push_simplifying(out: &mut Vec<u8>, options: SimplifyOptions) -> Result<(), N
     push_whole(out, i128::from(options.within))?;
     out.push(b' ')?;
     push_surface(out, options.surface)?;
+    push_moves(out, options.moves)?;
     push_counted(out, faces(), u64::from(options.faces))?;
     Ok(())
 }

@@ -3,7 +3,7 @@
 ghost use Rattle.std.specs.Prelude.{◌≡◌};
 ghost use Rattle.mesh_ply.specs.Texts.{ply_line, ascii_format_line, vertex_word, face_head, head_end};
 ghost use Rattle.mesh_provenance.specs.Options.{pieces_word, split_word, flips_word, steps_word, within_word};
-ghost use Rattle.mesh_provenance.specs.Simplifying.{simplify_word, faces_word, surface_word};
+ghost use Rattle.mesh_provenance.specs.Simplifying.{simplify_word, faces_word, surface_word, move_word};
 ghost use Rattle.mesh_provenance.specs.Texts.{finish_word, scale_word, digest_word};
 
 #[tactic(auto, unfolding(mesh_ply::specs::Texts::ply_line))]
@@ -46,6 +46,13 @@ pub fn surface() -> &'static [u8]
     ensures { result.now ≡ surface_word }
 {
     b"surface=yes "
+}
+
+#[tactic(auto, unfolding(crate::specs::Simplifying::move_word))]
+pub fn moves() -> &'static [u8]
+    ensures { result.now ≡ move_word }
+{
+    b"move=yes "
 }
 
 #[tactic(auto, unfolding(crate::specs::Simplifying::faces_word))]

@@ -3,7 +3,7 @@
 use crate::NoMemory;
 use geo_sign::Point;
 use mesh::Mesh;
-use mesh_collapse::{Collapsed, Request, collapse_edges};
+use mesh_collapse::{Collapsed, History, Request, collapse_edges};
 use std::alloc::Global;
 
 /// Faces, and what they may come from.
@@ -117,19 +117,22 @@ fn places_at(alloc: Global, places: &[Point], from: &[u32]) -> Result<Vec<Point>
     Ok(list)
 }
 
-/// Returns what the search finds for a mesh.
+/// Returns what the search finds for a mesh. It begins with what the one before made, and notes what it has made itself.
 pub(crate) fn find_candidate(
     alloc: Global,
     mesh: &Mesh,
     request: Request,
     limits: &[u32],
+    before: &mut History,
 ) -> Result<Candidate, NoMemory> {
     let Collapsed {
         faces,
         source,
         homes,
         places,
-    } = collapse_edges(alloc, &mesh.points, &mesh.faces, request, limits)?;
+        history,
+    } = collapse_edges(alloc, &mesh.points, &mesh.faces, request, limits, before)?;
+    *before = history;
     let Used { from, numbers } = used_vertices(alloc, mesh.points.len(), &faces)?;
     Ok(Candidate {
         faces: renumbered(alloc, &faces, &numbers)?,

@@ -1,7 +1,6 @@
 //! Whether each point of two meshes is near the other mesh.
 
-ghost use Rattle.std.specs.Prelude.{IfOk};
-ghost use Rattle.std.specs.Bool.{OnTrue};
+ghost use Rattle.std.specs.Prelude.{IfOk, IfNone};
 ghost use Rattle.mesh.specs.Meshes.{IsMesh};
 ghost use Rattle.mesh_simplify.specs.Simplified.{IsNearIfAsked};
 
@@ -11,40 +10,57 @@ use mesh::Mesh;
 use mesh_cover::{find_uncovered, list_uncovered};
 use std::alloc::Global;
 
-/// The part of the distance by which the first search stays below it.
+/// The part of the distance by which searches stay below it around points that were not near.
 const MARGIN: u32 = 16;
 
-/// The part by which each search shortens the distance of the one before.
-const SHORTER: u32 = 32;
+/// Where to begin listing faces that are not shown to be near the other mesh.
+#[derive(Clone, Copy)]
+pub(crate) struct FirstFar {
+    /// The distance.
+    within: u32,
+    /// The first of the old mesh.
+    there: usize,
+    /// The first of the new mesh.
+    back: usize,
+}
 
-/// Returns whether each point of either mesh is shown to be within a distance of the other, if that is asked.
+/// Returns the first face of either mesh that has a point not shown to be within a distance of the other, if that is asked.
 ///
-/// `homes[v]` is the number of a face that old vertex `v` may be near. `true` is exact.
-pub(crate) fn is_near_if_asked(
+/// `homes[v]` is the number of a face that old vertex `v` may be near. `None` is exact.
+pub(crate) fn first_far(
     alloc: Global,
     old: &Mesh,
     mesh: &Mesh,
     homes: &[u32],
     within: u32,
     asked: bool,
-) -> Result<bool, NoMemory>
+) -> Result<Option<FirstFar>, NoMemory>
     requires old { IsMesh old.now.points.items old.now.faces.items }
     requires mesh { IsMesh mesh.now.points.items mesh.now.faces.items }
-    ensures { IfOk result (λ yes. OnTrue yes (IsNearIfAsked asked within old.now.points.items old.now.faces.items mesh.now.points.items mesh.now.faces.items)) }
+    ensures { IfOk result (λ first. IfNone first (IsNearIfAsked asked within old.now.points.items old.now.faces.items mesh.now.points.items mesh.now.faces.items)) }
 {
     if !asked {
-        return Ok(true);
+        return Ok(None);
     }
-    if let Some(_) = find_uncovered(alloc, old, mesh, homes, within)? {
-        return Ok(false);
+    if let Some(there) = find_uncovered(alloc, old, mesh, homes, within)? {
+        return Ok(Some(FirstFar {
+            within,
+            there,
+            back: 0,
+        }));
     }
-    if let Some(_) = find_uncovered(alloc, mesh, old, &[], within)? {
-        return Ok(false);
+    if let Some(back) = find_uncovered(alloc, mesh, old, &[], within)? {
+        return Ok(Some(FirstFar {
+            within,
+            there: old.faces.len(),
+            back,
+        }));
     }
-    Ok(true)
+    Ok(None)
 }
 
-/// Returns the distances within which points have to stay around each vertex, none if corners alone have to.
+/// Returns the distances within which points have to stay around each vertex, none if corners alone have to. At first corners are all that
+/// is looked at.
 pub(crate) fn first_limits(
     alloc: Global,
     count: usize,
@@ -52,7 +68,7 @@ pub(crate) fn first_limits(
     asked: bool,
 ) -> Result<Vec<u32>, NoMemory> {
     let count = if asked { count } else { 0 };
-    let limits = vec![in alloc; within - within / MARGIN; count]?;
+    let limits = vec![in alloc; within; count]?;
     Ok(limits)
 }
 
@@ -119,14 +135,19 @@ pub(crate) fn push_far(
     old: &Mesh,
     mesh: &Mesh,
     hints: &Hints,
-    within: u32,
+    first: FirstFar,
     list: &mut Vec<u32>,
 ) -> Result<(), NoMemory>
     requires old { IsMesh old.now.points.items old.now.faces.items }
     requires mesh { IsMesh mesh.now.points.items mesh.now.faces.items }
 {
-    let there = list_uncovered(alloc, old, mesh, hints.homes, within)?;
-    let back = list_uncovered(alloc, mesh, old, &[], within)?;
+    let FirstFar {
+        within,
+        there,
+        back,
+    } = first;
+    let there = list_uncovered(alloc, old, mesh, hints.homes, within, there)?;
+    let back = list_uncovered(alloc, mesh, old, &[], within, back)?;
     push_corners(list, &old.faces, &there)?;
     let mut corners = Vec::new(alloc);
     push_corners(&mut corners, &mesh.faces, &back)?;
@@ -134,14 +155,31 @@ pub(crate) fn push_far(
     push_near(alloc, list, hints.homes, mesh.faces.len(), &back)
 }
 
-/// Makes all distances shorter, and those around some vertices half as long.
-pub(crate) fn lower(limits: &mut [u32], vertices: &[u32]) {
-    for v in 0..limits.len() {
-        limits[v] -= limits[v] / SHORTER;
+/// Makes the distance around a vertex shorter: a little at first, and by half if it was shorter before.
+fn lower_at(limits: &mut [u32], v: u32, within: u32) {
+    if (v as usize) < limits.len() {
+        let limit = limits[v as usize];
+        limits[v as usize] = if limit < within {
+            limit / 2
+        } else {
+            limit - limit / MARGIN
+        };
     }
-    for v in vertices {
-        if (*v as usize) < limits.len() {
-            limits[*v as usize] /= 2;
+}
+
+/// Makes the distances around some vertices shorter, and sorts these.
+pub(crate) fn lower(limits: &mut [u32], vertices: &mut [u32], within: u32) {
+    vertices.sort_unstable();
+    for at in 0..vertices.len() {
+        if at == 0 || vertices[at - 1] != vertices[at] {
+            lower_at(limits, vertices[at], within);
         }
+    }
+}
+
+/// Makes all distances shorter.
+pub(crate) fn lower_all(limits: &mut [u32]) {
+    for v in 0..limits.len() {
+        limits[v] -= limits[v] / MARGIN;
     }
 }

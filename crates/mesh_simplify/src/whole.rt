@@ -10,16 +10,19 @@ ghost use Rattle.mesh_simplify.specs.Tested.{IsGood};
 
 use crate::NoMemory;
 use crate::candidate::{Candidate, find_candidate};
-use crate::surface::{first_limits, is_near_if_asked, lower, push_far};
+use crate::surface::{first_far, first_limits, lower, lower_all, push_far};
 use crate::tests::{Hints, is_simplified};
 use crate::valid::{is_mesh, keep_box, places_of};
 use mesh::Mesh;
-use mesh_collapse::Request;
+use mesh_collapse::{History, Request};
 use mesh_edges::{UnbalancedEdge, first_unbalanced};
 use std::alloc::Global;
 
 /// How many searches are made.
-const ROUNDS: usize = 6;
+const ROUNDS: usize = 16;
+
+/// How many of them begin with the collapses of the one before.
+const REPEATS: usize = 10;
 
 /// Why a mesh is not simplified.
 #[derive(Clone, Copy, Debug, PartialEq, Eq)]
@@ -65,15 +68,15 @@ fn tested(
     if !is_simplified(alloc, old, &mesh, &hints, request)? {
         return Ok(None);
     }
-    if !is_near_if_asked(alloc, old, &mesh, &homes, request.within, surface)? {
-        push_far(alloc, old, &mesh, &hints, request.within, far)?;
+    if let Some(first) = first_far(alloc, old, &mesh, &homes, request.within, surface)? {
+        push_far(alloc, old, &mesh, &hints, first, far)?;
         return Ok(None);
     }
     Ok(Some(mesh))
 }
 
-/// Returns what the search finds, if it passes all tests. If all points have to be near, it searches again, with shorter distances around
-/// those that are not.
+/// Returns what the search finds, if it passes all tests. If all points have to be near, it searches again around those that are not, with
+/// shorter distances there, and if that does not end, everywhere.
 fn found(
     alloc: Global,
     mesh: &Mesh,
@@ -85,16 +88,24 @@ fn found(
 {
     let mut limits = first_limits(alloc, mesh.points.len(), request.within, surface)?;
     let mut far = Vec::new(alloc);
-    for _ in 0..ROUNDS {
-        let new = find_candidate(alloc, mesh, request, &limits)?;
+    let mut history = History::none(alloc);
+    for round in 0..ROUNDS {
+        let fresh = history.is_empty();
+        let new = find_candidate(alloc, mesh, request, &limits, &mut history)?;
         let new = tested(alloc, mesh, new, request, surface, &mut far)?;
         if let Some(new) = new {
             return Ok(Some(new));
         }
-        if far.is_empty() {
+        if far.is_empty() && fresh {
             return Ok(None);
         }
-        lower(&mut limits, &far);
+        if far.is_empty() || round >= REPEATS {
+            history = History::none(alloc);
+        }
+        if round >= REPEATS {
+            lower_all(&mut limits);
+        }
+        lower(&mut limits, &mut far, request.within);
         far.clear();
     }
     Ok(None)

@@ -1,9 +1,11 @@
 //! Rows that state too much, by the numbers of the cells and sides that they name. It depends on networks by numbers.
 
-ghost use Rattle.std.specs.Prelude.{◌≡◌, ◌<◌, EachIndex, IfSome, IfNone, length, slice_index};
+ghost use Rattle.std.specs.Prelude.{◌≡◌, ◌<◌, ◌≤◌, ℕ, EachIndex, IfSome, IfNone, length, slice_index};
+ghost use Rattle.std.specs.Bool.{OnTrue};
 ghost use Rattle.flow_net.specs.Firsts.{IsFirst, NoneBelow};
 ghost use Rattle.flow_net.specs.Faults.{sink_limit};
 ghost use Rattle.flow_net.specs.Numbered.{network_by};
+ghost use Rattle.max_flow.specs.Limits.{AreWithinCapacities};
 ghost use Rattle.recon_check.specs.ByRows.{IsFixedAt, IsOverAt, IsOverSinkAt, IsOutsideAt};
 
 use flow_net::{Flow, FlowNetwork, Labels};
@@ -22,6 +24,19 @@ pub fn first_fixed<N: FlowNetwork>(net: &N, nodes: &[usize]) -> Option<usize>
     None
 }
 
+/// Whether no arc has more flow than its capacity. It takes arcs in their order, which suits the cache.
+fn are_within_arcs<N: FlowNetwork>(net: &N, flow: &Flow) -> bool
+    requires { length flow.now.on_arc ≡ (N.numbered net.now).arc_count }
+    ensures { OnTrue result (AreWithinCapacities (N.numbered net.now) flow.now) }
+{
+    for (arc, amount) in flow.on_arc.as_slice().iter().enumerate() {
+        if *amount > 0 && *amount > net.capacity(arc) {
+            return false;
+        }
+    }
+    true
+}
+
 /// Finds the index of the first of these arcs whose flow exceeds its capacity.
 pub fn first_over<N: FlowNetwork>(net: &N, arcs: &[usize], flow: &Flow) -> Option<usize>
     requires arcs { EachIndex arcs.now (λ k. slice_index arcs.now k < (N.numbered net.now).arc_count) }
@@ -29,6 +44,9 @@ pub fn first_over<N: FlowNetwork>(net: &N, arcs: &[usize], flow: &Flow) -> Optio
     ensures first { IfSome result (IsFirst (length arcs.now) (IsOverAt (N.numbered net.now) arcs.now flow.now.on_arc)) }
     ensures none { IfNone result (NoneBelow (length arcs.now) (IsOverAt (N.numbered net.now) arcs.now flow.now.on_arc)) }
 {
+    if are_within_arcs(net, flow) {
+        return None;
+    }
     let amounts = flow.on_arc.as_slice();
     for place in 0..arcs.len() {
         let arc = arcs[place];
@@ -51,6 +69,19 @@ pub fn limit_at<N: FlowNetwork>(net: &N, node: usize) -> u64
     }
 }
 
+/// Whether no node has more flow at its sink than its limit, as [`are_within_arcs`].
+fn are_within_limits<N: FlowNetwork>(net: &N, flow: &Flow) -> bool
+    requires { length flow.now.on_sink ≡ (N.numbered net.now).node_count }
+    ensures { OnTrue result ((v : ℕ) → v < (N.numbered net.now).node_count → slice_index flow.now.on_sink v ≤ sink_limit (network_by (N.numbered net.now)) v) }
+{
+    for (node, amount) in flow.on_sink.as_slice().iter().enumerate() {
+        if *amount > 0 && *amount > limit_at(net, node) {
+            return false;
+        }
+    }
+    true
+}
+
 /// Finds the index of the first of these nodes whose flow at the sink exceeds its limit.
 pub fn first_over_sink<N: FlowNetwork>(net: &N, nodes: &[usize], flow: &Flow) -> Option<usize>
     requires nodes { EachIndex nodes.now (λ k. slice_index nodes.now k < (N.numbered net.now).node_count) }
@@ -58,6 +89,9 @@ pub fn first_over_sink<N: FlowNetwork>(net: &N, nodes: &[usize], flow: &Flow) ->
     ensures first { IfSome result (IsFirst (length nodes.now) (IsOverSinkAt (N.numbered net.now) nodes.now flow.now.on_sink)) }
     ensures none { IfNone result (NoneBelow (length nodes.now) (IsOverSinkAt (N.numbered net.now) nodes.now flow.now.on_sink)) }
 {
+    if are_within_limits(net, flow) {
+        return None;
+    }
     let amounts = flow.on_sink.as_slice();
     for place in 0..nodes.len() {
         let node = nodes[place];

@@ -1,12 +1,15 @@
 -- Runs of `check` that are done.
 --
--- A run that is done leaves the count of failed calls (`had_no_failure`). No other part of its contract speaks of that count, so the same
--- contract holds of states that count from 0 (`from_zero`), and there a count that is left has not risen (`none_rose`). So the theorem of
--- `recon_cmd`, whose premise is that no call failed, applies to these states, and says the same of the files.
-use Rattle.std.proofs.Common.{ℕ, refl, ◌∙◌, arith, List, Option, Some}
+-- A run in which no call failed leaves the count of failed calls, and so does one that is done (`had_no_failure`). No other part of its
+-- contract speaks of that count, so the same contract holds of states that count from 0 (`from_zero`), and there a count that is left has
+-- not risen (`none_rose`). So the theorem of `recon_cmd`, whose premise is that no call failed, applies to these states, and says the same
+-- of the files.
+use Rattle.std.proofs.Common.{ℕ, ◌≢◌, refl, ◌∙◌, arith, List, Option, Some}
 use Rattle.host.specs.Counts.{Rose}
 use Rattle.host.specs.State.{State}
-use Rattle.command_run.specs.declared.status.Status.TheVariants.{Done}
+use Rattle.command_run.specs.Outcome.{FaultsFit}
+use Rattle.command_run.specs.declared.status.Status.{Status}
+use Rattle.command_run.specs.declared.status.Status.TheVariants.{Done, No, BadArguments, Refused, Failed, NoMemory}
 use Rattle.recon_cmd.specs.CheckLaws.{ChecksOn}
 use Rattle.recon_cmd.specs.Commands.{Asked, Outcome, check}
 use Rattle.recon_cmd.specs.Options.{Options}
@@ -19,23 +22,35 @@ pub had_no_failure : DoneHadNoFailure
 had_no_failure = λ asked before after outcome. outcome.faults
 
 -- the same state, with no failed call counted
-abbrev unfailed : State → State
+abbrev pub unfailed : State → State
 unfailed state = record state { faults = 0 }
 
--- a run that is done is one between such states
-from_zero : (asked : Option Asked) (before after : State) → Outcome asked Done before after
-    → Outcome asked Done (unfailed before) (unfailed after)
-from_zero asked before after outcome =
+-- a count that is 0 before and after fits each status but one
+no_faults : (status : Status) → status ≢ Failed → FaultsFit status 0 0
+no_faults Done failed = refl
+no_faults No failed = refl
+no_faults BadArguments failed = refl
+no_faults Refused failed = refl
+no_faults NoMemory failed = refl
+no_faults Failed failed = absurd (failed refl)
+
+-- a run in which no call failed is one between such states
+pub from_zero : (asked : Option Asked) (status : Status) (before after : State) → status ≢ Failed → Outcome asked status before after
+    → Outcome asked status (unfailed before) (unfailed after)
+from_zero asked status before after failed outcome =
     record {
       fits = outcome.fits;
-      faults = refl;
+      faults = no_faults status failed;
       opens = outcome.opens;
       writing = outcome.writing;
       tells = outcome.tells;
       reads = outcome.reads;
     }
 
-none_rose : ¬ Rose 0 0
+done_is_no_failure : Done ≢ Failed
+done_is_no_failure e = cc
+
+pub none_rose : ¬ Rose 0 0
 none_rose rose = absurd (omega (arith, rose.1))
 
 checks_on : (names : SurfaceNames) (output : Option (List ℕ)) (options : Options) (bytes mesh cert : List ℕ) (before after : State)
@@ -49,7 +64,7 @@ checks_on names output options bytes mesh cert before after ends =
       mesh_file = ends.mesh_file;
       cert_file = ends.cert_file;
       no_failure = none_rose;
-      outcome = from_zero (Some (check names output options)) before after ends.outcome;
+      outcome = from_zero (Some (check names output options)) Done before after done_is_no_failure ends.outcome;
     }
 
 pub done_check_is_best : DoneCheckIsBest

@@ -2,7 +2,7 @@
 use Rattle.std.proofs.Common.{ℕ, ◌≡◌, refl, ap, Bool, true, false, List, ◌++◌, length}
 use Rattle.std.specs.List.{flat_map}
 use Rattle.ply_head.specs.Spelling.{spelling}
-use Rattle.scan.specs.PlainForm.{header, is_wide, rows_showing, rows_text, scan_text, scanner_line, vertex_line}
+use Rattle.scan.specs.PlainForm.{header, is_wide, rows_showing, rows_text, scanner_line, vertex_line}
 use Rattle.scan_rows.specs.ScanRows.{ScanRows}
 use Rattle.recon_laws.specs.Laws.{TextIsPrinted, printed_rows, scan_header}
 

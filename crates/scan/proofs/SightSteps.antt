@@ -8,6 +8,7 @@ use Rattle.ply_head.specs.declared.header.Kind.{Kind}
 use Rattle.ply_head.specs.declared.header.Kind.TheVariants.{Ascii, BinaryLittle, BinaryBig}
 use Rattle.ply_head.specs.declared.header.Scalar.{Scalar}
 use Rattle.ply_head.specs.declared.header.Shape.TheVariants.{Many}
+use Rattle.ply_head.specs.declared.refusal.HeadRefusal.TheVariants as heads
 use Rattle.ply_rows.specs.declared.place.Field.{Field}
 use Rattle.ply_rows.specs.Items.{items_from, HasItems}
 use Rattle.ply_rows.specs.Readers.{IsFieldOf}
@@ -57,6 +58,7 @@ pub named_refused : (why : ScanRefusal) (read : List ℕ → Result ℕ ScanRefu
     (first : List ℕ) (items others : List (List ℕ)) (named : Named) → items ≡ first ∷ others → Fails why (read first)
     → seen_behind seen row weight (each_of read items) ≡ seen_behind before row weight named → Fails why named
 named_refused refusals.NoMemory read before seen row weight first items others named is fails so_far = tt
+named_refused (refusals.Head heads.NoMemory) read before seen row weight first items others named is fails so_far = fails
 named_refused why read before seen row weight first items others named is fails so_far = grind (arith, first_read)
 
 -- no name is left

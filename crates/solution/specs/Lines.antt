@@ -1,5 +1,6 @@
 -- Lines of sight during a traversal, and one step along them.
 --
+--   CanFollow located sights             sights of inserted data points can be traversed to these scanners
 --   IsLineOf scanners cells sight line   the line of a sight
 --   IsLineIn s line                      a line that can be traversed
 --   added_on s line id k                 the weight that it adds to a facet
@@ -7,16 +8,27 @@
 --   HasCounterRoom sides amount counters   the counter of the first of the facets to come does not overflow by an amount
 --   IsCountedStep                        a walk moved on by one facet, whose counter was raised
 use Rattle.std.specs.Prelude.{ℕ, ◌≡◌, ◌<◌, ◌≤◌, ◌+◌, ◌*◌, ◌^◌, List, ◌∷◌, set, slice_index, slice_index_or, if◌then◌else◌}
+use Rattle.std.specs.List.{All}
 use Rattle.geo_sign.specs.declared.point.TheConstants.{CORNERS, DATA_LIMIT}
 use Rattle.geo_sign.specs.Point.{Point, origin, IsWithin}
 use Rattle.geo_sign.specs.Rational.{displaced}
 use Rattle.geo_sign.specs.Vertices.{Has}
 use Rattle.cell_laws.specs.Links.{Side}
 use Rattle.flow_net.specs.declared.votes.Sight.{Sight}
+use Rattle.tetra_store.specs.Delaunay.{IsDelaunay}
+use Rattle.tetra_store.specs.Links.{links_of}
 use Rattle.tetra_store.specs.Store.{Store, vertices_of}
 use Rattle.sight.specs.Walks.{Walk, IsGoneOn, IsEndCell}
 use Rattle.solution.specs.declared.tally.Line.{Line}
-use Rattle.solution.specs.Counts.{added_by, is_crossed_at, is_behind_at}
+use Rattle.solution.specs.declared.tally.Located.{Located}
+use Rattle.solution.specs.Counts.{IsInRange, AreScannerCells, added_by, is_crossed_at, is_behind_at}
+
+-- through Delaunay cells, to scanners at data points whose cells are given
+pub record CanFollow (located : Located) (sights : List Sight) : Type 0 where
+  pub delaunay : IsDelaunay (vertices_of located.t.now) (links_of located.t.now.slots)
+  pub in_range : All (IsInRange (vertices_of located.t.now) located.scanners.now) sights
+  pub data_points : All (IsWithin DATA_LIMIT) located.scanners.now
+  pub cells : AreScannerCells located.t.now located.scanners.now located.cells.now
 
 -- from the sight's vertex to the position of its scanner, which is in this cell
 pub record IsLineOf (scanners : List Point) (cells : List ℕ) (sight : Sight) (line : Line) : Type 0 where

@@ -1,22 +1,19 @@
 //! Accumulates weights along the sights of one scanner after another, all of a scanner at once (`beam`).
 
 ghost use Rattle.std.specs.Prelude.{◌≡◌, ◌<◌, ◌≤◌, ◌+◌, ◌*◌, ◌^◌, ℕ, All, IfOk, OnOk, IsTrue, length, map, take, slice_index, slice_index_or};
-ghost use Rattle.geo_sign.specs.declared.point.TheConstants.{DATA_LIMIT};
-ghost use Rattle.geo_sign.specs.Point.{IsWithin};
 ghost use Rattle.flow_net.specs.declared.votes.TheConstants.{SIGHT_LIMIT};
-ghost use Rattle.tetra_store.specs.Delaunay.{IsDelaunay};
 ghost use Rattle.tetra_store.specs.Links.{links_of, IsLive};
 ghost use Rattle.tetra_store.specs.Store.{vertices_of};
-ghost use Rattle.solution.specs.Counts.{IsInRange, AreScannerCells};
+ghost use Rattle.solution.specs.Counts.{IsInRange};
+ghost use Rattle.solution.specs.Lines.{CanFollow};
 ghost use Rattle.solution.specs.LongSights.{ray_of as ray_of_sight, IsOfScanner, IsRoomFor, AreAdded, IsCellRoom, AreCellsAdded};
 
 use crate::NoMemory;
-use crate::tally::{count_behind, line_of};
-use beam::{Beams, Ray};
+use crate::tally::{Counts, Located, count_behind, line_of};
+use beam::{Beams, Ray, View};
 use flow_net::Sight;
-use geo_sign::Point;
 use std::alloc::Global;
-use tetra_store::{CellId, Tetra};
+use tetra_store::Tetra;
 use watch::Watch;
 
 /// The most sights that are followed at once: so that they stay in a cache.
@@ -35,19 +32,13 @@ fn ray_of(t: &Tetra, sight: Sight) -> Ray
 }
 
 /// Returns sights as they are followed.
-fn rays_of(
-    alloc: Global,
-    t: &Tetra,
-    scanners: &[Point],
-    sights: &[Sight],
-) -> Result<Vec<Ray>, NoMemory>
-    requires { All (IsInRange (vertices_of t.now) scanners.now) sights.now }
-    ensures { IfOk result (λ rays. rays.items ≡ map (ray_of_sight t.now) sights.now) }
+fn rays_of(alloc: Global, located: &Located<'_>, sights: &[Sight]) -> Result<Vec<Ray>, NoMemory>
+    requires { All (IsInRange (vertices_of located.now.t.now) located.now.scanners.now) sights.now }
+    ensures { IfOk result (λ rays. rays.items ≡ map (ray_of_sight located.now.t.now) sights.now) }
 {
-    let _scanners = scanners;
     let mut rays = Vec::with_capacity(alloc, sights.len())?;
     for sight in sights {
-        rays.push(ray_of(t, *sight))?;
+        rays.push(ray_of(located.t, *sight))?;
     }
     Ok(rays)
 }
@@ -73,15 +64,15 @@ fn goes_on(sights: &[Sight], index: usize, scanner: u32) -> bool
 }
 
 /// Returns the first sights that have one scanner, but not more than are followed at once.
-fn group_of(t: &Tetra, scanners: &[Point], sights: &[Sight]) -> Group
+fn group_of(located: &Located<'_>, sights: &[Sight]) -> Group
     requires some { 0 < length sights.now }
-    requires range { All (IsInRange (vertices_of t.now) scanners.now) sights.now }
-    ensures scanner { result.scanner < length scanners.now }
+    requires range { All (IsInRange (vertices_of located.now.t.now) located.now.scanners.now) sights.now }
+    ensures scanner { result.scanner < length located.now.scanners.now }
     ensures some { 0 < result.count }
     ensures within { result.count ≤ length sights.now }
     ensures same { All (IsOfScanner result.scanner) (take result.count sights.now) }
 {
-    let (_t, _scanners) = (t, scanners);
+    let _located = located;
     let scanner = sights[0].scanner;
     let mut count: usize = 1;
     while goes_on(sights, count, scanner) {
@@ -91,26 +82,17 @@ fn group_of(t: &Tetra, scanners: &[Point], sights: &[Sight]) -> Group
 }
 
 /// Adds the weights of sights to the cells behind their points.
-fn count_cells(
-    t: &Tetra,
-    scanners: &[Point],
-    cells: &[CellId],
-    sights: &[Sight],
-    behind: &mut [u32],
-)
-    requires delaunay { IsDelaunay (vertices_of t.now) (links_of t.now.slots) }
-    requires sights { All (IsInRange (vertices_of t.now) scanners.now) sights.now }
-    requires data_points { All (IsWithin DATA_LIMIT) scanners.now }
-    requires cells { AreScannerCells t.now scanners.now cells.now }
-    requires fits { length t.now.slots ≤ length behind.old }
-    requires room { IsCellRoom t.now scanners.now sights.now behind.old }
+fn count_cells(located: &Located<'_>, sights: &[Sight], behind: &mut [u32])
+    requires sights { CanFollow located.now sights.now }
+    requires fits { length located.now.t.now.slots ≤ length behind.old }
+    requires room { IsCellRoom located.now.t.now located.now.scanners.now sights.now behind.old }
     ensures count { length behind.new ≡ length behind.old }
-    ensures added { AreCellsAdded t.now scanners.now sights.now behind.old behind.new }
+    ensures added { AreCellsAdded located.now.t.now located.now.scanners.now sights.now behind.old behind.new }
 {
     let mut k = 0;
     while k < sights.len() {
-        let line = line_of(scanners, cells, sights[k]);
-        count_behind(t, &line, behind);
+        let line = line_of(located, sights[k]);
+        count_behind(located.t, &line, behind);
         k += 1;
     }
 }
@@ -118,28 +100,27 @@ fn count_cells(
 /// Adds the weights of sights of one scanner to the facets that they cross.
 fn count_facets(
     alloc: Global,
-    t: &Tetra,
-    scanners: &[Point],
-    cells: &[CellId],
+    located: &Located<'_>,
     sights: &[Sight],
     number: u32,
     beams: &mut Beams,
     crossed: &mut [u32],
 ) -> Result<(), NoMemory>
-    requires delaunay { IsDelaunay (vertices_of t.now) (links_of t.now.slots) }
-    requires sights { All (IsInRange (vertices_of t.now) scanners.now) sights.now }
-    requires data_points { All (IsWithin DATA_LIMIT) scanners.now }
-    requires cells { AreScannerCells t.now scanners.now cells.now }
-    requires scanner { number < length scanners.now }
+    requires sights { CanFollow located.now sights.now }
+    requires scanner { number < length located.now.scanners.now }
     requires same { All (IsOfScanner number) sights.now }
-    requires fits { 4 * length t.now.slots ≤ length crossed.old }
-    requires room { IsRoomFor t.now scanners.now sights.now crossed.old }
+    requires fits { 4 * length located.now.t.now.slots ≤ length crossed.old }
+    requires room { IsRoomFor located.now.t.now located.now.scanners.now sights.now crossed.old }
     ensures count { length crossed.new ≡ length crossed.old }
-    ensures added { OnOk result (AreAdded t.now scanners.now sights.now crossed.old crossed.new) }
+    ensures added { OnOk result (AreAdded located.now.t.now located.now.scanners.now sights.now crossed.old crossed.new) }
 {
-    let rays = rays_of(alloc, t, scanners, sights)?;
+    let rays = rays_of(alloc, located, sights)?;
     let k = number as usize;
-    beams.count(alloc, t, scanners[k], cells[k], rays, crossed)?;
+    let view = View {
+        t: located.t,
+        s: located.scanners[k],
+    };
+    beams.count(alloc, &view, located.cells[k], rays, crossed)?;
     Ok(())
 }
 
@@ -147,34 +128,27 @@ fn count_facets(
 /// sights to a progress callback, of all that there are.
 fn count_all_facets<W: Watch>(
     alloc: Global,
-    t: &Tetra,
-    scanners: &[Point],
-    cells: &[CellId],
+    located: &Located<'_>,
     sights: &[Sight],
     all: usize,
     crossed: &mut [u32],
     watch: &mut W,
 ) -> Result<(), NoMemory>
-    requires delaunay { IsDelaunay (vertices_of t.now) (links_of t.now.slots) }
-    requires sights { All (IsInRange (vertices_of t.now) scanners.now) sights.now }
-    requires data_points { All (IsWithin DATA_LIMIT) scanners.now }
-    requires cells { AreScannerCells t.now scanners.now cells.now }
+    requires sights { CanFollow located.now sights.now }
     requires few { length sights.now ≤ SIGHT_LIMIT }
-    requires fits { 4 * length t.now.slots ≤ length crossed.old }
-    requires room { IsRoomFor t.now scanners.now sights.now crossed.old }
+    requires fits { 4 * length located.now.t.now.slots ≤ length crossed.old }
+    requires room { IsRoomFor located.now.t.now located.now.scanners.now sights.now crossed.old }
     ensures count { length crossed.new ≡ length crossed.old }
-    ensures added { OnOk result (AreAdded t.now scanners.now sights.now crossed.old crossed.new) }
+    ensures added { OnOk result (AreAdded located.now.t.now located.now.scanners.now sights.now crossed.old crossed.new) }
 {
-    let mut beams = Beams::new(alloc, t)?;
+    let mut beams = Beams::new(alloc, located.t)?;
     let mut rest = sights;
     while rest.len() > 0 {
         watch.done(all.saturating_sub(rest.len()) as u64);
-        let group = group_of(t, scanners, rest);
+        let group = group_of(located, rest);
         count_facets(
             alloc,
-            t,
-            scanners,
-            cells,
+            located,
             &rest[..group.count],
             group.scanner,
             &mut beams,
@@ -189,33 +163,27 @@ fn count_all_facets<W: Watch>(
 /// followed together if they are next to each other.
 pub(crate) fn count_together<W: Watch>(
     alloc: Global,
-    t: &Tetra,
-    scanners: &[Point],
-    cells: &[CellId],
+    located: &Located<'_>,
     sights: &[Sight],
     all: usize,
-    crossed: &mut [u32],
-    behind: &mut [u32],
+    counts: &mut Counts,
     watch: &mut W,
 ) -> Result<(), NoMemory>
-    requires delaunay { IsDelaunay (vertices_of t.now) (links_of t.now.slots) }
-    requires sights { All (IsInRange (vertices_of t.now) scanners.now) sights.now }
-    requires data_points { All (IsWithin DATA_LIMIT) scanners.now }
-    requires cells { AreScannerCells t.now scanners.now cells.now }
+    requires sights { CanFollow located.now sights.now }
     requires few { length sights.now ≤ SIGHT_LIMIT }
-    requires crossed_fit { 4 * length t.now.slots ≤ length crossed.old }
-    requires behind_fit { length t.now.slots ≤ length behind.old }
-    requires crossed_room { IsRoomFor t.now scanners.now sights.now crossed.old }
-    requires behind_room { IsCellRoom t.now scanners.now sights.now behind.old }
-    ensures crossed_count { length crossed.new ≡ length crossed.old }
-    ensures behind_count { length behind.new ≡ length behind.old }
-    ensures facets { OnOk result (AreAdded t.now scanners.now sights.now crossed.old crossed.new) }
-    ensures cells { OnOk result (AreCellsAdded t.now scanners.now sights.now behind.old behind.new) }
+    requires crossed_fit { 4 * length located.now.t.now.slots ≤ length counts.old.crossed.items }
+    requires behind_fit { length located.now.t.now.slots ≤ length counts.old.behind.items }
+    requires crossed_room { IsRoomFor located.now.t.now located.now.scanners.now sights.now counts.old.crossed.items }
+    requires behind_room { IsCellRoom located.now.t.now located.now.scanners.now sights.now counts.old.behind.items }
+    ensures crossed_count { length counts.new.crossed.items ≡ length counts.old.crossed.items }
+    ensures behind_count { length counts.new.behind.items ≡ length counts.old.behind.items }
+    ensures facets { OnOk result (AreAdded located.now.t.now located.now.scanners.now sights.now counts.old.crossed.items counts.new.crossed.items) }
+    ensures cells { OnOk result (AreCellsAdded located.now.t.now located.now.scanners.now sights.now counts.old.behind.items counts.new.behind.items) }
 {
     if sights.len() == 0 {
         return Ok(());
     }
-    count_cells(t, scanners, cells, sights, behind);
-    count_all_facets(alloc, t, scanners, cells, sights, all, crossed, watch)?;
+    count_cells(located, sights, &mut counts.behind);
+    count_all_facets(alloc, located, sights, all, &mut counts.crossed, watch)?;
     Ok(())
 }

@@ -4,22 +4,18 @@
 //! this pays where sights are long. Some sights of each scanner are traversed in advance to estimate how many facets all cross:
 //! if they cross many for each cell that there is, many pass the same cells.
 
-ghost use Rattle.std.specs.Prelude.{◌≤◌, All, length};
-ghost use Rattle.geo_sign.specs.declared.point.TheConstants.{DATA_LIMIT};
-ghost use Rattle.geo_sign.specs.Point.{IsWithin};
+ghost use Rattle.std.specs.Prelude.{◌≤◌, length};
 ghost use Rattle.tetra_store.specs.Delaunay.{IsDelaunay};
 ghost use Rattle.tetra_store.specs.Links.{links_of};
 ghost use Rattle.tetra_store.specs.Store.{vertices_of};
-ghost use Rattle.solution.specs.Counts.{IsInRange, AreScannerCells};
-ghost use Rattle.solution.specs.Lines.{IsLineIn};
+ghost use Rattle.solution.specs.Lines.{CanFollow, IsLineIn};
 
 use crate::NoMemory;
-use crate::tally::{Line, line_of};
+use crate::tally::{Line, Located, line_of};
 use flow_net::Sight;
-use geo_sign::Point;
 use sight::walk_into;
 use std::alloc::Global;
-use tetra_store::{CellId, Tetra};
+use tetra_store::Tetra;
 
 /// One of this number of sights of a scanner is traversed in advance.
 const SAMPLED: u32 = 256;
@@ -59,27 +55,18 @@ fn add(t: &Tetra, sample: &mut Sample, line: &Line)
 }
 
 /// Returns what is known of the sights of each scanner.
-fn samples(
-    alloc: Global,
-    t: &Tetra,
-    scanners: &[Point],
-    cells: &[CellId],
-    sights: &[Sight],
-) -> Result<Vec<Sample>, NoMemory>
-    requires delaunay { IsDelaunay (vertices_of t.now) (links_of t.now.slots) }
-    requires sights { All (IsInRange (vertices_of t.now) scanners.now) sights.now }
-    requires data_points { All (IsWithin DATA_LIMIT) scanners.now }
-    requires cells { AreScannerCells t.now scanners.now cells.now }
+fn samples(alloc: Global, located: &Located<'_>, sights: &[Sight]) -> Result<Vec<Sample>, NoMemory>
+    requires sights { CanFollow located.now sights.now }
 {
     let none = Sample {
         sights: 0,
         crossings: 0,
     };
-    let mut list = vec![in alloc; none; scanners.len()]?;
+    let mut list = vec![in alloc; none; located.scanners.len()]?;
     for sight in sights {
-        let line = line_of(scanners, cells, *sight);
+        let line = line_of(located, *sight);
         if let Some(sample) = list.get_mut(sight.scanner as usize) {
-            add(t, sample, &line);
+            add(located.t, sample, &line);
         }
     }
     Ok(list)
@@ -93,18 +80,13 @@ fn has_long_sights(sample: &Sample, cells: usize) -> bool {
 /// Returns for each scanner whether its sights are to be counted together.
 pub(crate) fn together(
     alloc: Global,
-    t: &Tetra,
-    scanners: &[Point],
-    cells: &[CellId],
+    located: &Located<'_>,
     sights: &[Sight],
 ) -> Result<Vec<bool>, NoMemory>
-    requires delaunay { IsDelaunay (vertices_of t.now) (links_of t.now.slots) }
-    requires sights { All (IsInRange (vertices_of t.now) scanners.now) sights.now }
-    requires data_points { All (IsWithin DATA_LIMIT) scanners.now }
-    requires cells { AreScannerCells t.now scanners.now cells.now }
+    requires sights { CanFollow located.now sights.now }
 {
-    let list = samples(alloc, t, scanners, cells, sights)?;
-    let count = t.number_limit();
+    let list = samples(alloc, located, sights)?;
+    let count = located.t.number_limit();
     let mut flags = Vec::with_capacity(alloc, list.len())?;
     for sample in &list {
         flags.push(has_long_sights(sample, count))?;

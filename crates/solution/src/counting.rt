@@ -1,27 +1,22 @@
 //! The visibility weights of a scene's sights at linked cells and their sides.
 
 ghost use Rattle.std.specs.Prelude.{◌≡◌, ◌<◌, ◌≤◌, ◌^◌, IfOk, All, length};
-ghost use Rattle.geo_sign.specs.declared.point.TheConstants.{DATA_LIMIT};
-ghost use Rattle.geo_sign.specs.Point.{IsWithin};
 ghost use Rattle.flow_net.specs.Weights.{IsSightList};
 ghost use Rattle.visibility.specs.SceneViews.{view_of, IsSound};
-ghost use Rattle.tetra_store.specs.Delaunay.{IsDelaunay};
-ghost use Rattle.tetra_store.specs.Links.{links_of};
-ghost use Rattle.tetra_store.specs.Store.{vertices_of};
 ghost use Rattle.cell_net.specs.Counts.{AreCountsOf};
-ghost use Rattle.solution.specs.Counts.{HasCellsOf, IsInRange, AreScannerCells, AreCounted};
+ghost use Rattle.solution.specs.Counts.{HasCellsOf, AreCounted};
+ghost use Rattle.solution.specs.Lines.{CanFollow};
 
 use crate::NoMemory;
 use crate::beaming::count_together;
 use crate::choosing::{number_alone, together};
 use crate::fixing::{fixed_cells, scanner_cells};
 use crate::ordering::ordered;
-use crate::tally::{Counts, count_sights};
+use crate::tally::{Counts, Located, count_sights};
 use cell_net::StoreCounts;
 use flow_net::Sight;
-use geo_sign::Point;
 use std::alloc::{AllocError, Global};
-use tetra_store::{CellId, Tetra};
+use tetra_store::Tetra;
 use visibility::Scene;
 use watch::{Stage, Watch};
 
@@ -55,31 +50,23 @@ impl Votes {
 /// Returns the counts of sights: those before an index by a walk along each, and the others those of a scanner together.
 fn count_in_order<W: Watch>(
     alloc: Global,
-    t: &Tetra,
-    scanners: &[Point],
-    cells: &[CellId],
+    located: &Located<'_>,
     sights: &[Sight],
     place: usize,
     watch: &mut W,
 ) -> Result<Counts, NoMemory>
-    requires delaunay { IsDelaunay (vertices_of t.now) (links_of t.now.slots) }
-    requires sights { All (IsInRange (vertices_of t.now) scanners.now) sights.now }
+    requires sights { CanFollow located.now sights.now }
     requires few { IsSightList sights.now }
-    requires data_points { All (IsWithin DATA_LIMIT) scanners.now }
-    requires cells { AreScannerCells t.now scanners.now cells.now }
     requires place { place ≤ length sights.now }
-    ensures { IfOk result (λ counts. AreCounted t.now scanners.now sights.now counts.crossed.items counts.behind.items) }
+    ensures { IfOk result (λ counts. AreCounted located.now.t.now located.now.scanners.now sights.now counts.crossed.items counts.behind.items) }
 {
-    let mut counts = count_sights(alloc, t, scanners, cells, &sights[..place], watch)?;
+    let mut counts = count_sights(alloc, located, &sights[..place], watch)?;
     count_together(
         alloc,
-        t,
-        scanners,
-        cells,
+        located,
         &sights[place..],
         sights.len(),
-        &mut counts.crossed,
-        &mut counts.behind,
+        &mut counts,
         watch,
     )?;
     Ok(counts)
@@ -88,31 +75,18 @@ fn count_in_order<W: Watch>(
 /// Returns the counts of the sights, which are traversed in another order. That order is freed before it returns.
 fn counts_of<W: Watch>(
     alloc: Global,
-    t: &Tetra,
-    scanners: &[Point],
-    cells: &[CellId],
+    located: &Located<'_>,
     sights: &[Sight],
     watch: &mut W,
 ) -> Result<Counts, NoMemory>
-    requires delaunay { IsDelaunay (vertices_of t.now) (links_of t.now.slots) }
-    requires sights { All (IsInRange (vertices_of t.now) scanners.now) sights.now }
+    requires sights { CanFollow located.now sights.now }
     requires few { IsSightList sights.now }
-    requires data_points { All (IsWithin DATA_LIMIT) scanners.now }
-    requires cells { AreScannerCells t.now scanners.now cells.now }
-    ensures { IfOk result (λ counts. AreCounted t.now scanners.now sights.now counts.crossed.items counts.behind.items) }
+    ensures { IfOk result (λ counts. AreCounted located.now.t.now located.now.scanners.now sights.now counts.crossed.items counts.behind.items) }
 {
     watch.stage(Stage::Sights, sights.len() as u64);
-    let flags = together(alloc, t, scanners, cells, sights)?;
-    let order = ordered(alloc, t, scanners, cells, sights, &flags)?;
-    count_in_order(
-        alloc,
-        t,
-        scanners,
-        cells,
-        &order,
-        number_alone(&flags, &order),
-        watch,
-    )
+    let flags = together(alloc, located, sights)?;
+    let order = ordered(alloc, located, sights, &flags)?;
+    count_in_order(alloc, located, &order, number_alone(&flags, &order), watch)
 }
 
 /// Returns a scene's accumulated visibility weights and the cells fixed outside, by a walk along each sight, or for all sights
@@ -138,7 +112,12 @@ pub fn counted<W: Watch>(
     if fixed.len() > u32::MAX as usize {
         return Err(AllocError);
     }
-    let counts = counts_of(alloc, t, scene.scanners, &cells, scene.sights, watch)?;
+    let located = Located {
+        t,
+        scanners: scene.scanners,
+        cells: &cells,
+    };
+    let counts = counts_of(alloc, &located, scene.sights, watch)?;
     Ok(Votes {
         crossed: counts.crossed,
         behind: counts.behind,

@@ -11,10 +11,9 @@ ghost use Rattle.solution.specs.Ordering.{the_sight};
 
 use crate::NoMemory;
 use crate::choosing::is_together;
+use crate::tally::Located;
 use flow_net::Sight;
-use geo_sign::Point;
 use std::alloc::Global;
-use tetra_store::{CellId, Tetra};
 
 /// A sight and the key by which it is sorted.
 #[derive(Clone, Copy)]
@@ -35,20 +34,13 @@ fn spread(number: u64) -> u64 {
 
 /// Returns a sight with its key: if it is walked along, the interleaved bits of the numbers of its scanner's cell and of a cell
 /// at its vertex, without the lowest; else, after all of these, its scanner and the cell.
-fn with_key(
-    t: &Tetra,
-    scanners: &[Point],
-    cells: &[CellId],
-    sight: Sight,
-    together: &[bool],
-) -> Keyed
-    requires sight { IsInRange (vertices_of t.now) scanners.now sight }
-    requires cells { length cells.now ≡ length scanners.now }
+fn with_key(located: &Located<'_>, sight: Sight, together: &[bool]) -> Keyed
+    requires sight { IsInRange (vertices_of located.now.t.now) located.now.scanners.now sight }
+    requires cells { length located.now.cells.now ≡ length located.now.scanners.now }
     ensures { the_sight result ≡ sight }
 {
-    let _scanners = scanners;
-    let scanner_cell = cells[sight.scanner as usize].number() as u64;
-    let vertex_cell = t.cell_at(sight.vertex).number() as u64;
+    let scanner_cell = located.cells[sight.scanner as usize].number() as u64;
+    let vertex_cell = located.t.cell_at(sight.vertex).number() as u64;
     let key = if is_together(together, sight) {
         1 << 63 | (sight.scanner as u64) << 31 | vertex_cell >> 1
     } else {
@@ -60,19 +52,17 @@ fn with_key(
 /// Returns the sights with their keys.
 fn with_keys(
     alloc: Global,
-    t: &Tetra,
-    scanners: &[Point],
-    cells: &[CellId],
+    located: &Located<'_>,
     sights: &[Sight],
     together: &[bool],
 ) -> Result<Vec<Keyed>, NoMemory>
-    requires sights { All (IsInRange (vertices_of t.now) scanners.now) sights.now }
-    requires cells { length cells.now ≡ length scanners.now }
+    requires sights { All (IsInRange (vertices_of located.now.t.now) located.now.scanners.now) sights.now }
+    requires cells { length located.now.cells.now ≡ length located.now.scanners.now }
     ensures { IfOk result (λ list. map the_sight list.items ≡ sights.now) }
 {
     let mut list = Vec::with_capacity(alloc, sights.len())?;
     for sight in sights {
-        list.push(with_key(t, scanners, cells, *sight, together))?;
+        list.push(with_key(located, *sight, together))?;
     }
     Ok(list)
 }
@@ -87,17 +77,15 @@ fn sort(list: &mut [Keyed])
 /// Returns the sights with their keys, sorted by these.
 fn sorted(
     alloc: Global,
-    t: &Tetra,
-    scanners: &[Point],
-    cells: &[CellId],
+    located: &Located<'_>,
     sights: &[Sight],
     together: &[bool],
 ) -> Result<Vec<Keyed>, NoMemory>
-    requires sights { All (IsInRange (vertices_of t.now) scanners.now) sights.now }
-    requires cells { length cells.now ≡ length scanners.now }
+    requires sights { All (IsInRange (vertices_of located.now.t.now) located.now.scanners.now) sights.now }
+    requires cells { length located.now.cells.now ≡ length located.now.scanners.now }
     ensures { IfOk result (λ list. IsPermutation sights.now (map the_sight list.items)) }
 {
-    let mut list = with_keys(alloc, t, scanners, cells, sights, together)?;
+    let mut list = with_keys(alloc, located, sights, together)?;
     sort(&mut list);
     Ok(list)
 }
@@ -116,16 +104,14 @@ fn without_keys(alloc: Global, list: &[Keyed]) -> Result<Vec<Sight>, NoMemory>
 /// Returns the sights in this order. The keys are freed before it returns.
 pub(crate) fn ordered(
     alloc: Global,
-    t: &Tetra,
-    scanners: &[Point],
-    cells: &[CellId],
+    located: &Located<'_>,
     sights: &[Sight],
     together: &[bool],
 ) -> Result<Vec<Sight>, NoMemory>
-    requires sights { All (IsInRange (vertices_of t.now) scanners.now) sights.now }
-    requires cells { length cells.now ≡ length scanners.now }
+    requires sights { All (IsInRange (vertices_of located.now.t.now) located.now.scanners.now) sights.now }
+    requires cells { length located.now.cells.now ≡ length located.now.scanners.now }
     ensures { IfOk result (λ ordered. IsPermutation sights.now ordered.items) }
 {
-    let list = sorted(alloc, t, scanners, cells, sights, together)?;
+    let list = sorted(alloc, located, sights, together)?;
     without_keys(alloc, &list)
 }

@@ -1,16 +1,14 @@
 //! Accumulates weights along sights.
 
-ghost use Rattle.std.specs.Prelude.{◌≡◌, ◌<◌, ◌≤◌, ◌+◌, ◌*◌, ◌^◌, ℕ, [], All, IfOk, true, IsTrue, IsFalse, length, slice_index};
-ghost use Rattle.geo_sign.specs.declared.point.TheConstants.{DATA_LIMIT};
-ghost use Rattle.geo_sign.specs.Point.{IsWithin};
+ghost use Rattle.std.specs.Prelude.{◌≡◌, ◌<◌, ◌≤◌, ◌+◌, ◌*◌, ◌^◌, ℕ, [], IfOk, true, IsTrue, IsFalse, length, slice_index};
 ghost use Rattle.geo_sign.specs.Rational.{displaced};
 ghost use Rattle.geo_sign.specs.Sights.{is_behind};
 ghost use Rattle.flow_net.specs.Weights.{IsSightList};
 ghost use Rattle.tetra_store.specs.Delaunay.{IsDelaunay};
 ghost use Rattle.tetra_store.specs.Links.{links_of, IsLive};
 ghost use Rattle.tetra_store.specs.Store.{vertices_of};
-ghost use Rattle.solution.specs.Counts.{IsInRange, added_by as added_by_sight, AreScannerCells, AreCounted};
-ghost use Rattle.solution.specs.Lines.{IsLineOf, IsLineIn, added_on, added_behind, HasCounterRoom, IsCountedStep};
+ghost use Rattle.solution.specs.Counts.{added_by as added_by_sight, AreCounted};
+ghost use Rattle.solution.specs.Lines.{CanFollow, IsLineOf, IsLineIn, added_on, added_behind, HasCounterRoom, IsCountedStep};
 
 use crate::NoMemory;
 use flow_net::Sight;
@@ -36,6 +34,14 @@ fn added_by(sight: Sight) -> u32
     sight.weight
 }
 
+/// The linked cells, and the scanners with the cells that they are in.
+#[derive(Clone, Copy)]
+pub(crate) struct Located<'a> {
+    pub(crate) t: &'a Tetra,
+    pub(crate) scanners: &'a [Point],
+    pub(crate) cells: &'a [CellId],
+}
+
 /// A sight to be traversed, from its vertex to its scanner in the cell `end`, with the weight that it adds.
 #[derive(Clone, Copy)]
 pub(crate) struct Line {
@@ -46,15 +52,15 @@ pub(crate) struct Line {
 }
 
 /// Returns the line of a sight.
-pub(crate) fn line_of(scanners: &[Point], cells: &[CellId], sight: Sight) -> Line
-    requires scanner { sight.scanner < length scanners.now }
-    requires cell { sight.scanner < length cells.now }
-    ensures { IsLineOf scanners.now cells.now sight result }
+pub(crate) fn line_of(located: &Located<'_>, sight: Sight) -> Line
+    requires scanner { sight.scanner < length located.now.scanners.now }
+    requires cell { sight.scanner < length located.now.cells.now }
+    ensures { IsLineOf located.now.scanners.now located.now.cells.now sight result }
 {
     Line {
         vertex: sight.vertex,
-        scanner: scanners[sight.scanner as usize],
-        end: cells[sight.scanner as usize],
+        scanner: located.scanners[sight.scanner as usize],
+        end: located.cells[sight.scanner as usize],
         added: added_by(sight),
     }
 }
@@ -155,20 +161,15 @@ fn count_two(t: &Tetra, one: &Line, other: &Line, crossed: &mut [u32], before: &
 /// and one more. Reports the number of counted sights to a progress callback.
 pub(crate) fn count_sights<W: Watch>(
     alloc: Global,
-    t: &Tetra,
-    scanners: &[Point],
-    cells: &[CellId],
+    located: &Located<'_>,
     sights: &[Sight],
     watch: &mut W,
 ) -> Result<Counts, NoMemory>
-    requires delaunay { IsDelaunay (vertices_of t.now) (links_of t.now.slots) }
-    requires sights { All (IsInRange (vertices_of t.now) scanners.now) sights.now }
+    requires sights { CanFollow located.now sights.now }
     requires few { IsSightList sights.now }
-    requires data_points { All (IsWithin DATA_LIMIT) scanners.now }
-    requires cells { AreScannerCells t.now scanners.now cells.now }
-    ensures { IfOk result (λ counts. AreCounted t.now scanners.now sights.now counts.crossed.items counts.behind.items) }
+    ensures { IfOk result (λ counts. AreCounted located.now.t.now located.now.scanners.now sights.now counts.crossed.items counts.behind.items) }
 {
-    let limit = t.number_limit();
+    let limit = located.t.number_limit();
     if limit > MOST_CELLS {
         return Err(AllocError);
     }
@@ -177,15 +178,15 @@ pub(crate) fn count_sights<W: Watch>(
     let mut k = 0;
     while k + 1 < sights.len() {
         tell(watch, k);
-        let one = line_of(scanners, cells, sights[k]);
-        let other = line_of(scanners, cells, sights[k + 1]);
-        count_two(t, &one, &other, &mut crossed, &mut behind);
+        let one = line_of(located, sights[k]);
+        let other = line_of(located, sights[k + 1]);
+        count_two(located.t, &one, &other, &mut crossed, &mut behind);
         k += 2;
     }
     if k < sights.len() {
-        let last = line_of(scanners, cells, sights[k]);
-        count_crossed(t, &last, &mut crossed);
-        count_behind(t, &last, &mut behind);
+        let last = line_of(located, sights[k]);
+        count_crossed(located.t, &last, &mut crossed);
+        count_behind(located.t, &last, &mut behind);
     }
     Ok(Counts { crossed, behind })
 }

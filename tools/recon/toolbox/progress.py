@@ -19,8 +19,8 @@ from typing import Callable, Iterator, List, Optional, Sequence
 Part = Callable[[], Optional[float]]
 FIRST, EACH, FIRST_LINE = 2.0, 1.0, 5.0
 LEAST_PART = 0.01
-# the part of the time spent that a step which takes longer than expected is said to take still
-LATE = 0.15
+# the part of the time spent that a step which takes longer than expected is said to take still; of one that takes this many times as long nothing is said
+LATE, TOO_LATE = 0.15, 2.0
 LINE = 100
 COUNTS = re.compile(r'(cells|sights) ([0-9,]+) of ([0-9,]+)')
 # where the phases of a build begin and end, as parts of its time
@@ -38,7 +38,7 @@ class Step:
         """The line. `pace` is how many times as long as expected steps have taken."""
         spent = time.monotonic() - self.begun
         done = self.part() if self.part is not None else None
-        if done is None and self.seconds:
+        if done is None and self.seconds and spent < TOO_LATE * self.seconds * pace:
             done = spent / (spent + max(self.seconds * pace - spent, LATE * spent, 1e-3))
         if done is None or done < LEAST_PART or done >= 1:
             return f'{self.what}: {lasting(spent)} so far'

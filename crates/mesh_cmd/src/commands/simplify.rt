@@ -89,7 +89,7 @@ fn reply_to_mesh<'a>(
     let search = Request {
         within: request.options.within,
         faces: request.options.faces,
-        moves: request.moves,
+        moves: request.options.moves,
     };
     match simplify_mesh(alloc, mesh, search, request.options.surface) {
         Ok(new) => Ok(reply_of_mesh(alloc, &new, digest, request, output)?),

@@ -8,24 +8,24 @@ use Rattle.beam.proofs.beam.cross.Goals as goal
 
 pub unreachable-requires : goal.unreachable-requires
 unreachable-requires c =
-    let s = c.args.t.now in let o = c.args.s in let r = c.args.ray in let h = c.requires in
+    let s = c.args.view.now.t.now in let o = c.args.view.now.s in let r = c.args.exit.ray in let h = c.requires in
     let scene : IsScene s o = record { store = c.facts.ensures; delaunay = h.delaunay; data_point = h.data_point } in
-    not_none s o r c.args.cell c.args.side (went s o r c.args.cell c.args.side scene h.ray h.side h.through)
+    not_none s o r c.args.exit.cell c.args.exit.side (went s o r c.args.exit.cell c.args.exit.side scene h.ray h.side h.through)
     (sym c.across.ensures.value ∙ c.in-None.is)
 
 pub put-requires-clause-ray : goal.put-requires-clause-ray
 put-requires-clause-ray c =
-    let s = c.args.t.now in let o = c.args.s in let r = c.args.ray in let h = c.requires in
+    let s = c.args.view.now.t.now in let o = c.args.view.now.s in let r = c.args.exit.ray in let h = c.requires in
     let scene : IsScene s o = record { store = c.facts.ensures; delaunay = h.delaunay; data_point = h.data_point } in
-    waits s o r c.args.cell c.args.side c.in-Some.next h.ray.ray
-    (to_next s o r c.args.cell c.args.side c.in-Some.next
-    (went s o r c.args.cell c.args.side scene h.ray h.side h.through) (sym c.across.ensures.value ∙ c.in-Some.is))
+    waits s o r c.args.exit.cell c.args.exit.side c.in-Some.next h.ray.ray
+    (to_next s o r c.args.exit.cell c.args.exit.side c.in-Some.next
+    (went s o r c.args.exit.cell c.args.exit.side scene h.ray h.side h.through) (sym c.across.ensures.value ∙ c.in-Some.is))
 
 pub returns-clause-sums : goal.returns-clause-sums
 returns-clause-sums c =
     λ id k m b.
-    (let s = c.args.t.now in let o = c.args.s in let r = c.args.ray in let h = c.requires in let y = c.args.cell in
-    let j = c.args.side in let z = c.in-Some.next in
+    (let s = c.args.view.now.t.now in let o = c.args.view.now.s in let r = c.args.exit.ray in let h = c.requires in let y = c.args.exit.cell in
+    let j = c.args.exit.side in let z = c.in-Some.next in
     let scene : IsScene s o = record { store = c.facts.ensures; delaunay = h.delaunay; data_point = h.data_point } in
     let w = to_next s o r y j z (went s o r y j scene h.ray h.side h.through) (sym c.across.ensures.value ∙ c.in-Some.is) in
     let e = raised c.args.crossed.now y j id k r.added h.side b (below s y j (length c.args.crossed.now) h.ray.live h.side h.fits) in
@@ -37,8 +37,8 @@ returns-clause-sums c =
 
 pub returns-clause-work : goal.returns-clause-work
 returns-clause-work c =
-    let s = c.args.t.now in let o = c.args.s in let r = c.args.ray in let h = c.requires in let y = c.args.cell in
-    let j = c.args.side in let z = c.in-Some.next in
+    let s = c.args.view.now.t.now in let o = c.args.view.now.s in let r = c.args.exit.ray in let h = c.requires in let y = c.args.exit.cell in
+    let j = c.args.exit.side in let z = c.in-Some.next in
     let scene : IsScene s o = record { store = c.facts.ensures; delaunay = h.delaunay; data_point = h.data_point } in
     let w = to_next s o r y j z (went s o r y j scene h.ray h.side h.through) (sym c.across.ensures.value ∙ c.in-Some.is) in
     let f = shorter s o r y j z w in

@@ -6,18 +6,18 @@ use Rattle.beam.proofs.beam.follow.Goals as goal
 
 pub leave-requires-clause-waiting : goal.leave-requires-clause-waiting
 leave-requires-clause-waiting c =
-    (left_by (AreWaiting c.args.t.now c.args.s) c.loop-from.queue.cells.items c.take.new.queue.cells.items c.in-Some.from
+    (left_by (AreWaiting c.args.view.now.t.now c.args.view.now.s) c.loop-from.queue.cells.items c.take.new.queue.cells.items c.in-Some.from
     c.in-Some.ensures.some c.loop-from.invariant.waiting).1
 
 pub leave-requires-clause-from : goal.leave-requires-clause-from
 leave-requires-clause-from c =
-    (left_by (AreWaiting c.args.t.now c.args.s) c.loop-from.queue.cells.items c.take.new.queue.cells.items c.in-Some.from
+    (left_by (AreWaiting c.args.view.now.t.now c.args.view.now.s) c.loop-from.queue.cells.items c.take.new.queue.cells.items c.in-Some.from
     c.in-Some.ensures.some c.loop-from.invariant.waiting).0
 
 pub leave-requires-clause-room : goal.leave-requires-clause-room
 leave-requires-clause-room c =
     λ id k m b.
-    (let s = c.args.t.now in let o = c.args.s in
+    (let s = c.args.view.now.t.now in let o = c.args.view.now.s in
     let a =
     total_left (still_added s o id k) c.loop-from.queue.cells.items c.take.new.queue.cells.items c.in-Some.from
     c.in-Some.ensures.some in
@@ -31,7 +31,7 @@ loop-from-preserved c =
       count = c.in_ok-leave.ensures.count ∙ c.loop-from.invariant.count;
       waiting = c.in_ok-leave.ensures.waiting;
       sums = λ id k m b.
-          (let s = c.args.t.now in let o = c.args.s in
+          (let s = c.args.view.now.t.now in let o = c.args.view.now.s in
           let a =
           total_left (still_added s o id k) c.loop-from.queue.cells.items c.take.new.queue.cells.items c.in-Some.from
           c.in-Some.ensures.some in
@@ -43,6 +43,6 @@ loop-from-preserved c =
 pub loop-from-smaller : goal.loop-from-smaller
 loop-from-smaller c =
     let a =
-    work_left c.args.t.now c.args.s c.loop-from.queue.cells.items c.take.new.queue.cells.items c.in-Some.from c.in-Some.ensures.some in
+    work_left c.args.view.now.t.now c.args.view.now.s c.loop-from.queue.cells.items c.take.new.queue.cells.items c.in-Some.from c.in-Some.ensures.some in
     let here = c.in_ok-leave.ensures.work in
     omega (arith, a, here)

@@ -15,7 +15,7 @@ more f rs i r l e =
 pub step-requires-clause-room : goal.step-requires-clause-room
 step-requires-clause-room c =
     λ k b.
-    (let s = c.args.t.now in let o = c.args.s in let y = c.args.from.now.cell in let rs = c.args.from.now.rays.items in
+    (let s = c.args.view.now.t.now in let o = c.args.view.now.s in let y = c.args.from.now.cell in let rs = c.args.from.now.rays.items in
     let i = c.loop-ray.ray-index in let r : Ray = c.ray-item.result in let live = c.requires.from.live in
     let e = ap length c.deref-ray-items.ensures.value in
     let l : i < length rs = omega (arith, e, c.loop-ray-test.true) in
@@ -28,7 +28,7 @@ step-requires-clause-room c =
 
 pub loop-ray-preserved : goal.loop-ray-preserved
 loop-ray-preserved c =
-    let s = c.args.t.now in let o = c.args.s in let y = c.args.from.now.cell in let rs = c.args.from.now.rays.items in
+    let s = c.args.view.now.t.now in let o = c.args.view.now.s in let y = c.args.from.now.cell in let rs = c.args.from.now.rays.items in
     let i = c.loop-ray.ray-index in let r : Ray = c.ray-item.result in
     let e = ap length c.deref-ray-items.ensures.value in
     let l : i < length rs = omega (arith, e, c.loop-ray-test.true) in

@@ -11,7 +11,7 @@ use Rattle.beam.proofs.beam.step.Goals as goal
 pub returns-then-side-eq-NO_SIDE-clause-sums : goal.returns-then-side-eq-NO_SIDE-clause-sums
 returns-then-side-eq-NO_SIDE-clause-sums c =
     λ id k m b.
-    (let s = c.args.t.now in let o = c.args.s in let r = c.args.ray.now in let h = c.requires in let y = c.args.from.now.cell in
+    (let s = c.args.view.now.t.now in let o = c.args.view.now.s in let r = c.args.ray.now in let h = c.requires in let y = c.args.from.now.cell in
     let scene : IsScene s o = record { store = c.facts.ensures; delaunay = h.delaunay; data_point = h.data_point } in
     let t = tetrahedron_from c.args.from.now.vertices in
     let here =
@@ -24,7 +24,7 @@ returns-then-side-eq-NO_SIDE-clause-sums c =
 
 pub cross-requires-clause-room : goal.cross-requires-clause-room
 cross-requires-clause-room c =
-    let s = c.args.t.now in let o = c.args.s in let r = c.args.ray.now in let h = c.requires in let y = c.args.from.now.cell in
+    let s = c.args.view.now.t.now in let o = c.args.view.now.s in let r = c.args.ray.now in let h = c.requires in let y = c.args.from.now.cell in
     let scene : IsScene s o = record { store = c.facts.ensures; delaunay = h.delaunay; data_point = h.data_point } in
     let t = tetrahedron_from c.args.from.now.vertices in let j = c.side_entered-side.result in
     let z =

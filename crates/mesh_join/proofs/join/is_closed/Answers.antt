@@ -1,19 +1,20 @@
-use Rattle.std.proofs.Common.{List, ℕ, length, subst, Bool, true, false}
-use Rattle.std.specs.Bool.{OnTrue}
-use Rattle.std.specs.List.{All}
-use Rattle.mesh.specs.Meshes.{IsFace}
-use Rattle.mesh_edges.specs.Edges.{IsBalanced}
-use Rattle.half_edges.specs.HalfEdges.{ArePaired}
-use Rattle.half_edges.specs.Laws.{PairedAreClosed}
+use Rattle.std.proofs.Common.{◌≡◌, ◌↔◌, ◌∙◌, refl, sym, ℕ, List, IsTrue, Bool, true, false, true≢false, not, Option, Some, None}
+use Rattle.std.specs.Option.{is_some, IfNone, IfSome}
+use Rattle.mesh_edges.specs.Edges.{IsBalanced, IsFirstUnbalanced}
+use Rattle.mesh_edges.specs.declared.balance.UnbalancedEdge.{UnbalancedEdge}
 use Rattle.mesh_join.proofs.join.is_closed.Goals as goal
 
-closed : PairedAreClosed → (n : ℕ) (faces : List (List ℕ)) (twins : List ℕ) → All (IsFace n) faces → (b : Bool)
-    → OnTrue b (ArePaired faces twins) → OnTrue b (IsBalanced faces)
-closed law n faces twins each true paired = law n faces twins each paired
-closed law n faces twins each false paired = tt
+-- a mesh is closed exactly if no unbalanced edge is found
+none_is_closed : (faces : List (List ℕ)) (edge : Option UnbalancedEdge) (none : Bool) → is_some edge ≡ not none
+    → IfNone edge (IsBalanced faces) → IfSome edge (λ e. IsFirstUnbalanced faces e.from e.to e.there e.back)
+    → IsTrue none ↔ IsBalanced faces
+none_is_closed faces None true same balanced first = (λ _. balanced, λ _. refl)
+none_is_closed faces None false same balanced first = absurd (true≢false (sym same))
+none_is_closed faces (Some e) true same balanced first = absurd (true≢false same)
+none_is_closed faces (Some e) false same balanced first =
+    (λ no. absurd (true≢false (sym no)), λ all. absurd (first.differ (first.there ∙ (all e.from e.to ∙ sym first.back))))
 
 pub returns : goal.returns
 returns c =
-    closed c.paired_meshes_are_closed.ensures (length c.args.mesh.now.points.items) c.args.mesh.now.faces.items c.args.twins.now
-    c.requires.each c.are_twins.result
-    (subst (λ (fs : List (List ℕ)). OnTrue c.are_twins.result (ArePaired fs c.args.twins.now)) c.deref.ensures.value c.are_twins.ensures.yes)
+    none_is_closed c.args.mesh.now.faces.items c.in_ok-edge.edge c.is_none.result c.is_none.ensures c.in_ok-edge.ensures.balanced
+    c.in_ok-edge.ensures.unbalanced

@@ -1,8 +1,9 @@
-use Rattle.std.proofs.Common.{◌≡◌, ℕ, List, ap, sym, ◌∙◌, subst, length, map, Contains}
+use Rattle.std.proofs.Common.{◌≡◌, ℕ, List, ap, sym, ◌∙◌, subst, inr, length, map, Contains}
 use Rattle.std.proofs.lemmas.List.Sorted.{All-permutation, Contains-permutation, IsPermutation-sym}
 use Rattle.std.specs.List.Sorted.{IsPermutation}
 use Rattle.mesh.specs.Meshes.{IsFace}
 use Rattle.mesh_join.specs.Joins.{face_at_places}
+use Rattle.mesh_join.proofs.Flat.{flat_mesh}
 use Rattle.mesh_join.proofs.places.tile_of.Goals as goal
 
 pub returns-clause-numbered : goal.returns-clause-numbered
@@ -30,3 +31,10 @@ pub returns-clause-valid : goal.returns-clause-valid
 returns-clause-valid c =
     All-permutation (λ (f : List ℕ). IsFace (length c.args.places.now) f) c.in-Some-2.faces.items c.in_ok-list.list.items
     c.in_ok-list.ensures.permutation (rw c.in-Some-2.is at c.in_ok-faces.ensures.valid)
+
+pub returns-in_default-2-clause-none : goal.returns-in_default-2-clause-none
+returns-in_default-2-clause-none c =
+    inr (flat_mesh c.args.places.now c.args.mesh.now c.in-Some.numbers.items c.deref-2.result.now c.deref-3.result.now
+    c.requires.mesh.each c.deref-3.ensures.value c.deref-2.ensures.value
+    (sym c.deref.ensures.value ∙ (rw c.in-Some.is at c.in_ok-numbers.ensures.at)) (rw c.in-Some.is at c.in_ok-numbers.ensures.within)
+    (rw c.in_default-2.is at c.in_ok-faces.ensures.none))

@@ -14,10 +14,10 @@ use Rattle.solution.proofs.beaming.count_all_facets.Goals as goal
 
 pub count_facets-requires-clause-room : goal.count_facets-requires-clause-room
 count_facets-requires-clause-room g c id k m b =
-    let a = c.args in let l = c.loop-rest in
+    let w = c.args.located.now in let l = c.loop-rest in
     let room = c.requires.room id k m b in
     let sums = l.invariant.sums id k m b in
-    let split = split_facets a.t.now a.scanners.now id k l.rest.now c.group_of-group.result.count in
+    let split = split_facets w.t.now w.scanners.now id k l.rest.now c.group_of-group.result.count in
     omega (arith, room, sums, split)
 
 pub offset_bounds-rest-group : goal.offset_bounds-rest-group
@@ -25,26 +25,33 @@ offset_bounds-rest-group g c = let n = c.group_of-group.ensures.within in let fe
 
 pub loop-rest-preserved : goal.loop-rest-preserved
 loop-rest-preserved g c =
-    let a = c.args in let l = c.loop-rest in let xs = l.rest.now in let n = c.group_of-group.result.count in
+    let w = c.args.located.now in let l = c.loop-rest in let xs = l.rest.now in let n = c.group_of-group.result.count in
     let rest : between n (length xs) xs ≡ drop n xs = between_to_end xs n (length xs) (omega arith) in
     record {
       count = c.count_facets.ensures.count ∙ l.invariant.count;
-      range =
-          All-same (IsInRange (vertices_of a.t.now) a.scanners.now) _ (drop n xs) rest
-          (All-drop (IsInRange (vertices_of a.t.now) a.scanners.now) n xs l.invariant.range);
+      follow =
+          (let h = l.invariant.follow in
+          record {
+            delaunay = h.delaunay;
+            in_range =
+                All-same (IsInRange (vertices_of w.t.now) w.scanners.now) _ (drop n xs) rest
+                (All-drop (IsInRange (vertices_of w.t.now) w.scanners.now) n xs h.in_range);
+            data_points = h.data_points;
+            cells = h.cells;
+          });
       few =
           (let e = ap length rest in let m = length-drop n xs in let few = l.invariant.few in omega (arith, e, m, few));
       sums = λ id k m b.
           (let added = c.in_ok-count_facets.ensures.added id k m b in
-          let split = split_facets a.t.now a.scanners.now id k xs n in
-          let e = ap (λ (zs : List Sight). crossing_weight a.t.now a.scanners.now id k zs) rest in
+          let split = split_facets w.t.now w.scanners.now id k xs n in
+          let e = ap (λ (zs : List Sight). crossing_weight w.t.now w.scanners.now id k zs) rest in
           let old = l.invariant.sums id k m b in
           omega (arith, added, split, e, old));
     }
 
 pub returns-clause-added : goal.returns-clause-added
 returns-clause-added g c id k m b =
-    let a = c.args in let l = c.loop-rest in
-    let none = none_added a.t.now a.scanners.now l.rest.now l.crossed (omega (arith, c.loop-rest-test.false)) id k m b in
+    let w = c.args.located.now in let l = c.loop-rest in
+    let none = none_added w.t.now w.scanners.now l.rest.now l.crossed (omega (arith, c.loop-rest-test.false)) id k m b in
     let sums = l.invariant.sums id k m b in
     omega (arith, none, sums)

@@ -15,17 +15,17 @@ count_behind-requires-clause-fits c = let same = c.loop-k.invariant.count in ome
 
 pub count_behind-requires-clause-room : goal.count_behind-requires-clause-room
 count_behind-requires-clause-room c id live at =
-    let a = c.args in let l = c.loop-k in
+    let a = c.args in let w = a.located.now in let l = c.loop-k in
     let room = c.requires.room id live in
     let added = l.invariant.added id live in
     let most =
-    cell_room_for a.t.now a.scanners.now a.cells.now a.sights.now l.k c.line_of-line.result (omega (arith, c.loop-k-test.true))
+    cell_room_for w.t.now w.scanners.now w.cells.now a.sights.now l.k c.line_of-line.result (omega (arith, c.loop-k-test.true))
     c.line_of-line.ensures id live at in
     omega (arith, room, added, most)
 
 pub loop-k-preserved : goal.loop-k-preserved
 loop-k-preserved c =
-    let a = c.args in let l = c.loop-k in
+    let a = c.args in let w = a.located.now in let l = c.loop-k in
     record {
       so_far = omega (arith, c.loop-k-test.true);
       count = c.count_behind.ensures.count ∙ l.invariant.count;
@@ -33,16 +33,16 @@ loop-k-preserved c =
           (let one = c.count_behind.ensures.added id in
           let added = l.invariant.added id live in
           let more =
-          cell_more a.t.now a.scanners.now a.cells.now a.sights.now l.k c.line_of-line.result
+          cell_more w.t.now w.scanners.now w.cells.now a.sights.now l.k c.line_of-line.result
           (omega (arith, c.loop-k-test.true)) c.line_of-line.ensures id live in
           omega (arith, one, added, more));
     }
 
 pub returns-clause-added : goal.returns-clause-added
 returns-clause-added c id live =
-    let a = c.args in let l = c.loop-k in
+    let a = c.args in let w = a.located.now in let l = c.loop-k in
     let whole : take l.k a.sights.now ≡ a.sights.now =
     take_all l.k a.sights.now (omega (arith, c.loop-k-test.false)) in
-    let e = ap (λ (xs : List Sight). behind_weight a.t.now a.scanners.now id xs) whole in
+    let e = ap (λ (xs : List Sight). behind_weight w.t.now w.scanners.now id xs) whole in
     let added = l.invariant.added id live in
     omega (arith, added, e)

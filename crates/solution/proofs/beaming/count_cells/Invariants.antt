@@ -8,8 +8,8 @@ invariant-loop-k l = record {
   so_far : l.k ≤ length l.sights;
   count : length l.behind ≡ length l.initial.behind;
   added :
-      (id : ℕ) → IsLive (links_of l.t.slots) id
-      → slice_index l.behind id ≡ slice_index l.initial.behind id + behind_weight l.t l.scanners id (take l.k l.sights);
+      (id : ℕ) → IsLive (links_of l.located.t.now.slots) id
+      → slice_index l.behind id ≡ slice_index l.initial.behind id + behind_weight l.located.t.now l.located.scanners.now id (take l.k l.sights);
 }
 
 abbrev pub decreases-loop-k : goal.decreases-loop-k

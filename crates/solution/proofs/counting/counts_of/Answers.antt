@@ -14,8 +14,14 @@ pub count_in_order-requires-clause-sights : goal.count_in_order-requires-clause-
 count_in_order-requires-clause-sights g c =
     let walked : IsPermutation c.args.sights.now c.deref-2.result.now =
     subst (λ (z : List Sight). IsPermutation c.args.sights.now z) (sym c.deref-2.ensures.value) c.in_ok-order.ensures in
-    All-permutation (IsInRange (vertices_of c.args.t.now) c.args.scanners.now) c.args.sights.now c.deref-2.result.now walked
-    c.requires.sights
+    let w = c.args.located.now in let h = c.requires.sights in
+    record {
+      delaunay = h.delaunay;
+      in_range =
+          All-permutation (IsInRange (vertices_of w.t.now) w.scanners.now) c.args.sights.now c.deref-2.result.now walked h.in_range;
+      data_points = h.data_points;
+      cells = h.cells;
+    }
 
 pub count_in_order-requires-clause-few : goal.count_in_order-requires-clause-few
 count_in_order-requires-clause-few g c =
@@ -30,8 +36,8 @@ count_in_order-requires-clause-few g c =
 
 pub returns : goal.returns
 returns g c =
-    let s = c.args.t.now in
-    let scanners = c.args.scanners.now in
+    let s = c.args.located.now.t.now in
+    let scanners = c.args.located.now.scanners.now in
     let sights = c.args.sights.now in
     let order = c.deref-2.result.now in
     let walked : IsPermutation sights order =

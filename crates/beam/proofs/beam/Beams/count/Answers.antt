@@ -10,7 +10,7 @@ use Rattle.beam.proofs.beam.Beams.count.Goals as goal
 
 pub follow-requires-clause-waiting : goal.follow-requires-clause-waiting
 follow-requires-clause-waiting c =
-    let s = c.args.t.now in let o = c.args.s in let e = c.args.end in let h = c.requires in
+    let s = c.args.view.now.t.now in let o = c.args.view.now.s in let e = c.args.end in let h = c.requires in
     let scene : IsScene s o = record { store = c.facts.ensures; delaunay = h.delaunay; data_point = h.data_point } in
     let w : Waiting = record { cell = e; rays = c.args.rays } in
     let are : AreWaiting s o w = record {
@@ -24,7 +24,7 @@ follow-requires-clause-waiting c =
 pub follow-requires-clause-room : goal.follow-requires-clause-room
 follow-requires-clause-room c =
     λ id k m b.
-    (let s = c.args.t.now in let o = c.args.s in let e = c.args.end in let h = c.requires in
+    (let s = c.args.view.now.t.now in let o = c.args.view.now.s in let e = c.args.end in let h = c.requires in
     let scene : IsScene s o = record { store = c.facts.ensures; delaunay = h.delaunay; data_point = h.data_point } in
     let w : Waiting = record { cell = e; rays = c.args.rays } in
     let items : c.push.new.self.items ≡ w ∷ [] =
@@ -38,7 +38,7 @@ follow-requires-clause-room c =
 pub returns-clause-added : goal.returns-clause-added
 returns-clause-added c =
     λ id k m b.
-    (let s = c.args.t.now in let o = c.args.s in let e = c.args.end in let h = c.requires in
+    (let s = c.args.view.now.t.now in let o = c.args.view.now.s in let e = c.args.end in let h = c.requires in
     let scene : IsScene s o = record { store = c.facts.ensures; delaunay = h.delaunay; data_point = h.data_point } in
     let w : Waiting = record { cell = e; rays = c.args.rays } in
     let items : c.push.new.self.items ≡ w ∷ [] =
