@@ -1,12 +1,10 @@
 -- Texts of which none stands at the front of another.
-use Rattle.std.proofs.Common.{ℕ, zero, suc, ◌≡◌, ◌<◌, ◌^◌, refl, ap, sym, ◌∙◌, arith, ℤ, pos, negsuc, List, [], ◌∷◌, ◌++◌}
+use Rattle.std.proofs.Common.{ℕ, zero, suc, ◌≡◌, ◌<◌, ◌^◌, refl, ap, sym, ◌∙◌, arith, List, [], ◌∷◌, ◌++◌}
 use Rattle.std.proofs.Common.{length, decimal, append_assoc}
-use Rattle.std.specs.Fmt.{signed_decimal}
 use Rattle.std.specs.List.{flat_map, All}
-use Rattle.std.specs.Int.Signed.{mag}
 use Rattle.line_text.specs.Numbers.{ended, counted, Lacks, BeginsWithNone}
 use Rattle.geo_sign.specs.Numbers.{IsBetween}
-use Rattle.std.proofs.lemmas.Fmt.{decimal_is_IsNumeral, decimal_injective, signed_decimal_injective}
+use Rattle.std.proofs.lemmas.Fmt.{decimal_is_IsNumeral, decimal_injective}
 use Rattle.std.proofs.lemmas.List.Elements.{All-head, All-tail}
 use Rattle.std.proofs.lemmas.Str.Parse.{digit_at}
 
@@ -37,24 +35,12 @@ decimal_lacks n stop fits low k lt e =
     let digit = digit_at (decimal n) k ((decimal_is_IsNumeral n fits).0).1 lt in
     omega (arith, digit.0, digit.1)
 
-pub signed_lacks : (z : ℤ) (stop : ℕ) → mag z < 2 ^ 63 → stop < 45 → Lacks stop (signed_decimal z)
-signed_lacks (pos n) stop small low k lt e = decimal_lacks n stop (omega arith) (omega arith) k lt e
-signed_lacks (negsuc n) stop small low zero lt e = omega arith
-signed_lacks (negsuc n) stop small low (suc k) lt e = decimal_lacks (suc n) stop (omega arith) (omega arith) k (omega arith) e
-
 -- a number ends at the first byte that is no digit
 pub number_first : (stop m n : ℕ) (r s : List ℕ) → stop < 48 → m < 2 ^ 64 → n < 2 ^ 64
     → decimal m ++ stop ∷ r ≡ decimal n ++ stop ∷ s → (m ≡ n) × (r ≡ s)
 number_first stop m n r s low a b e =
     let same = one_split stop (decimal m) (decimal n) r s (decimal_lacks m stop a low) (decimal_lacks n stop b low) e in
     (decimal_injective m n a b same.0, same.1)
-
-pub signed_first : (stop : ℕ) (y z : ℤ) (r s : List ℕ) → stop < 45 → mag y < 2 ^ 63 → mag z < 2 ^ 63
-    → signed_decimal y ++ stop ∷ r ≡ signed_decimal z ++ stop ∷ s → (y ≡ z) × (r ≡ s)
-signed_first stop y z r s low a b e =
-    let same =
-    one_split stop (signed_decimal y) (signed_decimal z) r s (signed_lacks y stop a low) (signed_lacks z stop b low) e in
-    (signed_decimal_injective y z a b same.0, same.1)
 
 pub ended_is : (n end : ℕ) (rest : List ℕ) → ended n end ++ rest ≡ decimal n ++ (end ∷ rest)
 ended_is n end rest = append_assoc (decimal n) (end ∷ []) rest

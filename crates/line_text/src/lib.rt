@@ -9,6 +9,7 @@
 //! The crate depends on `num_text`, which prints the numbers, and on `geo_sign` for the order of rows.
 #![tactic(auto)]
 
+mod digits;
 mod facet;
 mod lines;
 mod print;
@@ -19,7 +20,6 @@ pub use facet::{facet_first, pair_first, vertex_first};
 pub use lines::{number_line, word_line};
 pub use print::{NoMemory, push_counted, push_number, push_signed};
 pub use read::{
-    behind, counted_first, counted_within, cut_at, number_first, number_of, number_within,
-    signed_first,
+    behind, counted_within, cut_at, number_first, number_of, number_within, signed_first,
 };
 pub use refusal::{LineRefusal, refusal_of};

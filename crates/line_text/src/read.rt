@@ -1,12 +1,13 @@
 //! Reads numbers at the start of a text. Accepts exactly the printed form: digits without a leading zero and without a sign.
 
 ghost use Rattle.std.specs.Prelude.{◌≡◌, ◌<◌, ◌≤◌, ◌^◌, ◌++◌, ◌∷◌, ℕ, ℤ, List, IfSome, IfNone, length, slice_index, decimal};
-ghost use Rattle.std.specs.Bool.{OnTrue, OnFalse};
 ghost use Rattle.std.specs.Fmt.{signed_decimal};
+ghost use Rattle.std.specs.Int.{IsInRange};
 ghost use Rattle.std.specs.Int.Signed.{mag};
 ghost use Rattle.line_text.specs.Numbers.{ended, counted, signed_ended, BeginsWithNone, Lacks, IsSignedBetween};
 ghost use Rattle.geo_sign.specs.Numbers.{IsBetween};
-ghost use Rattle.line_text.specs.Tokens.{IsPlain};
+
+use crate::digits::{behind_byte, number_front};
 
 /// Returns the position of the first such byte, or the length if there is none.
 fn place_of(text: &[u8], byte: u8) -> usize
@@ -35,34 +36,13 @@ pub fn cut_at(text: &[u8], byte: u8) -> Option<(&[u8], &[u8])>
     }
 }
 
-/// Returns whether the first byte can begin a printed number.
-fn is_plain(token: &[u8]) -> bool
-    ensures yes { OnTrue result (IsPlain token.now) }
-    ensures no { OnFalse result (¬ IsPlain token.now) }
-{
-    if token.is_empty() {
-        return false;
-    }
-    let first = token[0];
-    first != b'+' && (first != b'0' || token.len() == 1)
-}
-
 /// Returns the number whose decimal text the token is, or `None` if it is not the text of a 64-bit number.
 pub fn number_of(token: &[u8]) -> Option<u64>
     ensures some { IfSome result (λ n. token.now ≡ decimal n) }
     ensures none { IfNone result ((n : ℕ) → n < 2 ^ 64 → ¬ (token.now ≡ decimal n)) }
 {
-    if !is_plain(token) {
-        return None;
-    }
-    let text = match str::from_utf8(token) {
-        Ok(text) => text,
-        Err(_) => return None,
-    };
-    match text.parse::<u64>() {
-        Ok(n) => Some(n),
-        Err(_) => None,
-    }
+    let (n, rest) = number_front(token)?;
+    if rest.is_empty() { Some(n) } else { None }
 }
 
 /// Returns the number of at most `limit` at the start of a text, with the byte that ends it, and the text after that byte, or
@@ -72,19 +52,9 @@ pub fn number_first(text: &[u8], end: u8, limit: u64) -> Option<(u64, &[u8])>
     ensures some { IfSome result (λ read. (read.0 ≤ limit) × (text.now ≡ ended read.0 end ++ read.1.now)) }
     ensures none { IfNone result (BeginsWithNone (λ n. n ≤ limit) (λ n. ended n end) text.now) }
 {
-    let (token, rest) = cut_at(text, end)?;
-    let n = number_of(token)?;
+    let (n, rest) = number_front(text)?;
+    let rest = behind_byte(rest, end)?;
     if n <= limit { Some((n, rest)) } else { None }
-}
-
-/// Returns the number of at most `limit` that a line with this word states, and the text after the line, or `None` if the text
-/// does not begin with such a line.
-pub fn counted_first<'a>(text: &'a [u8], word: &[u8], limit: u64) -> Option<(u64, &'a [u8])>
-    ensures some { IfSome result (λ read. (read.0 ≤ limit) × (text.now ≡ counted word.now read.0 ++ read.1.now)) }
-    ensures none { IfNone result (BeginsWithNone (λ n. n ≤ limit) (counted word.now) text.now) }
-{
-    let rest = behind(text, word)?;
-    number_first(rest, b'\n', limit)
 }
 
 /// Returns the number from `least` to `greatest` at the start of a text, with the byte that ends it, and the text after that
@@ -113,30 +83,34 @@ pub fn counted_within<'a>(
     number_within(rest, b'\n', least, greatest)
 }
 
-/// Returns the negative 64-bit number with these digits.
-fn below_zero(digits: &[u8]) -> Option<i64>
-    ensures some { IfSome result (λ z. (mag z < 2 ^ 63) × (45 ∷ digits.now ≡ signed_decimal z)) }
-    ensures none { IfNone result ((z : ℤ) → mag z < 2 ^ 63 → ¬ (45 ∷ digits.now ≡ signed_decimal z)) }
+/// Returns the negative 64-bit number with the digits at the start of a text, and the text after them.
+fn below_zero(text: &[u8]) -> Option<(i64, &[u8])>
+    ensures some { IfSome result (λ read. (mag read.0 < 2 ^ 63) × (45 ∷ text.now ≡ signed_decimal read.0 ++ read.1.now) × ¬ IsInRange 48 57 (slice_index read.1.now 0)) }
+    ensures none { IfNone result ((z : ℤ) (rest : List ℕ) → mag z < 2 ^ 63 → ¬ IsInRange 48 57 (slice_index rest 0) → ¬ (45 ∷ text.now ≡ signed_decimal z ++ rest)) }
 {
-    let n = number_of(digits)?;
+    let (n, rest) = number_front(text)?;
     if n >= 1 && n <= 1 << 63 {
-        Some(-1 - (n - 1) as i64)
+        Some((-1 - (n - 1) as i64, rest))
     } else {
         None
     }
 }
 
-/// Returns the signed 64-bit number whose decimal text the token is, or `None` if it is not such a text: no plus sign, no
-/// leading zero, no sign at zero.
-fn signed_of(token: &[u8]) -> Option<i64>
-    ensures some { IfSome result (λ z. (mag z < 2 ^ 63) × (token.now ≡ signed_decimal z)) }
-    ensures none { IfNone result ((z : ℤ) → mag z < 2 ^ 63 → ¬ (token.now ≡ signed_decimal z)) }
+/// Returns the signed 64-bit number whose decimal text is at the start of a text, and the text from the first byte on that is
+/// no digit, or `None` if there is no such number: no plus sign, no leading zero, no sign at zero.
+fn signed_front(text: &[u8]) -> Option<(i64, &[u8])>
+    ensures some { IfSome result (λ read. (mag read.0 < 2 ^ 63) × (text.now ≡ signed_decimal read.0 ++ read.1.now) × ¬ IsInRange 48 57 (slice_index read.1.now 0)) }
+    ensures none { IfNone result ((z : ℤ) (rest : List ℕ) → mag z < 2 ^ 63 → ¬ IsInRange 48 57 (slice_index rest 0) → ¬ (text.now ≡ signed_decimal z ++ rest)) }
 {
-    match behind(token, b"-") {
-        Some(digits) => below_zero(digits),
+    match behind_byte(text, b'-') {
+        Some(rest) => below_zero(rest),
         None => {
-            let n = number_of(token)?;
-            if n < 1 << 63 { Some(n as i64) } else { None }
+            let (n, rest) = number_front(text)?;
+            if n < 1 << 63 {
+                Some((n as i64, rest))
+            } else {
+                None
+            }
         }
     }
 }
@@ -148,8 +122,8 @@ pub fn signed_first(text: &[u8], end: u8, least: i64, greatest: i64) -> Option<(
     ensures some { IfSome result (λ read. IsSignedBetween least greatest read.0 × (text.now ≡ signed_ended read.0 end ++ read.1.now)) }
     ensures none { IfNone result (BeginsWithNone (IsSignedBetween least greatest) (λ z. signed_ended z end) text.now) }
 {
-    let (token, rest) = cut_at(text, end)?;
-    let z = signed_of(token)?;
+    let (z, rest) = signed_front(text)?;
+    let rest = behind_byte(rest, end)?;
     if least <= z && z <= greatest {
         Some((z, rest))
     } else {
