@@ -56,7 +56,7 @@ pub use balance::{Totals, add_up};
 pub use resuming::{minimum_cut_above, resume};
 pub use solving::{least_inside, minimum_cut, minimum_cut_and_preflow, solve};
 pub use spread::find_levels;
-pub use validity::is_valid_flow;
+pub use validity::{is_balanced, is_valid_flow};
 
 /// The error of a call that ran out of memory.
 pub type NoMemory = std::alloc::AllocError;
