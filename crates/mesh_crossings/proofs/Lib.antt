@@ -1,3 +1,4 @@
 pub mod Witnessed
 pub mod Known
 pub mod Tidied
+pub mod Judged

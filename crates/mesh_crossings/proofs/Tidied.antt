@@ -1,9 +1,10 @@
 -- Sorted pairs without repeats.
-use Rattle.std.proofs.Common.{ℕ, ◌≡◌, ◌+◌, ◌-◌, ◌<◌, ◌≤◌, ◌^◌, inl, inr, ap, sym, ◌∙◌, subst, arith, List, [], length, get_or}
+use Rattle.std.proofs.Common.{ℕ, ◌≡◌, ◌+◌, ◌<◌, ◌≤◌, ◌^◌, inl, inr, ap, sym, ◌∙◌, subst, arith, List, [], length, get_or}
 use Rattle.std.specs.List.{All, Contains}
 use Rattle.std.specs.List.Sorted.{IsNonDecreasingBy, IsPermutation}
 use Rattle.std.proofs.lemmas.Bool.{cases_lt}
 use Rattle.std.proofs.lemmas.List.{get_or_default}
+use Rattle.std.proofs.lemmas.List.Elements.{All-contains, All-contains_itself}
 use Rattle.std.proofs.lemmas.List.Sorted.{Contains-permutation, IsPermutation-sym}
 use Rattle.mesh_edges.specs.Pairs.{key_of_pair}
 use Rattle.mesh_edges.specs.declared.pair.Pair.{Pair}
@@ -80,3 +81,7 @@ moved_pairs old mid new moved same = (
   λ p has. same.0 p (Contains-permutation old mid p moved has),
   λ p has. Contains-permutation mid old p (IsPermutation-sym old mid moved) (same.1 p has),
 )
+
+-- what all pairs are, those of a list without others are
+pub all_same : (P : Pair → Type 0) (old new : List Pair) → KeepsPairs new old → All P old → All P new
+all_same P old new back all k d l = All-contains P old (get_or new k d) all (back (get_or new k d) (All-contains_itself new k d l))

@@ -2,24 +2,22 @@
 --
 --   IsCornersOf points f c         c has the points of a face
 --   AreSmallWeights w              weights are small enough to be multiplied
---   IsVerdictOn points f g verdict what a verdict says of two faces
 --   KeepsPairs old new             a list still has all pairs that it had
 --   IsOneMore old p new            a list has no other pairs than before and p
 --   AreSamePairs old new           two lists have the same pairs
 --   pair_in pairs i                the pair at an index
---   IsKnown points faces crossing undecided i j     the pair is listed, or apart
+--   IsKnown points faces pairs i j the pair is listed, or apart
+--   ArePairsKnown points faces pairs   the same of each pair of faces
 --   IsKnownEither ..               the same of two numbers, the smaller first
 --   AreRanksKnown .. numbers .. r s   the same of the numbers at two indices
 --   AreAllKnown .. numbers .. n    the same of all before index n
-use Rattle.std.specs.Prelude.{ℕ, ◌≡◌, ◌<◌, ◌≤◌, ◌^◌, ◌⊎◌, ⊤, List, [], ◌∷◌, Contains, slice_index, slice_index_or}
+use Rattle.std.specs.Prelude.{ℕ, ◌≡◌, ◌<◌, ◌≤◌, ◌^◌, ◌⊎◌, List, [], ◌∷◌, Contains, length, slice_index, slice_index_or}
 use Rattle.geo_sign.specs.Point.{Point}
 use Rattle.mesh.specs.Meshes.{point_at}
 use Rattle.mesh_edges.specs.Edges.{face_at}
 use Rattle.mesh_edges.specs.declared.pair.Pair.{Pair}
 use Rattle.triangle_gap.specs.Gaps.{AreFacesApart}
 use Rattle.mesh_crossings.specs.Crossings.{IsListedPair}
-use Rattle.mesh_crossings.specs.declared.judge.Verdict.{Verdict}
-use Rattle.mesh_crossings.specs.declared.judge.Verdict.TheVariants.{Apart, Crossing, Undecided}
 use Rattle.mesh_crossings.specs.declared.witness.Corners.{Corners}
 use Rattle.mesh_crossings.specs.declared.witness.Weights.{Weights}
 
@@ -31,12 +29,6 @@ IsCornersOf points _ t = ⊥
 -- the weights are small enough to be multiplied
 abbrev pub AreSmallWeights : Weights → Type 0
 AreSmallWeights w = (w.a ≤ 2 ^ 80) × (w.b ≤ 2 ^ 80) × (w.c ≤ 2 ^ 80)
-
--- what a verdict says of two faces
-abbrev pub IsVerdictOn : List Point → (f g : List ℕ) → Verdict → Type 0
-IsVerdictOn points f g Apart = AreFacesApart points f g
-IsVerdictOn points f g Crossing = ¬ AreFacesApart points f g
-IsVerdictOn points f g Undecided = ⊤
 
 -- the list still has all pairs that it had
 abbrev pub KeepsPairs : (old new : List Pair) → Type 0
@@ -55,21 +47,24 @@ abbrev pub pair_in : List Pair → ℕ → Pair
 pair_in pairs i = slice_index_or pairs i (record { first = 0; second = 0 })
 
 -- the pair is listed, or apart
-abbrev pub IsKnown : List Point → List (List ℕ) → (crossing undecided : List Pair) → (i j : ℕ) → Type 0
-IsKnown points faces crossing undecided i j =
-    IsListedPair crossing i j ⊎ (IsListedPair undecided i j ⊎ AreFacesApart points (face_at faces i) (face_at faces j))
+abbrev pub IsKnown : List Point → List (List ℕ) → List Pair → (i j : ℕ) → Type 0
+IsKnown points faces pairs i j = IsListedPair pairs i j ⊎ AreFacesApart points (face_at faces i) (face_at faces j)
+
+-- the same of each pair of faces
+abbrev pub ArePairsKnown : List Point → List (List ℕ) → List Pair → Type 0
+ArePairsKnown points faces pairs = (i j : ℕ) → i < j → j < length faces → IsKnown points faces pairs i j
 
 -- the same of two numbers, the smaller first
-pub record IsKnownEither (points : List Point) (faces : List (List ℕ)) (crossing undecided : List Pair) (i j : ℕ) : Type 0 where
-  pub forth : i < j → IsKnown points faces crossing undecided i j
-  pub back : j < i → IsKnown points faces crossing undecided j i
+pub record IsKnownEither (points : List Point) (faces : List (List ℕ)) (pairs : List Pair) (i j : ℕ) : Type 0 where
+  pub forth : i < j → IsKnown points faces pairs i j
+  pub back : j < i → IsKnown points faces pairs j i
 
 -- the same of the numbers at two indices
-abbrev pub AreRanksKnown : List Point → List (List ℕ) → List ℕ → (crossing undecided : List Pair) → (r s : ℕ) → Type 0
-AreRanksKnown points faces numbers crossing undecided r s =
-    IsKnownEither points faces crossing undecided (slice_index numbers r) (slice_index numbers s)
+abbrev pub AreRanksKnown : List Point → List (List ℕ) → List ℕ → List Pair → (r s : ℕ) → Type 0
+AreRanksKnown points faces numbers pairs r s =
+    IsKnownEither points faces pairs (slice_index numbers r) (slice_index numbers s)
 
 -- the same of all before index n
-abbrev pub AreAllKnown : List Point → List (List ℕ) → List ℕ → (crossing undecided : List Pair) → (n : ℕ) → Type 0
-AreAllKnown points faces numbers crossing undecided n =
-    (r s : ℕ) → s < r → r < n → AreRanksKnown points faces numbers crossing undecided r s
+abbrev pub AreAllKnown : List Point → List (List ℕ) → List ℕ → List Pair → (n : ℕ) → Type 0
+AreAllKnown points faces numbers pairs n =
+    (r s : ℕ) → s < r → r < n → AreRanksKnown points faces numbers pairs r s

@@ -6,11 +6,11 @@ ghost use Rattle.mesh.specs.Meshes.{IsMesh};
 ghost use Rattle.triangle_gap.specs.Gaps.{AreFacesApart};
 ghost use Rattle.mesh_flips.specs.Turns.{IsTriangle};
 ghost use Rattle.mesh_flips.specs.Orders.{AreInOrder};
-ghost use Rattle.mesh_crossings.specs.Crossings.{AreCrossing, AreCrossingPairs, AreOrdered};
+ghost use Rattle.mesh_crossings.specs.Crossings.{AreCrossingPairs, AreOrdered};
 ghost use Rattle.mesh_crossings.specs.Tested.{AreAllKnown, AreRanksKnown, IsKnown, IsKnownEither, KeepsPairs};
 
 use crate::NoMemory;
-use crate::judge::{Verdict, judge};
+use crate::judge::{Crossings, judged};
 use crate::tidy::tidied;
 use geo_sign::Point;
 use hull_tree::HullTree;
@@ -18,15 +18,7 @@ use mesh::Mesh;
 use mesh_edges::Pair;
 use mesh_flips::{FaceOrder, faces_in_order, hull_of};
 use std::alloc::Global;
-
-/// Pairs of faces by their numbers, the smaller first.
-#[derive(Drop)]
-pub struct Crossings {
-    /// Those that cross, in ascending order.
-    pub crossing: Vec<Pair>,
-    /// Those for which neither was shown, in ascending order.
-    pub undecided: Vec<Pair>,
-}
+use triangle_gap::are_apart;
 
 /// Returns whether the boxes of two faces are disjoint.
 fn are_off(points: &[Point], one: [u32; 3], other: [u32; 3]) -> bool
@@ -45,60 +37,50 @@ fn are_off(points: &[Point], one: [u32; 3], other: [u32; 3]) -> bool
 fn test_ordered(
     points: &[Point],
     faces: &[[u32; 3]],
-    lists: &mut Crossings,
+    pairs: &mut Vec<Pair>,
     pair: Pair,
 ) -> Result<(), NoMemory>
     requires each { All (IsTriangle (length points.now)) faces.now }
     requires order { pair.first < pair.second }
     requires within { pair.second < length faces.now }
-    requires crossing { All (AreCrossing points.now faces.now) lists.old.crossing.items }
-    requires undecided { All (AreOrdered faces.now) lists.old.undecided.items }
-    ensures crossing { OnOk result (All (AreCrossing points.now faces.now) lists.new.crossing.items) }
-    ensures undecided { OnOk result (All (AreOrdered faces.now) lists.new.undecided.items) }
-    ensures kept { OnOk result (KeepsPairs lists.old.crossing.items lists.new.crossing.items × KeepsPairs lists.old.undecided.items lists.new.undecided.items) }
-    ensures known { OnOk result (IsKnown points.now faces.now lists.new.crossing.items lists.new.undecided.items pair.first pair.second) }
+    requires ordered { All (AreOrdered faces.now) pairs.old.items }
+    ensures ordered { OnOk result (All (AreOrdered faces.now) pairs.new.items) }
+    ensures kept { OnOk result (KeepsPairs pairs.old.items pairs.new.items) }
+    ensures known { OnOk result (IsKnown points.now faces.now pairs.new.items pair.first pair.second) }
 {
     let one = faces[pair.first as usize];
     let other = faces[pair.second as usize];
     if are_off(points, one, other) {
         return Ok(());
     }
-    match judge(points, one, other) {
-        Verdict::Apart => Ok(()),
-        Verdict::Crossing => {
-            lists.crossing.push(pair)?;
-            Ok(())
-        }
-        Verdict::Undecided => {
-            lists.undecided.push(pair)?;
-            Ok(())
-        }
+    if are_apart(points, one, other) {
+        return Ok(());
     }
+    pairs.push(pair)?;
+    Ok(())
 }
 
 /// Tests two faces, unless they are one.
 fn test_pair(
     points: &[Point],
     faces: &[[u32; 3]],
-    lists: &mut Crossings,
+    pairs: &mut Vec<Pair>,
     i: u32,
     j: u32,
 ) -> Result<(), NoMemory>
     requires each { All (IsTriangle (length points.now)) faces.now }
     requires one { i < length faces.now }
     requires other { j < length faces.now }
-    requires crossing { All (AreCrossing points.now faces.now) lists.old.crossing.items }
-    requires undecided { All (AreOrdered faces.now) lists.old.undecided.items }
-    ensures crossing { OnOk result (All (AreCrossing points.now faces.now) lists.new.crossing.items) }
-    ensures undecided { OnOk result (All (AreOrdered faces.now) lists.new.undecided.items) }
-    ensures kept { OnOk result (KeepsPairs lists.old.crossing.items lists.new.crossing.items × KeepsPairs lists.old.undecided.items lists.new.undecided.items) }
-    ensures known { OnOk result (IsKnownEither points.now faces.now lists.new.crossing.items lists.new.undecided.items i j) }
+    requires ordered { All (AreOrdered faces.now) pairs.old.items }
+    ensures ordered { OnOk result (All (AreOrdered faces.now) pairs.new.items) }
+    ensures kept { OnOk result (KeepsPairs pairs.old.items pairs.new.items) }
+    ensures known { OnOk result (IsKnownEither points.now faces.now pairs.new.items i j) }
 {
     if i < j {
         test_ordered(
             points,
             faces,
-            lists,
+            pairs,
             Pair {
                 first: i,
                 second: j,
@@ -110,7 +92,7 @@ fn test_pair(
         test_ordered(
             points,
             faces,
-            lists,
+            pairs,
             Pair {
                 first: j,
                 second: i,
@@ -126,24 +108,22 @@ fn test_ranks(
     points: &[Point],
     faces: &[[u32; 3]],
     numbers: &[u32],
-    lists: &mut Crossings,
+    pairs: &mut Vec<Pair>,
     r: usize,
     s: usize,
 ) -> Result<(), NoMemory>
     requires each { All (IsTriangle (length points.now)) faces.now }
     requires numbers { All (λ i. i < length faces.now) numbers.now }
     requires within { r < length numbers.now }
-    requires crossing { All (AreCrossing points.now faces.now) lists.old.crossing.items }
-    requires undecided { All (AreOrdered faces.now) lists.old.undecided.items }
-    ensures crossing { OnOk result (All (AreCrossing points.now faces.now) lists.new.crossing.items) }
-    ensures undecided { OnOk result (All (AreOrdered faces.now) lists.new.undecided.items) }
-    ensures kept { OnOk result (KeepsPairs lists.old.crossing.items lists.new.crossing.items × KeepsPairs lists.old.undecided.items lists.new.undecided.items) }
-    ensures known { OnOk result (s < r → AreRanksKnown points.now faces.now numbers.now lists.new.crossing.items lists.new.undecided.items r s) }
+    requires ordered { All (AreOrdered faces.now) pairs.old.items }
+    ensures ordered { OnOk result (All (AreOrdered faces.now) pairs.new.items) }
+    ensures kept { OnOk result (KeepsPairs pairs.old.items pairs.new.items) }
+    ensures known { OnOk result (s < r → AreRanksKnown points.now faces.now numbers.now pairs.new.items r s) }
 {
     if s >= r {
         return Ok(());
     }
-    test_pair(points, faces, lists, numbers[r], numbers[s])?;
+    test_pair(points, faces, pairs, numbers[r], numbers[s])?;
     Ok(())
 }
 
@@ -152,22 +132,20 @@ fn test_found(
     points: &[Point],
     faces: &[[u32; 3]],
     numbers: &[u32],
-    lists: &mut Crossings,
+    pairs: &mut Vec<Pair>,
     r: usize,
     found: &[usize],
 ) -> Result<(), NoMemory>
     requires each { All (IsTriangle (length points.now)) faces.now }
     requires numbers { All (λ i. i < length faces.now) numbers.now }
     requires within { r < length numbers.now }
-    requires crossing { All (AreCrossing points.now faces.now) lists.old.crossing.items }
-    requires undecided { All (AreOrdered faces.now) lists.old.undecided.items }
-    ensures crossing { OnOk result (All (AreCrossing points.now faces.now) lists.new.crossing.items) }
-    ensures undecided { OnOk result (All (AreOrdered faces.now) lists.new.undecided.items) }
-    ensures kept { OnOk result (KeepsPairs lists.old.crossing.items lists.new.crossing.items × KeepsPairs lists.old.undecided.items lists.new.undecided.items) }
-    ensures known { OnOk result ((s : ℕ) → Contains found.now s → s < r → AreRanksKnown points.now faces.now numbers.now lists.new.crossing.items lists.new.undecided.items r s) }
+    requires ordered { All (AreOrdered faces.now) pairs.old.items }
+    ensures ordered { OnOk result (All (AreOrdered faces.now) pairs.new.items) }
+    ensures kept { OnOk result (KeepsPairs pairs.old.items pairs.new.items) }
+    ensures known { OnOk result ((s : ℕ) → Contains found.now s → s < r → AreRanksKnown points.now faces.now numbers.now pairs.new.items r s) }
 {
     for s in found {
-        test_ranks(points, faces, numbers, lists, r, *s)?;
+        test_ranks(points, faces, numbers, pairs, r, *s)?;
     }
     Ok(())
 }
@@ -186,27 +164,45 @@ fn test_rank(
     faces: &[[u32; 3]],
     ranks: &Ranks<'_>,
     found: &mut Vec<usize>,
-    lists: &mut Crossings,
+    pairs: &mut Vec<Pair>,
     r: usize,
 ) -> Result<(), NoMemory>
     requires each { All (IsTriangle (length points.now)) faces.now }
     requires ranks { AreInOrder points.now faces.now ranks.now.numbers.now ranks.now.faces.now ranks.now.tree.now }
     requires within { r < length ranks.now.numbers.now }
-    requires crossing { All (AreCrossing points.now faces.now) lists.old.crossing.items }
-    requires undecided { All (AreOrdered faces.now) lists.old.undecided.items }
-    ensures crossing { OnOk result (All (AreCrossing points.now faces.now) lists.new.crossing.items) }
-    ensures undecided { OnOk result (All (AreOrdered faces.now) lists.new.undecided.items) }
-    ensures kept { OnOk result (KeepsPairs lists.old.crossing.items lists.new.crossing.items × KeepsPairs lists.old.undecided.items lists.new.undecided.items) }
-    ensures known { OnOk result ((s : ℕ) → s < r → AreRanksKnown points.now faces.now ranks.now.numbers.now lists.new.crossing.items lists.new.undecided.items r s) }
+    requires ordered { All (AreOrdered faces.now) pairs.old.items }
+    ensures ordered { OnOk result (All (AreOrdered faces.now) pairs.new.items) }
+    ensures kept { OnOk result (KeepsPairs pairs.old.items pairs.new.items) }
+    ensures known { OnOk result ((s : ℕ) → s < r → AreRanksKnown points.now faces.now ranks.now.numbers.now pairs.new.items r s) }
 {
     found.clear();
     let hull = hull_of(points, ranks.faces[r]);
     ranks.tree.near(hull, found)?;
-    test_found(points, faces, ranks.numbers, lists, r, found)?;
+    test_found(points, faces, ranks.numbers, pairs, r, found)?;
     Ok(())
 }
 
-/// Tests all faces with one another.
+/// Returns the pairs of faces that are not shown to be apart, some more than once.
+fn open_pairs(
+    alloc: Global,
+    points: &[Point],
+    faces: &[[u32; 3]],
+    ranks: &Ranks<'_>,
+) -> Result<Vec<Pair>, NoMemory>
+    requires each { All (IsTriangle (length points.now)) faces.now }
+    requires ranks { AreInOrder points.now faces.now ranks.now.numbers.now ranks.now.faces.now ranks.now.tree.now }
+    ensures ordered { IfOk result (λ pairs. All (AreOrdered faces.now) pairs.items) }
+    ensures known { IfOk result (λ pairs. AreAllKnown points.now faces.now ranks.now.numbers.now pairs.items (length ranks.now.numbers.now)) }
+{
+    let mut pairs = Vec::new(alloc);
+    let mut found = Vec::new(alloc);
+    for r in 0..ranks.numbers.len() {
+        test_rank(points, faces, ranks, &mut found, &mut pairs, r)?;
+    }
+    Ok(pairs)
+}
+
+/// Tests all faces with one another. The tree may name a face more than once, so repeated pairs are dropped before the rest are judged.
 fn test_all(
     alloc: Global,
     points: &[Point],
@@ -215,18 +211,11 @@ fn test_all(
 ) -> Result<Crossings, NoMemory>
     requires each { All (IsTriangle (length points.now)) faces.now }
     requires ranks { AreInOrder points.now faces.now ranks.now.numbers.now ranks.now.faces.now ranks.now.tree.now }
-    ensures crossing { IfOk result (λ lists. All (AreCrossing points.now faces.now) lists.crossing.items) }
-    ensures undecided { IfOk result (λ lists. All (AreOrdered faces.now) lists.undecided.items) }
-    ensures known { IfOk result (λ lists. AreAllKnown points.now faces.now ranks.now.numbers.now lists.crossing.items lists.undecided.items (length ranks.now.numbers.now)) }
+    ensures { IfOk result (λ lists. AreCrossingPairs points.now faces.now lists.crossing.items lists.undecided.items) }
 {
-    let mut lists = Crossings {
-        crossing: Vec::new(alloc),
-        undecided: Vec::new(alloc),
-    };
-    let mut found = Vec::new(alloc);
-    for r in 0..ranks.numbers.len() {
-        test_rank(points, faces, ranks, &mut found, &mut lists, r)?;
-    }
+    let pairs = open_pairs(alloc, points, faces, ranks)?;
+    let once = tidied(alloc, pairs)?;
+    let lists = judged(alloc, points, faces, &once)?;
     Ok(lists)
 }
 
@@ -249,12 +238,6 @@ pub fn find_crossings(alloc: Global, mesh: &Mesh) -> Result<Crossings, NoMemory>
         faces: &faces,
         tree: &tree,
     };
-    let Crossings {
-        crossing,
-        undecided,
-    } = test_all(alloc, &mesh.points, &mesh.faces, &ranks)?;
-    Ok(Crossings {
-        crossing: tidied(alloc, crossing)?,
-        undecided: tidied(alloc, undecided)?,
-    })
+    let lists = test_all(alloc, &mesh.points, &mesh.faces, &ranks)?;
+    Ok(lists)
 }

@@ -1,24 +1,27 @@
-//! Whether two faces are apart or cross.
+//! Which pairs of faces are shown to cross.
 
-ghost use Rattle.std.specs.Prelude.{◌<◌, All, length};
+ghost use Rattle.std.specs.Prelude.{◌<◌, All, IfOk, length};
 ghost use Rattle.std.specs.Bool.{OnTrue};
 ghost use Rattle.triangle_gap.specs.Gaps.{AreFacesApart};
-ghost use Rattle.mesh_crossings.specs.Tested.{IsVerdictOn};
+ghost use Rattle.mesh_flips.specs.Turns.{IsTriangle};
+ghost use Rattle.mesh_crossings.specs.Crossings.{AreCrossing, AreCrossingPairs, AreOrdered, IsRising};
+ghost use Rattle.mesh_crossings.specs.Tested.{ArePairsKnown};
 
+use crate::NoMemory;
 use crate::propose::{PROPOSALS, proposed};
+use crate::tidy::push_new;
 use crate::witness::{corners_of, is_witness};
 use geo_sign::Point;
-use triangle_gap::are_apart;
+use mesh_edges::Pair;
+use std::alloc::Global;
 
-/// What is known of two faces.
-#[derive(Clone, Copy, Debug, PartialEq, Eq)]
-pub enum Verdict {
-    /// They share no more than common corners and edges.
-    Apart,
-    /// They share a point that is no common corner and on no common edge.
-    Crossing,
-    /// Neither was shown.
-    Undecided,
+/// Pairs of faces by their numbers, the smaller first. No pair is in both lists.
+#[derive(Drop)]
+pub struct Crossings {
+    /// Those that cross, in ascending order.
+    pub crossing: Vec<Pair>,
+    /// Those for which neither was shown, in ascending order.
+    pub undecided: Vec<Pair>,
 }
 
 /// Returns whether a proposal shows that two faces cross.
@@ -38,17 +41,41 @@ fn do_cross(points: &[Point], one: [u32; 3], other: [u32; 3]) -> bool
     false
 }
 
-/// Returns what is known of two faces. That one of the two is shown for each pair is not promised.
-pub(crate) fn judge(points: &[Point], one: [u32; 3], other: [u32; 3]) -> Verdict
-    requires one_in { All (λ v. v < length points.now) one }
-    requires other_in { All (λ v. v < length points.now) other }
-    ensures { IsVerdictOn points.now one other result }
+/// Returns whether a pair of faces is shown to cross.
+fn is_crossing(points: &[Point], faces: &[[u32; 3]], pair: Pair) -> bool
+    requires each { All (IsTriangle (length points.now)) faces.now }
+    requires ordered { AreOrdered faces.now pair }
+    ensures { OnTrue result (AreCrossing points.now faces.now pair) }
 {
-    if are_apart(points, one, other) {
-        return Verdict::Apart;
+    let one = faces[pair.first as usize];
+    let other = faces[pair.second as usize];
+    do_cross(points, one, other)
+}
+
+/// Divides sorted pairs without repeats, among which are all that are not apart, into those that are shown to cross and the others.
+pub(crate) fn judged(
+    alloc: Global,
+    points: &[Point],
+    faces: &[[u32; 3]],
+    pairs: &[Pair],
+) -> Result<Crossings, NoMemory>
+    requires each { All (IsTriangle (length points.now)) faces.now }
+    requires ordered { All (AreOrdered faces.now) pairs.now }
+    requires rising { IsRising pairs.now }
+    requires known { ArePairsKnown points.now faces.now pairs.now }
+    ensures { IfOk result (λ lists. AreCrossingPairs points.now faces.now lists.crossing.items lists.undecided.items) }
+{
+    let mut crossing = Vec::new(alloc);
+    let mut undecided = Vec::new(alloc);
+    for pair in pairs {
+        if is_crossing(points, faces, *pair) {
+            push_new(&mut crossing, *pair)?;
+            continue;
+        }
+        push_new(&mut undecided, *pair)?;
     }
-    if do_cross(points, one, other) {
-        return Verdict::Crossing;
-    }
-    Verdict::Undecided
+    Ok(Crossings {
+        crossing,
+        undecided,
+    })
 }

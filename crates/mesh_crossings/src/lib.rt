@@ -5,8 +5,8 @@
 //!
 //! [`find_crossings`] tests each pair of faces whose boxes overlap, and [`count_crossings`] counts what it finds. That two faces are apart
 //! is shown by planes (`triangle_gap`). That they cross is shown by whole weights of their corners that give one point of both: weights
-//! are proposed by volumes and areas, without a contract, and verified. A pair for which neither is shown is undecided. So the answer is
-//! exact but for the pairs that it lists as undecided.
+//! are proposed by volumes and areas, without a contract, and verified. A pair for which neither is shown is undecided, and no pair is
+//! listed as both. So the answer is exact but for the pairs that it lists as undecided.
 //!
 //! It depends on `triangle_gap` (faces that are apart), `mesh_flips` (boxes of faces), `hull_tree` (boxes near a box) and `mesh_edges`
 //! (pairs of numbers).
@@ -20,5 +20,6 @@ mod tidy;
 mod witness;
 
 pub use counts::{CrossingCounts, count_crossings};
-pub use gather::{Crossings, find_crossings};
+pub use gather::find_crossings;
+pub use judge::Crossings;
 pub use mesh_edges::NoMemory;

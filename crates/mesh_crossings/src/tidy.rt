@@ -40,7 +40,7 @@ fn ends_with(list: &[Pair], pair: Pair) -> bool
 }
 
 /// Appends a pair, unless the list ends with it.
-fn push_new(list: &mut Vec<Pair>, pair: Pair) -> Result<(), NoMemory>
+pub(crate) fn push_new(list: &mut Vec<Pair>, pair: Pair) -> Result<(), NoMemory>
     requires rising { IsRising list.old.items }
     requires top { All (λ p. key_of_pair p ≤ key_of_pair pair) list.old.items }
     ensures rising { OnOk result (IsRising list.new.items) }

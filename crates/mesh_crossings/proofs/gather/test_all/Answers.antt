@@ -1,29 +1,20 @@
-use Rattle.std.proofs.Common.{ℕ, arith, inl, inr, subst, ◌≡◌}
-use Rattle.std.proofs.lemmas.Bool.{cases_lt}
-use Rattle.mesh_crossings.proofs.Known.{either_kept}
-use Rattle.mesh_crossings.specs.Tested.{AreRanksKnown}
+use Rattle.std.proofs.Common.{List, sym, subst}
+use Rattle.std.specs.List.{All}
+use Rattle.mesh_edges.specs.declared.pair.Pair.{Pair}
+use Rattle.mesh_crossings.specs.Crossings.{AreOrdered}
+use Rattle.mesh_crossings.specs.Tested.{ArePairsKnown}
+use Rattle.mesh_crossings.proofs.Known.{all_known}
+use Rattle.mesh_crossings.proofs.Tidied.{all_same}
 use Rattle.mesh_crossings.proofs.gather.test_all.Goals as goal
 
-pub loop-r-preserved : goal.loop-r-preserved
-loop-r-preserved c =
-    let points = c.args.points.now in
-    let faces = c.args.faces.now in
-    let old = c.loop-r.lists in
-    let new = c.test_rank.new.lists in
-    let kept = c.in_ok-test_rank.ensures.kept in
-    record {
-      crossing = c.in_ok-test_rank.ensures.crossing;
-      undecided = c.in_ok-test_rank.ensures.undecided;
-      known = λ r s less l.
-          elim (cases_lt r c.loop-r.r) [
-            | inl m ↦
-                either_kept points faces old.crossing.items new.crossing.items old.undecided.items new.undecided.items _ _ kept.0
-                kept.1 (c.loop-r.invariant.known r s less m)
-            | inr m ↦
-                let e : c.loop-r.r ≡ r = omega arith in
-                subst
-                (λ (k : ℕ).
-                AreRanksKnown points faces c.args.ranks.now.numbers.now new.crossing.items new.undecided.items k s)
-                e (c.in_ok-test_rank.ensures.known s (omega arith))
-          ];
-    }
+pub judged-requires-clause-ordered : goal.judged-requires-clause-ordered
+judged-requires-clause-ordered c =
+    subst (λ (pairs : List Pair). All (AreOrdered c.args.faces.now) pairs) (sym c.deref.ensures.value)
+    (all_same (AreOrdered c.args.faces.now) c.in_ok-pairs.pairs.items c.in_ok-once.once.items c.in_ok-once.ensures.same.1
+    c.in_ok-pairs.ensures.ordered)
+
+pub judged-requires-clause-known : goal.judged-requires-clause-known
+judged-requires-clause-known c =
+    subst (ArePairsKnown c.args.points.now c.args.faces.now) (sym c.deref.ensures.value)
+    (all_known c.args.points.now c.args.faces.now c.args.ranks.now.numbers.now c.in_ok-pairs.pairs.items
+    c.in_ok-once.once.items c.requires.ranks.covers c.in_ok-pairs.ensures.known c.in_ok-once.ensures.same)

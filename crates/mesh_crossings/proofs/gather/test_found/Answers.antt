@@ -10,22 +10,17 @@ loop-s-preserved c =
     let numbers = c.args.numbers.now in
     let was = c.loop-s.invariant in
     let kept = c.in_ok-test_ranks.ensures.kept in
-    let new = c.test_ranks.new.lists in
+    let old = c.loop-s.pairs.items in
+    let new = c.test_ranks.new.pairs.items in
     record {
-      crossing = c.in_ok-test_ranks.ensures.crossing;
-      undecided = c.in_ok-test_ranks.ensures.undecided;
-      kept = kept_on _ c.loop-s.lists.crossing.items new.crossing.items was.kept kept.0;
-      kept_undecided = kept_on _ c.loop-s.lists.undecided.items new.undecided.items was.kept_undecided kept.1;
+      ordered = c.in_ok-test_ranks.ensures.ordered;
+      kept = kept_on _ old new was.kept kept;
       known =
           below_more
           (λ k.
           get_or c.args.found.now k 0 < c.args.r
-          → AreRanksKnown points faces numbers new.crossing.items new.undecided.items c.args.r (get_or c.args.found.now k 0))
-          c.loop-s.s-index
-          (λ k l m.
-          either_kept points faces c.loop-s.lists.crossing.items new.crossing.items c.loop-s.lists.undecided.items
-          new.undecided.items _ _ kept.0 kept.1 (was.known k l m))
-          c.in_ok-test_ranks.ensures.known;
+          → AreRanksKnown points faces numbers new c.args.r (get_or c.args.found.now k 0))
+          c.loop-s.s-index (λ k l m. either_kept points faces old new _ _ kept (was.known k l m)) c.in_ok-test_ranks.ensures.known;
     }
 
 pub returns-clause-known : goal.returns-clause-known
@@ -33,6 +28,5 @@ returns-clause-known c = λ s has.
     of_each c.args.points.now c.args.faces.now
     (λ k.
     k < c.args.r
-    → AreRanksKnown c.args.points.now c.args.faces.now c.args.numbers.now c.loop-s.lists.crossing.items
-    c.loop-s.lists.undecided.items c.args.r k)
+    → AreRanksKnown c.args.points.now c.args.faces.now c.args.numbers.now c.loop-s.pairs.items c.args.r k)
     c.args.found.now c.loop-s.s-index s c.loop-s.invariant.known (omega (arith, c.loop-s-test.false)) has
