@@ -1,5 +1,5 @@
--- Sorted pairs without repeats.
-use Rattle.std.proofs.Common.{ℕ, ◌≡◌, ◌+◌, ◌<◌, ◌≤◌, ◌^◌, inl, inr, ap, sym, ◌∙◌, subst, arith, List, [], length, get_or}
+-- Sorted pairs without repeats, and two lists of them.
+use Rattle.std.proofs.Common.{ℕ, ◌≡◌, ◌+◌, ◌<◌, ◌≤◌, ◌^◌, ◌⊎◌, inl, inr, ap, sym, ◌∙◌, subst, arith, List, [], length, get_or}
 use Rattle.std.specs.List.{All, Contains}
 use Rattle.std.specs.List.Sorted.{IsNonDecreasingBy, IsPermutation}
 use Rattle.std.proofs.lemmas.Bool.{cases_lt}
@@ -9,7 +9,7 @@ use Rattle.std.proofs.lemmas.List.Sorted.{Contains-permutation, IsPermutation-sy
 use Rattle.mesh_edges.specs.Pairs.{key_of_pair}
 use Rattle.mesh_edges.specs.declared.pair.Pair.{Pair}
 use Rattle.mesh_edges.proofs.FaceEdges.{key_parts}
-use Rattle.mesh_crossings.specs.Crossings.{IsRising}
+use Rattle.mesh_crossings.specs.Crossings.{AreDisjoint, IsRising}
 use Rattle.mesh_crossings.specs.Tested.{AreSamePairs, IsOneMore, KeepsPairs}
 
 abbrev pub made : (a b : ℕ) → Pair
@@ -21,57 +21,110 @@ same_pair p q l m e =
     let parts = key_parts p.first p.second q.first q.second l m e in
     ap (λ (a : ℕ). made a p.second) parts.0 ∙ ap (λ (b : ℕ). made q.first b) parts.1
 
--- while sorted pairs are passed
-pub record IsPassed (pairs list : List Pair) (n : ℕ) : Type 0 where
-  pub rising : IsRising list
-  pub has : (k : ℕ) (d : Pair) → k < n → k < length pairs → Contains list (get_or pairs k d)
-  pub from : (q : Pair) → Contains list q → (k : ℕ) × (k < n) × (k < length pairs) × (get_or pairs k q ≡ q)
+-- the pair is among the first n
+abbrev pub IsAmong : List Pair → (n : ℕ) → Pair → Type 0
+IsAmong pairs n q = (k : ℕ) × (k < n) × (k < length pairs) × (get_or pairs k q ≡ q)
 
-pub none_passed : (pairs : List Pair) → IsPassed pairs [] 0
-none_passed pairs =
+-- each of the first n pairs is in one of two lists, which ascend and have no others
+pub record AreDivided (pairs one other : List Pair) (n : ℕ) : Type 0 where
+  pub once : IsRising one
+  pub other_once : IsRising other
+  pub from : (q : Pair) → Contains one q → IsAmong pairs n q
+  pub other_from : (q : Pair) → Contains other q → IsAmong pairs n q
+  pub disjoint : AreDisjoint one other
+  pub has : (k : ℕ) (d : Pair) → k < n → k < length pairs → Contains one (get_or pairs k d) ⊎ Contains other (get_or pairs k d)
+
+pub swapped : (pairs one other : List Pair) (n : ℕ) → AreDivided pairs one other n → AreDivided pairs other one n
+swapped pairs one other n was =
     record {
-      rising = λ i j d l m. absurd (omega arith);
-      has = λ k d l m. absurd (omega arith);
-      from = λ q has. absurd (omega (arith, has.1));
-    }
-
-pub top_of : (pairs list : List Pair) (n : ℕ) (p d : Pair) → IsNonDecreasingBy key_of_pair pairs → n < length pairs
-    → p ≡ get_or pairs n d → IsPassed pairs list n → All (λ q. key_of_pair q ≤ key_of_pair p) list
-top_of pairs list n p d sorted l e was k c m =
-    let from = was.from (get_or list k c) (k, m, get_or_default list k (get_or list k c) c m) in
-    omega (
-      arith,
-      sorted from.0 n (get_or list k c) (omega (arith, from.1)) l,
-      ap key_of_pair from.3,
-      ap key_of_pair e,
-      ap key_of_pair (get_or_default pairs n d (get_or list k c) l),
-    )
-
-pub passed_more : (pairs old new : List Pair) (n : ℕ) (p d : Pair) → n < length pairs → p ≡ get_or pairs n d → IsRising new
-    → KeepsPairs old new → Contains new p → IsOneMore old p new → IsPassed pairs old n → IsPassed pairs new (n + 1)
-passed_more pairs old new n p d l e rising kept here only was =
-    record {
-      rising = rising;
-      has = λ k c m o.
-          elim (cases_lt k n) [
-            | inl less ↦ kept (get_or pairs k c) (was.has k c less o)
-            | inr more ↦
-                let same : n ≡ k = omega arith in
-                subst (Contains new)
-                (e ∙ (ap (λ (j : ℕ). get_or pairs j d) same ∙ get_or_default pairs k d c o)) here
-          ];
-      from = λ q has.
-          elim (only q has) [
-            | inl there ↦
-                let f = was.from q there in
-                (f.0, omega (arith, f.1), f.2, f.3)
-            | inr same ↦ (n, omega arith, l, get_or_default pairs n q d l ∙ (sym e ∙ sym same))
+      once = was.other_once;
+      other_once = was.once;
+      from = was.other_from;
+      other_from = was.from;
+      disjoint = λ q has also. was.disjoint q also has;
+      has = λ k d l m.
+          elim (was.has k d l m) [
+            | inl is ↦ inr is
+            | inr is ↦ inl is
           ];
     }
 
-pub all_passed : (pairs list : List Pair) (n : ℕ) → length pairs ≤ n → IsPassed pairs list n → AreSamePairs pairs list
+pub in_order : (pairs : List Pair) → IsRising pairs → IsNonDecreasingBy key_of_pair pairs
+in_order pairs rising i j d l m =
+    elim (cases_lt i j) [
+      | inl less ↦ omega (arith, rising i j d less m)
+      | inr past ↦
+          let same : i ≡ j = omega arith in
+          omega (arith, ap (λ (k : ℕ). key_of_pair (get_or pairs k d)) same)
+    ]
+
+module _ (pairs : List Pair) (n : ℕ) (p d : Pair) (l : n < length pairs) (e : p ≡ get_or pairs n d) where
+  pub all_below : IsNonDecreasingBy key_of_pair pairs → (list : List Pair) → ((q : Pair) → Contains list q → IsAmong pairs n q)
+      → All (λ q. key_of_pair q ≤ key_of_pair p) list
+  all_below sorted list from k c m =
+      let was = from (get_or list k c) (All-contains_itself list k c m) in
+      omega (
+        arith,
+        sorted was.0 n (get_or list k c) (omega (arith, was.1)) l,
+        ap key_of_pair was.3,
+        ap key_of_pair e,
+        ap key_of_pair (get_or_default pairs n d (get_or list k c) l),
+      )
+
+  -- if no pair is repeated
+  pub is_new : IsRising pairs → IsAmong pairs n p → ⊥
+  is_new rising was =
+      absurd
+      (omega (
+        arith,
+        rising was.0 n p was.1 l,
+        ap key_of_pair was.3,
+        ap key_of_pair e,
+        ap key_of_pair (get_or_default pairs n d p l),
+      ))
+
+  later : (q : Pair) → IsAmong pairs n q → IsAmong pairs (n + 1) q
+  later q was = (was.0, omega (arith, was.1), was.2, was.3)
+
+  -- the pair comes to the first list
+  pub one_divided : (one more other : List Pair) → IsRising more → KeepsPairs one more → Contains more p → IsOneMore one p more
+      → (Contains other p → ⊥) → AreDivided pairs one other n → AreDivided pairs more other (n + 1)
+  one_divided one more other rise kept here only new was =
+      record {
+        once = rise;
+        other_once = was.other_once;
+        from = λ q has.
+            elim (only q has) [
+              | inl old ↦ later q (was.from q old)
+              | inr same ↦ (n, omega arith, l, get_or_default pairs n q d l ∙ (sym e ∙ sym same))
+            ];
+        other_from = λ q has. later q (was.other_from q has);
+        disjoint = λ q has also.
+            elim (only q has) [
+              | inl old ↦ was.disjoint q old also
+              | inr same ↦ new (subst (Contains other) same also)
+            ];
+        has = λ k c m o.
+            elim (cases_lt k n) [
+              | inl less ↦ elim (was.has k c less o) [
+                | inl is ↦ inl (kept _ is)
+                | inr is ↦ inr is
+              ]
+              | inr past ↦
+                  let same : n ≡ k = omega arith in
+                  inl
+                  (subst (Contains more) (e ∙ (ap (λ (j : ℕ). get_or pairs j d) same ∙ get_or_default pairs k d c o)) here)
+            ];
+      }
+
+-- all in one list
+pub all_passed : (pairs list : List Pair) (n : ℕ) → length pairs ≤ n → AreDivided pairs list [] n → AreSamePairs pairs list
 all_passed pairs list n end was = (
-  λ p has. subst (Contains list) has.2 (was.has has.0 p (omega (arith, has.1)) has.1),
+  λ p has.
+      elim (was.has has.0 p (omega (arith, has.1)) has.1) [
+        | inl is ↦ subst (Contains list) has.2 is
+        | inr is ↦ absurd (omega (arith, is.1))
+      ],
   λ p has. let f = was.from p has in (f.0, f.2, f.3),
 )
 

@@ -1,7 +1,7 @@
 use Rattle.std.specs.List.{Contains}
 use Rattle.mesh_edges.specs.declared.pair.Pair.{Pair}
 use Rattle.mesh_crossings.specs.Crossings.{AreCrossing}
-use Rattle.mesh_crossings.proofs.Judged.{AreDivided}
+use Rattle.mesh_crossings.proofs.Tidied.{AreDivided}
 use Rattle.mesh_crossings.proofs.judge.judged.Given as goal
 
 abbrev pub invariant-loop-pair : goal.invariant-loop-pair
