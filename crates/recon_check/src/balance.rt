@@ -9,7 +9,7 @@ ghost use Rattle.recon_check.specs.ByRows.{numbers, IsUnbalanced, IsUnbalanceAt,
 use crate::NoMemory;
 use cell_net::{CellNetwork, cell_key, cell_row};
 use flow_net::{Flow, FlowNetwork};
-use max_flow::{Totals, add_up};
+use max_flow::{Totals, add_up, is_balanced};
 use std::alloc::Global;
 use tetra_store::Tetra;
 
@@ -81,7 +81,8 @@ fn first_by(tetra: &Tetra, net: &CellNetwork<'_>, flow: &Flow, totals: &Totals) 
     found
 }
 
-/// Finds the first cell, in ascending order, at which a flow is not conserved. Frees the totals before it returns.
+/// Finds the first cell, in ascending order, at which a flow is not conserved. Looks for it only if a faster test finds that there
+/// is one. Frees the totals before it returns.
 pub fn first_unbalanced(
     alloc: Global,
     tetra: &Tetra,
@@ -94,6 +95,9 @@ pub fn first_unbalanced(
     ensures first { IfOk result (λ found. IfSome found (IsLeastUnbalance net.now flow.now)) }
     ensures none { IfOk result (λ found. IfNone found (NoneBelow (length net.now.counts.fixed.now) (IsUnbalanced net.now flow.now))) }
 {
+    if is_balanced(alloc, net, flow)? {
+        return Ok(None);
+    }
     let totals = add_up(alloc, net, flow)?;
     Ok(first_by(tetra, net, flow, &totals))
 }
