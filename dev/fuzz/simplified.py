@@ -110,6 +110,20 @@ def far_place(one: Mesh, other: Mesh, within: int, parts: int = 2) -> tuple[int,
     return None
 
 
+def far_faults(said: str, old: Mesh, new: Mesh, within: int) -> list[str]:
+    """Returns what is wrong with the point that a line of `check` calls far, if it names one."""
+    words = said.split()
+    if 'far' not in words:
+        return []
+    one, other = (new, old) if words[1] == '8' else (old, new)
+    p: Rational = one[0][int(words[3])] if words[1] == '6' else []
+    if not p:
+        weights, corners = [int(word) for word in words[5:]], [one[0][v] for v in one[1][int(words[3])]]
+        p = [Fraction(sum(w * x for w, x in zip(weights, axis)), sum(weights)) for axis in zip(*corners)]
+    near = [i for i, face in enumerate(other[1]) if square_to_triangle(p, *(other[0][v] for v in face)) <= within * within]
+    return [f'face {near[0]} is not far from {p}'] if near else []
+
+
 def faults(old: Mesh, new: Mesh, within: int, surface: bool = False, moves: bool = False) -> list[str]:
     """Returns what is wrong with a simplified mesh, whose vertices may have moved or not."""
     found = []

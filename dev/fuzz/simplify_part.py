@@ -10,7 +10,7 @@ from samples import ball, mesh_of, mesh_text
 
 from .meshes_part import mesh_program
 from .runs import Folder
-from .simplified import Face, Mesh, Place, faults
+from .simplified import Face, Mesh, Place, far_corner, far_faults, far_place, faults
 from .tally import Context, Tally
 
 LIMIT = 8388608
@@ -70,6 +70,30 @@ def drawn(draw: Random) -> Mesh:
     return mesh
 
 
+def spoiled(context: Context, tally: Tally, folder: Folder, path: str, old: Mesh, text: str) -> None:
+    """Moves vertices of a simplified mesh or states a shorter distance, and judges what `check` says of it."""
+    draw = context.draw
+    head = text.split('end_header', 1)[0]
+    within = int(head.split(' within=')[1].split()[0])
+    stated, new = draw.choice((within, max(1, within // draw.choice((2, 5, 100))))), mesh_of(text)
+    new = moved(new, draw, draw.choice((0, within // 2, 2 * within)))
+    body = mesh_text(*new).split('end_header', 1)[1]
+    files = {'in': mesh_text(*old).encode(), 'out': f'{head.replace(f" within={within} ", f" within={stated} ")}end_header{body}'.encode()}
+    folder.put(files)
+    command = ['recon-mesh', 'check', 'in', 'out']
+    done = folder.run([path, 'check', 'in', 'out'], 60)
+    tally.runs += 1
+    said, surface = done.out.decode(), ' surface=yes' in head
+    wrong = far_faults(said, old, new, stated)
+    if said.startswith('yes '):
+        is_far = far_corner(old, new, stated) is not None or surface and (far_place(old, new, stated) or far_place(new, old, stated))
+        wrong += ['a point is far'] if is_far else []
+    elif not said.startswith(('no 6 ', 'no 7 ', 'no 8 ')):
+        wrong.append('an unexpected line')
+    if wrong:
+        tally.fail('check of a changed simplified mesh is wrong', command, files, f'{done}; {"; ".join(wrong)}')
+
+
 def tried(context: Context, tally: Tally, folder: Folder, path: str) -> None:
     """Simplifies one mesh, judges the result, and lets `check` judge it."""
     draw = context.draw
@@ -98,6 +122,7 @@ def tried(context: Context, tally: Tally, folder: Folder, path: str) -> None:
     checked = folder.run([path, 'check', 'in', 'out'], 60)
     if checked.status != 0 or not checked.out.startswith(b'yes points '):
         tally.fail('check does not confirm what simplify wrote', command, files, str(checked))
+    spoiled(context, tally, folder, path, old, written.decode())
 
 
 def run(context: Context, tally: Tally) -> None:

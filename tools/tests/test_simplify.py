@@ -10,7 +10,7 @@ from itertools import product
 import numpy as np
 
 from helpers import RECON_MESH, InFolder, equal, read, write
-from fuzz.simplified import faults, square_to_triangle
+from fuzz.simplified import far_faults, faults, square_to_triangle
 from recon.light import light_mesh, open_light
 from recon.toolbox.mesh_files import Finished
 from recon.toolbox.ply_text import Refusal
@@ -104,13 +104,14 @@ class Simplify(InFolder):
         flat = [*base, *top], [turned(face) for face in [*sides, (0, 1, 5), (0, 5, 4)]]
         bent = [*base, *top, (2000, -500, 20)], [turned(face) for face in [*sides, (0, 1, 8), (1, 5, 8), (5, 4, 8), (4, 0, 8)]]
         for (old, new), surface, within, scale, line in (
-                ((flat, bent), False, 10, 1, 'yes'), ((flat, bent), True, 10, 1, 'no 7 uncovered_original 10'), ((flat, bent), True, 500, 1, 'yes'),
-                ((flat, bent), True, 499, 1, 'no 8 uncovered_face'), ((flat, flat), True, 1, 1, 'yes'),
+                ((flat, bent), False, 10, 1, 'yes'), ((flat, bent), True, 10, 1, 'no 7 uncovered_original 10 far '), ((flat, bent), True, 500, 1, 'yes'),
+                ((flat, bent), True, 499, 1, 'no 8 uncovered_face 10 far '), ((flat, flat), True, 1, 1, 'yes'),
                 ((flat, flat), True, 8388608, 2, 'no 7 uncovered_original 0')):
             write('mesh.ply', mesh_text(*old))
             write('out.ply', stated(mesh_text(*new), within, 0, read('mesh.ply'), scale, surface))
             status, said, _ = mesh_program('check', 'mesh.ply', 'out.ply')
             equal((status, said.startswith(line)), (int(line[:2] == 'no'), True))
+            equal(far_faults(said, old, new, within), [])
 
     def test_flat_sides_keep_their_corners(self) -> None:
         places, faces = ball(8, 1000)
@@ -167,9 +168,10 @@ class Simplify(InFolder):
                 (plain, plain, 1, 1, 'yes points 4 faces 4 crossing_pairs 0 undecided_pairs 0'), (plain, other, 1, 1, 'no 2 other_mesh'),
                 (mesh_text(POINTS, FACES[1:]), plain, 1, 1, 'no 3 unbalanced from 0 to 1 there 0 back 1'),
                 (other, plain, within, 1, 'yes points 4 faces 4 crossing_pairs 0 undecided_pairs 0'),
-                (other, plain, within - 1, 1, 'no 6 unreached_vertex'), (plain, plain, 1, 2, 'no 6 unreached_vertex 0'),
+                (other, plain, within - 1, 1, 'no 6 unreached_vertex'), (plain, plain, 1, 2, 'no 6 unreached_vertex 0\n'),
+                (other, plain, 1, 1, 'no 6 unreached_vertex 0 far\n'),
                 (mesh_text([tuple(2 * x for x in p) for p in POINTS], FACES), plain, 1, 2, 'yes points 4 faces 4 crossing_pairs 0 undecided_pairs 0'),
-                (mesh_text([], []), plain, 8388608, 1, 'no 6 unreached_vertex 0')):
+                (mesh_text([], []), plain, 8388608, 1, 'no 6 unreached_vertex 0 far\n')):
             write('mesh.ply', plain)
             write('out.ply', stated(text, reach, 0, source, scale))
             status, said, _ = mesh_program('check', 'mesh.ply', 'out.ply')

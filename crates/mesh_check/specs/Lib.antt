@@ -1,2 +1,3 @@
 pub mod Verdicts
 pub mod Simplified
+pub mod Far

@@ -6,12 +6,17 @@
 //!
 //! `judge_simplified` does the same for a simplified mesh: closed, each corner of the original near a face, and each point of either mesh near the other if that is asked.
 //!
+//! Of a simplified mesh a fault can name a point that is shown to be farther than the distance from each face of the other mesh.
+//!
 //! [`judge`] tests this for any mesh and trusts nothing that is said of it. It finds the first fault, or counts the pairs of faces that
 //! cross, which no finished mesh promises to have none of.
 //!
-//! It depends on `mesh_edges` (closed meshes), `mesh_measures` (edges and vertices), `mesh_within` (distances), `mesh_reach` and `mesh_cover` (near faces) and `mesh_crossings`.
+//! It depends on `mesh_edges` (closed meshes), `mesh_measures` (edges and vertices), `mesh_within` (distances), `mesh_reach`, `mesh_cover` and
+//! `face_near` (near faces), `triangle_gap` (weighted sums of corners), `mesh_flips` (vectors in floating point) and `mesh_crossings`.
 #![tactic(auto)]
 
+mod far;
+mod farthest;
 mod judging;
 mod simplified;
 mod verdict;
@@ -19,4 +24,4 @@ mod verdict;
 pub use judging::judge;
 pub use mesh_edges::NoMemory;
 pub use simplified::judge_simplified;
-pub use verdict::{Demands, Fault, Verdict};
+pub use verdict::{Demands, Fault, Uncovered, Unreached, Verdict};

@@ -6,7 +6,8 @@ ghost use Rattle.mesh_edges.specs.Edges.{IsBalanced};
 ghost use Rattle.mesh_check.specs.Simplified.{IsCoveredIfAsked, IsNearMesh, IsSimplifyFault, IsSimplifyJudgment};
 
 use crate::NoMemory;
-use crate::verdict::{Fault, Verdict};
+use crate::farthest::{find_far_point, is_far_corner};
+use crate::verdict::{Fault, Uncovered, Unreached, Verdict};
 use mesh::Mesh;
 use mesh_cover::find_uncovered;
 use mesh_crossings::count_crossings;
@@ -26,19 +27,21 @@ fn cover_fault(
     requires home { IsMesh home.now.points.items home.now.faces.items }
     requires mesh { IsMesh mesh.now.points.items mesh.now.faces.items }
     requires closed { IsBalanced mesh.now.faces.items }
-    ensures { IfOk result (λ fault. MatchOption fault (IsCoveredIfAsked surface reach.fine reach.within home.now.points.items home.now.faces.items mesh.now.points.items mesh.now.faces.items) (IsSimplifyFault mesh.now.faces.items)) }
+    ensures { IfOk result (λ fault. MatchOption fault (IsCoveredIfAsked surface reach.fine reach.within home.now.points.items home.now.faces.items mesh.now.points.items mesh.now.faces.items) (IsSimplifyFault reach.within home.now.points.items home.now.faces.items mesh.now.points.items mesh.now.faces.items)) }
 {
     if !surface {
         return Ok(None);
     }
     if reach.fine != 1 {
-        return Ok(Some(Fault::UncoveredOriginal(0)));
+        return Ok(Some(Fault::UncoveredOriginal(Uncovered { face: 0, far: None })));
     }
     if let Some(face) = find_uncovered(alloc, home, mesh, &[], reach.within)? {
-        return Ok(Some(Fault::UncoveredOriginal(face)));
+        let far = find_far_point(alloc, home, face, mesh, reach.within)?;
+        return Ok(Some(Fault::UncoveredOriginal(Uncovered { face, far })));
     }
     if let Some(face) = find_uncovered(alloc, mesh, home, &[], reach.within)? {
-        return Ok(Some(Fault::UncoveredFace(face)));
+        let far = find_far_point(alloc, mesh, face, home, reach.within)?;
+        return Ok(Some(Fault::UncoveredFace(Uncovered { face, far })));
     }
     Ok(None)
 }
@@ -53,13 +56,14 @@ fn simplify_fault(
 ) -> Result<Option<Fault>, NoMemory>
     requires home { IsMesh home.now.points.items home.now.faces.items }
     requires mesh { IsMesh mesh.now.points.items mesh.now.faces.items }
-    ensures { IfOk result (λ fault. MatchOption fault (IsNearMesh surface reach.fine reach.within home.now.points.items home.now.faces.items mesh.now.points.items mesh.now.faces.items) (IsSimplifyFault mesh.now.faces.items)) }
+    ensures { IfOk result (λ fault. MatchOption fault (IsNearMesh surface reach.fine reach.within home.now.points.items home.now.faces.items mesh.now.points.items mesh.now.faces.items) (IsSimplifyFault reach.within home.now.points.items home.now.faces.items mesh.now.points.items mesh.now.faces.items)) }
 {
     if let Some(edge) = first_unbalanced(alloc, mesh)? {
         return Ok(Some(Fault::Unbalanced(edge)));
     }
     if let Some(vertex) = first_unreached(alloc, home, mesh, &[], reach)? {
-        return Ok(Some(Fault::UnreachedVertex(vertex)));
+        let is_far = reach.fine == 1 && is_far_corner(home, vertex, mesh, reach.within);
+        return Ok(Some(Fault::UnreachedVertex(Unreached { vertex, is_far })));
     }
     match cover_fault(alloc, home, mesh, reach, surface)? {
         Some(fault) => Ok(Some(fault)),
@@ -69,7 +73,7 @@ fn simplify_fault(
 
 /// Returns the first demand that a simplified mesh does not keep, or how many pairs of its faces cross. It has to be closed, and each corner
 /// of the faces of the mesh that it was made of within reach of one of its faces; with `surface` each point of either mesh within reach of
-/// the other, at the scale 1. That what is not shown near is far is not promised.
+/// the other, at the scale 1. That what is not shown near is far is promised only of the points that the fault names.
 pub fn judge_simplified(
     alloc: Global,
     home: &Mesh,

@@ -1,5 +1,6 @@
 //! What is demanded of a finished mesh, and what was found.
 
+use face_near::Weights;
 use mesh_crossings::CrossingCounts;
 use mesh_edges::UnbalancedEdge;
 
@@ -12,6 +13,24 @@ pub struct Demands {
     pub fine: u32,
     /// How far a vertex may be from the nearest one of the mesh before, in units of that mesh.
     pub within: u32,
+}
+
+/// A corner for which no face is shown to be near enough.
+#[derive(Clone, Copy, Debug, PartialEq, Eq)]
+pub struct Unreached {
+    /// Its number.
+    pub vertex: u32,
+    /// Whether it is shown to be too far from each face.
+    pub is_far: bool,
+}
+
+/// A face that is not shown to be near another mesh at each of its points.
+#[derive(Clone, Copy, Debug, PartialEq, Eq)]
+pub struct Uncovered {
+    /// Its number.
+    pub face: usize,
+    /// How often its corners count in a point that is shown to be too far from each face of the other mesh, if one is found.
+    pub far: Option<Weights>,
 }
 
 /// The first demand that a mesh does not keep.
@@ -29,11 +48,11 @@ pub enum Fault {
     /// The first vertex that is too far from each vertex of the mesh before.
     FarVertex(usize),
     /// The first corner of the mesh before for which no face is shown to be near enough.
-    UnreachedVertex(u32),
+    UnreachedVertex(Unreached),
     /// The first face of the mesh before that is not shown to be near the mesh at each of its points.
-    UncoveredOriginal(usize),
+    UncoveredOriginal(Uncovered),
     /// The first face of the mesh that is not shown to be near the mesh before at each of its points.
-    UncoveredFace(usize),
+    UncoveredFace(Uncovered),
 }
 
 /// What was found.

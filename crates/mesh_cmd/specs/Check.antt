@@ -7,6 +7,9 @@
 --   fault_line fault                   the line for a demand that the mesh does not meet
 --   unbalanced_out_line from to there back   the line for an unbalanced edge of the finished mesh
 --   nonmanifold_line edges vertices    the line for its numbers of non-manifold edges and vertices
+--   unreached_line vertex is_far       the line for a corner for which no near face was found
+--   far_text far                       what a line says of a point that is far
+--   uncovered_line label u             the line for a face that was not shown to be near
 --   confirmed_line points faces counts   the line for a mesh that meets all demands
 --   reach_of smoothing                 how far vertices may be from those of the original mesh
 --   demands_of o fine                  all that these options demand of a finished mesh with this scale
@@ -18,13 +21,15 @@
 --   check_answers                      the same for any bytes of the finished mesh
 --   OutAnswer limit name digest mesh files answer   the answers of `check` to the file of the finished mesh
 --   confirm_task names                 the command `check`
-use Rattle.std.specs.Prelude.{ℕ, List, [], ◌∷◌, ◌++◌, codes, ◌≡◌, ◌≢◌, ◌⊎◌, ⊤, length, Option, None, Some}
+use Rattle.std.specs.Prelude.{ℕ, List, [], ◌∷◌, ◌++◌, codes, ◌≡◌, ◌≢◌, ◌⊎◌, ⊤, Bool, if◌then◌else◌, length, Option, None, Some}
 use Rattle.host.specs.State.{Files}
 use Rattle.mesh.specs.Meshes.{Surface}
 use Rattle.mesh_crossings.specs.declared.counts.CrossingCounts.{CrossingCounts}
 use Rattle.mesh_check.specs.Verdicts.{IsJudgment}
 use Rattle.mesh_check.specs.Simplified.{IsSimplifyJudgment}
 use Rattle.mesh_check.specs.declared.verdict.Demands.{Demands}
+use Rattle.face_near.specs.declared.exact.Weights.{Weights}
+use Rattle.mesh_check.specs.declared.verdict.Uncovered.{Uncovered}
 use Rattle.mesh_check.specs.declared.verdict.Fault.{Fault}
 use Rattle.mesh_check.specs.declared.verdict.Fault.TheVariants.{Unbalanced, NonManifold, FarVertex, UnreachedVertex, UncoveredOriginal, UncoveredFace}
 use Rattle.mesh_check.specs.declared.verdict.Verdict.{Verdict}
@@ -67,14 +72,28 @@ unfoldable pub nonmanifold_line : (edges vertices : ℕ) → List ℕ
 nonmanifold_line edges vertices =
     labelled (codes "no 4 nonmanifold_edges ") edges ++ (labelled (codes " nonmanifold_vertices ") vertices ++ (10 ∷ []))
 
+-- a corner for which no near face was found, and ` far` if each face is shown to be too far from it
+unfoldable pub unreached_line : (vertex : ℕ) → (is_far : Bool) → List ℕ
+unreached_line vertex is_far =
+    labelled (codes "no 6 unreached_vertex ") vertex ++ ((if is_far then codes " far" else []) ++ (10 ∷ []))
+
+-- ` far U V W`: how often the corners of a face count in a point that is shown to be too far, if there is one
+unfoldable pub far_text : Option Weights → List ℕ
+far_text None = []
+far_text (Some w) = labelled (codes " far ") w.a ++ (labelled (codes " ") w.b ++ labelled (codes " ") w.c)
+
+-- a face that was not shown to be near, and a point of it that is far
+unfoldable pub uncovered_line : (label : List ℕ) → Uncovered → List ℕ
+uncovered_line label u = labelled label u.face ++ (far_text u.far ++ (10 ∷ []))
+
 -- the line of a demand that the mesh does not keep
 abbrev pub fault_line : Fault → List ℕ
 fault_line (Unbalanced e) = unbalanced_out_line e.from e.to e.there e.back
 fault_line (NonManifold edges vertices) = nonmanifold_line edges vertices
 fault_line (FarVertex v) = number_line (codes "no 5 far_vertex ") v
-fault_line (UnreachedVertex v) = number_line (codes "no 6 unreached_vertex ") v
-fault_line (UncoveredOriginal i) = number_line (codes "no 7 uncovered_original ") i
-fault_line (UncoveredFace i) = number_line (codes "no 8 uncovered_face ") i
+fault_line (UnreachedVertex u) = unreached_line u.vertex u.is_far
+fault_line (UncoveredOriginal u) = uncovered_line (codes "no 7 uncovered_original ") u
+fault_line (UncoveredFace u) = uncovered_line (codes "no 8 uncovered_face ") u
 
 -- `yes points N faces M crossing_pairs C undecided_pairs U`, and ` first_pair I J` if any pair crosses
 unfoldable pub confirmed_line : (points faces : ℕ) → CrossingCounts → List ℕ

@@ -1,18 +1,19 @@
 //! The answer of `check` to two valid meshes, and its lines.
-ghost use Rattle.std.specs.Prelude.{◌≡◌, [], IfOk, Some};
+ghost use Rattle.std.specs.Prelude.{◌≡◌, ◌++◌, [], codes, if◌then◌else◌, IfOk, OnOk, Some};
 ghost use Rattle.mesh.specs.Meshes.{IsMesh};
 ghost use Rattle.mesh_ply.specs.Texts.{IsPrinted};
 ghost use Rattle.command_run.specs.Replies.{answer_of};
 ghost use Rattle.command_run.specs.Steps.{surface_of};
-ghost use Rattle.mesh_cmd.specs.Check.{reach_of, demands_of, line_answer, verdict_answer, fault_line, unbalanced_out_line, nonmanifold_line, confirmed_line, IsJudgedBy, ConfirmAnswer};
+ghost use Rattle.mesh_cmd.specs.Check.{reach_of, demands_of, line_answer, verdict_answer, fault_line, unbalanced_out_line, nonmanifold_line, unreached_line, far_text, uncovered_line, confirmed_line, IsJudgedBy, ConfirmAnswer};
 ghost use Rattle.mesh_cmd.specs.Input.{surface_of_input};
 
 use crate::crossings::push_crossings;
 use crate::input::InputMesh;
 use command_run::{Line, NoMemory, Reply, Status, line_of_number, line_of_text, push_labelled};
+use face_near::Weights;
 use finish_options::{FinishOptions, SmoothOptions};
 use mesh::Mesh;
-use mesh_check::{Demands, Fault, Verdict, judge, judge_simplified};
+use mesh_check::{Demands, Fault, Uncovered, Verdict, judge, judge_simplified};
 use mesh_crossings::CrossingCounts;
 use mesh_provenance::{Made, Provenance};
 use mesh_reach::Reach;
@@ -160,13 +161,9 @@ fn line_of_fault(alloc: Global, fault: Fault) -> Result<Vec<u8>, NoMemory>
             line_of_nonmanifold(alloc, edges as u64, vertices as u64)
         }
         Fault::FarVertex(vertex) => line_of_number(alloc, b"no 5 far_vertex ", vertex as u64),
-        Fault::UnreachedVertex(vertex) => {
-            line_of_number(alloc, b"no 6 unreached_vertex ", u64::from(vertex))
-        }
-        Fault::UncoveredOriginal(face) => {
-            line_of_number(alloc, b"no 7 uncovered_original ", face as u64)
-        }
-        Fault::UncoveredFace(face) => line_of_number(alloc, b"no 8 uncovered_face ", face as u64),
+        Fault::UnreachedVertex(u) => line_of_unreached(alloc, u.vertex, u.is_far),
+        Fault::UncoveredOriginal(u) => line_of_uncovered(alloc, b"no 7 uncovered_original ", u),
+        Fault::UncoveredFace(u) => line_of_uncovered(alloc, b"no 8 uncovered_face ", u),
     }
 }
 
@@ -198,6 +195,57 @@ fn line_of_nonmanifold(alloc: Global, edges: u64, vertices: u64) -> Result<Vec<u
     let mut line = Vec::new(alloc);
     push_labelled(&mut line, b"no 4 nonmanifold_edges ", edges)?;
     push_labelled(&mut line, b" nonmanifold_vertices ", vertices)?;
+    line.push(b'\n')?;
+    Ok(line)
+}
+
+/// Appends that a point is far, if it is.
+fn push_far_word(line: &mut Vec<u8>, is_far: bool) -> Result<(), NoMemory>
+    ensures { OnOk result (line.new.items ≡ line.old.items ++ (if is_far then codes " far" else [])) }
+{
+    if !is_far {
+        return Ok(());
+    }
+    line.extend_from_slice(b" far")?;
+    Ok(())
+}
+
+/// Returns the line of a corner for which no near face was found.
+#[tactic(auto, unfolding(crate::specs::Check::unreached_line))]
+fn line_of_unreached(alloc: Global, vertex: u32, is_far: bool) -> Result<Vec<u8>, NoMemory>
+    ensures { IfOk result (λ line. line.items ≡ unreached_line vertex is_far) }
+{
+    let mut line = Vec::new(alloc);
+    push_labelled(&mut line, b"no 6 unreached_vertex ", u64::from(vertex))?;
+    push_far_word(&mut line, is_far)?;
+    line.push(b'\n')?;
+    Ok(line)
+}
+
+/// Appends how often the corners of a face count in a point that is far, if there is one.
+#[tactic(auto, unfolding(crate::specs::Check::far_text))]
+fn push_far(line: &mut Vec<u8>, far: Option<Weights>) -> Result<(), NoMemory>
+    ensures { OnOk result (line.new.items ≡ line.old.items ++ far_text far) }
+{
+    match far {
+        None => Ok(()),
+        Some(w) => {
+            push_labelled(line, b" far ", u64::from(w.a))?;
+            push_labelled(line, b" ", u64::from(w.b))?;
+            push_labelled(line, b" ", u64::from(w.c))?;
+            Ok(())
+        }
+    }
+}
+
+/// Returns the line of a face that was not shown to be near.
+#[tactic(auto, unfolding(crate::specs::Check::uncovered_line))]
+fn line_of_uncovered(alloc: Global, label: &[u8], u: Uncovered) -> Result<Vec<u8>, NoMemory>
+    ensures { IfOk result (λ line. line.items ≡ uncovered_line label.now u) }
+{
+    let mut line = Vec::new(alloc);
+    push_labelled(&mut line, label, u.face as u64)?;
+    push_far(&mut line, u.far)?;
     line.push(b'\n')?;
     Ok(line)
 }
