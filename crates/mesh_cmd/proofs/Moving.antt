@@ -2,7 +2,6 @@
 use Rattle.std.proofs.Common.{ℕ, ◌≡◌, ◌⊎◌, inl, inr, ap, ◌∙◌, List}
 use Rattle.mesh.specs.Meshes.{Surface}
 use Rattle.command_run.specs.Answers.{Answer}
-use Rattle.command_run.specs.declared.status.Status.{Status}
 use Rattle.command_run.specs.declared.status.Status.TheVariants.{Done, Refused}
 use Rattle.mesh_cmd.specs.Finish.{IsNotFinished}
 use Rattle.mesh_cmd.specs.Moving.{MoveAnswer, move_answers}
