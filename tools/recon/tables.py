@@ -45,9 +45,11 @@ class Table(NamedTuple):
         return None
 
     def colors(self) -> np.ndarray | None:
-        """Red, green and blue as bytes; of 16 bits the upper eight, of parts of 1 their 255-fold. Where there are none, intensity as gray."""
-        if not have_colors(self.columns):
-            return gray_of(self.columns[INTENSITY]) if INTENSITY in self.columns else None
+        """Red, green and blue as bytes; of 16 bits the upper eight, of parts of 1 their 255-fold. Where there are none, or all are black, intensity as
+        gray if there is one."""
+        gray = gray_of(self.columns[INTENSITY]) if INTENSITY in self.columns and not have_light(self.columns) else None
+        if gray is not None or not all(name in self.columns for name in COLORS):
+            return gray
         columns = [self.columns[name] for name in COLORS]
         if all(column.dtype == np.uint8 for column in columns):
             return np.stack(columns, axis=1)
@@ -57,8 +59,9 @@ class Table(NamedTuple):
         return np.clip(np.floor(values * factor + 1e-9), 0, 255).astype(np.uint8)
 
 
-def have_colors(columns: Dict[str, np.ndarray]) -> bool:
-    """Returns whether columns have colors. Where all are black, a program wrote a format with colors of points without any."""
+def have_light(columns: Dict[str, np.ndarray]) -> bool:
+    """Returns whether columns have colors that are not all black. If all are, a program may have written a format with colors of points without any, and
+    intensity says more."""
     return all(name in columns for name in COLORS) and any(bool(columns[name].any()) for name in COLORS)
 
 
@@ -168,7 +171,7 @@ class Gathering:
     def table(self) -> Table:
         """The whole scan, without intensity if it has colors."""
         columns = {name: np.concatenate(parts) if parts else np.zeros(0) for name, parts in self.parts.items()}
-        if have_colors(columns):
+        if have_light(columns):
             columns.pop(INTENSITY, None)
         source = self.source
         scanners = np.array([list(map(float, position)) for position in source.positions], float).reshape(-1, 3) if source.has_scanners else None

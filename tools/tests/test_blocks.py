@@ -179,12 +179,16 @@ class Words(unittest.TestCase):
         equal(one.count, other.count)
 
     def test_what_columns_mean(self) -> None:
-        cases = ((['1 2 3 255 0 0'], None, {'red': 3, 'green': 4, 'blue': 5}), (['1 2 3 0 0 0'], None, {}),
+        cases = ((['1 2 3 255 0 0'], None, {'red': 3, 'green': 4, 'blue': 5}), (['1 2 3 0 0 0'], None, {'red': 3, 'green': 4, 'blue': 5}),
                  (['1 2 3 0.5 1 2 3'], None, {'red': 4, 'green': 5, 'blue': 6, 'intensity': 3}), (['1 2 3 4.5'], None, {'intensity': 3}),
                  (['1 2 3 9 8 7 0 0 1'], None, {'red': 3, 'green': 4, 'blue': 5, 'nx': 6, 'ny': 7, 'nz': 8}),
                  (['1 2 3 0 0 1 9 8 7'], None, {'red': 6, 'green': 7, 'blue': 8, 'nx': 3, 'ny': 4, 'nz': 5}),
                  (['1 2 3 9 8 7 0.5'], None, {'red': 3, 'green': 4, 'blue': 5, 'intensity': 6}), (['1 2 3 4 5'], None, {}),
                  (['1 2 3 4 5 6 7'], 'X Y Z class R G B', {'red': 4, 'green': 5, 'blue': 6}), (['1 2 3 4 5 6'], 'a b c d e f', {'red': 3, 'green': 4, 'blue': 5}),
-                 (['1 2 3 256 5 6'], None, {}), (['1 2 3 1.5 5 6'], None, {}))
+                 (['1 2 3 256 5 6'], None, {}), (['1 2 3 1.5 5 6'], None, {}), (['1 2 3 0.0 0.0 0.0'], None, {}),
+                 (['1 2 3 0.5 0 0 0'], None, {'red': 4, 'green': 5, 'blue': 6, 'intensity': 3}),
+                 (['1 2 3 0 0 0 0 0.6 0.8'], None, {'red': 3, 'green': 4, 'blue': 5, 'nx': 6, 'ny': 7, 'nz': 8}),
+                 (['1 2 3 9 0 0 0', '1 2 3 9 7 8 6'], None, {'red': 4, 'green': 5, 'blue': 6, 'intensity': 3}),
+                 (['1 2 3 0 0 0 9', '1 2 3 7 8 6 9'], None, {'red': 3, 'green': 4, 'blue': 5, 'intensity': 6}))
         for rows, title, wanted in cases:
             equal((rows, layout_of([row.split() for row in rows], title.split() if title else None).places), (rows, wanted))

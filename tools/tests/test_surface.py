@@ -304,13 +304,34 @@ class Words(InFolder):
         order = np.argsort(colors[:, 0], kind='stable')
         equal(((np.diff(gray[order, 0].astype(int)) >= 0).all(), gray.min(), gray.max(), (gray[:, 0] == gray[:, 2]).all()), (True, 0, 255, True))
 
-    def test_points_that_are_all_black_have_no_colors(self) -> None:
+    def test_points_that_are_all_black(self) -> None:
         write('a.pts', '3\n1 2 3 0.5 0 0 0\n4 5 6 0.25 0 0 0\n7 8 9 1 0 0 0\n')
         colors = read_table(['a.pts=0,0,5'])[0].colors()
         assert colors is not None
         equal(colors[:, 1].argsort().tolist(), [1, 0, 2])
         write('b.xyz', '1 2 3 0 0 0\n4 5 6 0 0 0\n')
-        equal(read_table(['b.xyz=0,0,5'])[0].colors(), None)
+        write('c.pts', '2\n1 2 3 7 0 0 0\n4 5 6 7 0 0 0\n')
+        write('d.ply', head(2, 'double x, double y, double z, uchar red, uchar green, uchar blue') + '1 2 3 0 0 0\n4 5 6 0 0 0\n')
+        for name in ('b.xyz', 'c.pts', 'd.ply'):
+            colors = read_table([f'{name}=0,0,5'])[0].colors()
+            assert colors is not None
+            equal((name, colors.tolist()), (name, [[0, 0, 0]] * 2))
+
+    def test_colors_of_a_list_that_begins_with_black(self) -> None:
+        points, colors = sphere(400), np.random.default_rng(2).integers(0, 256, (400, 3))
+        colors[:250] = 0
+        rows = [[f'{x:.6f} {y:.6f} {z:.6f}', f'{r} {g} {b}'] for (x, y, z), (r, g, b) in zip(points, colors)]
+        write('a.xyz', ''.join(f'{row} {word}\n' for row, word in rows))
+        write('b.xyz', ''.join(f'{row} 0.{k:03d} {word}\n' for k, (row, word) in enumerate(rows)))
+        write('c.xyz', ''.join(f'{row} {1 + k % 200} {word}\n' for k, (row, word) in enumerate(rows)))
+        write('d.txt', 'X Y Z R G B\n' + ''.join(f'{row} {r / 255:.5f} {g / 255:.5f} {b / 255:.5f}\n' for (row, _), (r, g, b) in zip(rows, colors)))
+        for name in ('a.xyz', 'b.xyz', 'c.xyz', 'd.txt'):
+            found = read_table([f'{name}=0,0,5'])[0].colors()
+            assert found is not None
+            equal((name, (found == colors).all()), (name, True))
+        # normals that are missing in the first rows are no colors
+        write('e.xyz', ''.join(f'{row} 0 0 0\n' for row, _ in rows[:250]) + ''.join(f'{row} 0.6 0 -0.8\n' for row, _ in rows[250:]))
+        equal(read_table(['e.xyz=0,0,5'])[0].colors(), None)
 
     def test_scans_are_loaded_as_they_were_written(self) -> None:
         write('a.ply', head(2, 'double x, double y, double z, ushort red, ushort green, ushort blue, int scanner', 1)

@@ -1,6 +1,6 @@
 """What the columns of a text of numbers mean beyond X, Y and Z: colors, intensity and normals, by its heading or by its first rows.
 
-Names: Layout · layout_of.
+Names: Layout · layout_of · is_zero (whether words of a row are 0).
 """
 from __future__ import annotations
 
@@ -14,6 +14,7 @@ NAMES = {'r': 'red', 'red': 'red', 'g': 'green', 'green': 'green', 'b': 'blue', 
 # what rows of PTS and PTX have, by how many values there are
 OF_SCANNERS = {4: (INTENSITY,), 6: COLORS, 7: (INTENSITY, *COLORS)}
 IS_BYTE = re.compile('0*[0-9]{1,3}').fullmatch
+IS_ZERO = re.compile(r'[+-]?(0+\.?0*|\.0+)([eE][+-]?[0-9]+)?').fullmatch
 LEAST, NEAR, MOST_WRONG = 1, 0.02, 0.1
 
 
@@ -47,9 +48,20 @@ def numbers(rows: Sequence[Sequence[str]], place: int) -> list[list[float]] | No
 
 
 def are_bytes(rows: Sequence[Sequence[str]], place: int) -> bool:
-    """Whether three columns are colors: whole numbers up to 255, not all 0."""
-    words = [word for row in rows for word in row[place:place + 3]]
-    return all(IS_BYTE(word) and int(word) <= 255 for word in words) and any(int(word) for word in words)
+    """Whether three columns are whole numbers up to 255."""
+    return all(IS_BYTE(word) and int(word) <= 255 for row in rows for word in row[place:place + 3])
+
+
+def is_zero(row: Sequence[str], place: int, count: int = 3) -> bool:
+    """Whether some words of a row, as many as there are, are numbers equal to 0."""
+    return all(IS_ZERO(word) for word in row[place:place + count])
+
+
+def is_intensity_first(rows: Sequence[Sequence[str]]) -> bool:
+    """Whether the first of four columns of whole numbers is an intensity, and not the last one: black, which has an intensity, is after it more often than
+    before the last one."""
+    return (sum(is_zero(row, 4) and not is_zero(row, 3, 1) for row in rows)
+            > sum(is_zero(row, 3) and not is_zero(row, 6, 1) for row in rows))
 
 
 def are_parts(rows: Sequence[Sequence[str]], place: int) -> bool:
@@ -68,13 +80,20 @@ def are_directions(rows: Sequence[Sequence[str]], place: int) -> bool:
 
 
 def guessed(rows: Sequence[Sequence[str]], width: int) -> Layout:
-    """The columns of rows without a heading."""
+    """The columns of rows without a heading. Three columns of 0 are black if no others are colors."""
+    found = guessed_from(rows, width, False)
+    return found if found.has(COLORS) else guessed_from(rows, width, True)
+
+
+def guessed_from(rows: Sequence[Sequence[str]], width: int, may_be_black: bool) -> Layout:
+    """The same; `may_be_black` tells whether columns that are all 0 count as colors."""
     places: Dict[str, int] = {}
-    at = 3
+    at = 4 if width == 7 and is_intensity_first(rows) else 3
     if width == 4:
         return Layout({INTENSITY: 3})
     while at + 3 <= width:
-        kind = NORMALS if are_directions(rows, at) and 'nx' not in places else COLORS if are_bytes(rows, at) and 'red' not in places else None
+        is_color = 'red' not in places and are_bytes(rows, at) and (may_be_black or not all(is_zero(row, at) for row in rows))
+        kind = NORMALS if are_directions(rows, at) and 'nx' not in places else COLORS if is_color else None
         if kind is None:
             if at == 3:
                 at += 1

@@ -14,10 +14,10 @@ from recon.toolbox.ply_text import IS_NOT_FINITE, IS_NUMBER, Refusal
 from recon.toolbox.posed import PosedRows
 from recon.toolbox.read_ahead import all_rows
 from recon.toolbox.text_columns import LONGEST_LINE, FieldRows, LineParts, NotPlain, TextRows
-from recon.toolbox.text_layout import COLORS, Layout, layout_of, named
+from recon.toolbox.text_layout import COLORS, Layout, is_zero, layout_of, named
 from recon.toolbox.text_lines import DECIMAL_COMMAS, Lines
 
-SAMPLE, SCANNER_SAMPLE = 200, 1 << 17
+SAMPLE, SCANNER_SAMPLE, BLACK_SAMPLE = 200, 1 << 17, 100_000
 REMARKS = ('#', '//')
 
 
@@ -79,7 +79,28 @@ def list_start(lines: Lines) -> ListStart | None:
             break
         if line.strip() and not line.strip().startswith(REMARKS):
             rows.append(parted(line.strip(), sign))
-    return ListStart(offset, sign, len(rows[0]), layout_of(rows, heading), headings)
+    return ListStart(offset, sign, len(rows[0]), settled_layout(lines, rows, sign, heading), headings)
+
+
+def settled_layout(lines: Lines, rows: Sequence[Sequence[str]], sign: str, heading: Sequence[str] | None) -> Layout:
+    """What the columns of a list mean, by its first rows. If these are all black, also by the first one after them that is not: it tells whether these
+    columns are colors, and whether they are parts of 1."""
+    layout = layout_of(rows, heading)
+    at = [layout.places[name] for name in COLORS if layout.has(COLORS)]
+
+    def is_black(row: Sequence[str]) -> bool:
+        return len(row) <= max(at) or all(is_zero(row, place, 1) for place in at)
+
+    if not at or not all(map(is_black, rows)):
+        return layout
+    for _ in range(BLACK_SAMPLE):
+        line = lines.next_line()
+        if line is None:
+            break
+        row = parted(line.strip(), sign)
+        if not line.strip().startswith(REMARKS) and not is_black(row):
+            return layout_of([*rows, row], heading)
+    return layout
 
 
 def list_rows(path: str, open_end: bool, start: ListStart) -> Iterator[FieldRows]:
