@@ -10,7 +10,7 @@ use mir.Syntax.{w32, w64}
 use Rattle.geo_sign.specs.Point.{Point}
 use Rattle.geo_sign.specs.declared.point.TheConstants.{BOX_LIMIT}
 use Rattle.geo_sign.proofs.Bounds.{kept, Held, held, held_kept, held_add, held_sub}
-use Rattle.triangle_gap.specs.Shared.{weighted_sum}
+use Rattle.triangles.specs.Shared.{weighted_sum}
 use Rattle.face_near.specs.Near.{IsNearAt}
 
 -- a sum of three numbers as they are read

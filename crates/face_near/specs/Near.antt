@@ -8,7 +8,7 @@
 use Rattle.std.specs.Prelude.{ℕ, ◌<◌, ◌+◌, ◌*◌, pos, ◌*ℤ◌, ◌≤ℤ◌, List, [], ◌∷◌}
 use Rattle.geo_sign.specs.Point.{Point, point, step, square}
 use Rattle.mesh.specs.Meshes.{point_at}
-use Rattle.triangle_gap.specs.Shared.{weighted}
+use Rattle.triangles.specs.Shared.{weighted}
 
 -- Not all weights are 0, and the square of the distance between the mean of the corners and the point is at most that of `within`, both
 -- in units of the corners and times the sum of the weights.

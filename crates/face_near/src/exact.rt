@@ -4,7 +4,7 @@ ghost use Rattle.std.specs.Prelude.{◌≡◌, ◌<◌, ◌≤◌, ◌+◌, ◌*
 ghost use Rattle.std.specs.Bool.{OnTrue};
 ghost use Rattle.geo_sign.specs.declared.point.TheConstants.{BOX_LIMIT};
 ghost use Rattle.mesh.specs.Meshes.{point_at};
-ghost use Rattle.triangle_gap.specs.Shared.{weighted_sum};
+ghost use Rattle.triangles.specs.Shared.{weighted_sum};
 ghost use Rattle.face_near.specs.Near.{IsNearAt, IsNearFace};
 
 use geo_sign::Point;

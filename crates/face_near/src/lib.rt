@@ -6,7 +6,7 @@
 //! distance of a point, without rounding. [`nearest_on`] finds the point of the triangle that is nearest, in floating
 //! point, and [`weights_of`] proposes its weights. No clause depends on them, since they are tested.
 //!
-//! It depends on `geo_sign` (points), `mesh` (the point of a vertex), `triangle_gap` (weighted sums of corners) and `mesh_flips`
+//! It depends on `geo_sign` (points), `mesh` (the point of a vertex), `triangles` (weighted sums of corners) and `mesh_flips`
 //! (vectors in floating point).
 #![tactic(auto)]
 

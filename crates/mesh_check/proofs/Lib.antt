@@ -1,2 +1,4 @@
 pub mod Beyond
 pub mod Counted
+pub mod Measured
+pub mod Searched

@@ -6,7 +6,7 @@
 use Rattle.std.specs.Prelude.{ℕ, ◌<◌, ◌+◌, List, [], ◌∷◌, All, Option, IfSome}
 use Rattle.geo_sign.specs.Point.{Point}
 use Rattle.mesh.specs.Meshes.{point_at}
-use Rattle.triangle_gap.specs.Shared.{weighted}
+use Rattle.triangles.specs.Shared.{weighted}
 use Rattle.face_near.specs.declared.exact.Weights.{Weights}
 use Rattle.mesh_cover.specs.Covers.{IsNearFaceOf}
 

@@ -1,3 +1,4 @@
 pub mod Verdicts
 pub mod Simplified
 pub mod Far
+pub mod Homes

@@ -15,11 +15,11 @@
 --                                        numbers of pairs of faces that cross
 use Rattle.std.specs.Prelude.{ℕ, ◌+◌, ◌≡◌, ◌<◌, Bool, true, List, length}
 use Rattle.geo_sign.specs.Point.{Point}
-use Rattle.counting.specs.Sets.{AreSoMany}
+use Rattle.mesh_edges.specs.Things.{AreSoMany}
 use Rattle.mesh_edges.specs.Edges.{IsBalanced, IsFirstUnbalanced}
 use Rattle.mesh_measures.specs.Manifolds.{IsNonManifoldPair, IsManifoldVertex}
 use Rattle.mesh_crossings.specs.Counts.{CountsCrossings}
-use Rattle.mesh_within.specs.Far.{AreAllNear, IsFirstFar}
+use Rattle.mesh_check.specs.Homes.{AreAllNear, IsFirstFar}
 use Rattle.mesh_check.specs.declared.verdict.Demands.{Demands}
 use Rattle.mesh_check.specs.declared.verdict.Fault.{Fault}
 use Rattle.mesh_check.specs.declared.verdict.Fault.TheVariants.{Unbalanced, NonManifold, FarVertex, UnreachedVertex, UncoveredOriginal, UncoveredFace}

@@ -5,7 +5,7 @@ ghost use Rattle.std.specs.Bool.{OnTrue};
 ghost use Rattle.geo_sign.specs.Point.{step, dot, square, IsWithin};
 ghost use Rattle.geo_sign.specs.declared.point.TheConstants.{BOX_LIMIT};
 ghost use Rattle.mesh.specs.Meshes.{IsFace, point_at};
-ghost use Rattle.triangle_gap.specs.Shared.{weighted, weighted_sum};
+ghost use Rattle.triangles.specs.Shared.{weighted, weighted_sum};
 ghost use Rattle.mesh_cover.specs.Covers.{times, IsMeanNear, IsNearFaceOf};
 ghost use Rattle.mesh_check.specs.Far.{AreAllFar, IsFarPoint};
 

@@ -5,14 +5,13 @@ ghost use Rattle.mesh.specs.Meshes.{IsMesh};
 ghost use Rattle.mesh_edges.specs.Edges.{IsBalanced};
 ghost use Rattle.mesh_check.specs.Verdicts.{IsManifoldIfAsked, HasNonManifold, KeepsDemands, IsFirstFault, IsJudgment};
 
-use crate::NoMemory;
 use crate::verdict::{Demands, Fault, Verdict};
+use crate::{NoMemory, first_far};
 use geo_sign::Point;
 use mesh::Mesh;
 use mesh_crossings::count_crossings;
 use mesh_edges::first_unbalanced;
 use mesh_measures::measure_topology;
-use mesh_within::first_far;
 use std::alloc::Global;
 
 /// How many edges and vertices are not manifold.

@@ -3,7 +3,7 @@
 --   first_pair_text first        the first pair that crosses, if any does
 --   crossings_text counts        the numbers of pairs that cross and of undecided ones, and the first pair
 use Rattle.std.specs.Prelude.{ℕ, List, [], Option, Some, None, ◌++◌, codes}
-use Rattle.mesh_edges.specs.declared.pair.Pair.{Pair}
+use Rattle.mesh_edges.specs.declared.pairs.Pair.{Pair}
 use Rattle.mesh_crossings.specs.declared.counts.CrossingCounts.{CrossingCounts}
 use Rattle.command_run.specs.Lines.{labelled}
 

@@ -15,7 +15,7 @@ use Rattle.std.specs.Fmt.{signed_decimal}
 use Rattle.mesh.specs.Meshes.{Surface}
 use Rattle.mesh_edges.specs.Edges.{face_at, IsBalanced, IsFirstUnbalanced}
 use Rattle.mesh_edges.specs.declared.balance.UnbalancedEdge.{UnbalancedEdge}
-use Rattle.counting.specs.Sets.{AreSoMany}
+use Rattle.mesh_edges.specs.Things.{AreSoMany}
 use Rattle.mesh_measures.specs.Flat.{IsFlat}
 use Rattle.mesh_measures.specs.Topology.{IsTopologyOf}
 use Rattle.mesh_measures.specs.Volumes.{six_volume}

@@ -4,8 +4,8 @@
 use crate::NoMemory;
 use crate::surface::hull_among;
 use geo_sign::Point;
-use hull_tree::Hull;
 use std::alloc::Global;
+use triangles::Hull;
 
 /// How many faces share a leaf, as a power of two.
 const LEAF_BITS: usize = 3;

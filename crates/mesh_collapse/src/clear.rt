@@ -10,9 +10,8 @@ use crate::order::short;
 use crate::surface::{Surface, between, normal_of};
 use face_near::Corners;
 use geo_sign::Point;
-use hull_tree::Hull;
 use mesh_flips::Way;
-use triangle_gap::are_apart;
+use triangles::{Hull, are_apart};
 
 /// The rounding error of a height over a plane is at most this part of the sum of its three parts' absolute values.
 const ROUNDING: f64 = 0.000000000000001;

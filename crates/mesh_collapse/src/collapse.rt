@@ -20,7 +20,7 @@ use crate::repeat::{History, Notes, Step, history_of, repeat};
 use crate::shape::{Ends, has_shape};
 use crate::surface::Surface;
 use geo_sign::Point;
-use half_edges::find_twins;
+use mesh_edges::find_twins;
 use std::alloc::Global;
 
 /// What is asked for.

@@ -4,9 +4,9 @@ use crate::NoMemory;
 use crate::numbers::{NONE, after, number_at};
 use crate::surface::Surface;
 use face_near::Corners;
-use hull_tree::Hull;
 use mesh_flips::Way;
 use std::alloc::Global;
+use triangles::Hull;
 
 /// The most faces around a vertex that stays.
 const MOST_STAYING: usize = 4096;

@@ -11,10 +11,10 @@ use crate::order::short;
 use crate::surface::{between, corners_among};
 use face_near::{Corners, nearest_on};
 use geo_sign::Point;
-use hull_tree::{Hull, Span};
 use mesh_flips::Way;
 use std::alloc::Global;
 use std::num::saturating_f64_to_i64;
+use triangles::{Hull, Span};
 
 /// The given mesh along the curve.
 #[derive(Drop)]

@@ -12,8 +12,8 @@
 //!
 //! No clause says anything of the result but that the call ends. Callers test what they need.
 //!
-//! It depends on `geo_sign` (points), `half_edges` (twins), `hull_tree` (boxes), `triangle_gap` (faces that are apart), `face_near`
-//! (nearest points) and `mesh_flips` (vectors in floating point).
+//! It depends on `geo_sign` (points), `mesh_edges` (twins), `triangles` (boxes, faces that are apart), `face_near` (nearest points)
+//! and `mesh_flips` (vectors in floating point).
 #![tactic(auto)]
 
 mod boxes;

@@ -3,8 +3,8 @@
 use crate::numbers::{GONE, NONE, after, before, number_at};
 use face_near::{Corners, spot};
 use geo_sign::Point;
-use hull_tree::Hull;
 use mesh_flips::Way;
+use triangles::Hull;
 
 /// Vertices and faces. A vertex or a face that is gone stays in the lists until they are packed.
 #[derive(Drop)]

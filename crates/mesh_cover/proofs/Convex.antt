@@ -12,7 +12,7 @@ use Rattle.geo_sign.specs.Polynomial.{Polynomial, variable, sum, difference, pro
 use Rattle.geo_sign.proofs.Bounds.{same_place}
 use Rattle.geo_sign.proofs.Ring.{ring}
 use Rattle.geo_sign.proofs.Written.{Symbols, symbols, coordinates, square'}
-use Rattle.triangle_gap.specs.Shared.{weighted_sum, weighted}
+use Rattle.triangles.specs.Shared.{weighted_sum, weighted}
 use Rattle.mesh_cover.specs.Covers.{times, IsMeanNear}
 
 mul_not_negative : (a b : ℤ) → pos 0 ≤ℤ a → pos 0 ≤ℤ b → pos 0 ≤ℤ (a *ℤ b)

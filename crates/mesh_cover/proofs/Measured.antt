@@ -11,7 +11,7 @@ use mir.Val.{hbits}
 use Rattle.geo_sign.specs.Point.{Point}
 use Rattle.geo_sign.specs.declared.point.TheConstants.{BOX_LIMIT}
 use Rattle.geo_sign.proofs.Bounds.{kept, Held, held_kept}
-use Rattle.triangle_gap.specs.Shared.{weighted_sum}
+use Rattle.triangles.specs.Shared.{weighted_sum}
 use Rattle.mesh_cover.specs.Parts.{IsNearBy}
 
 -- a coordinate that is passed on

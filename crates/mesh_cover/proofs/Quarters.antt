@@ -12,7 +12,7 @@ use Rattle.geo_sign.proofs.Bounds.{same_place}
 use Rattle.geo_sign.proofs.Ring.{ring}
 use Rattle.mesh.specs.Meshes.{point_at, IsFace}
 use Rattle.mesh_edges.specs.Edges.{face_at}
-use Rattle.triangle_gap.specs.Shared.{weighted_sum, weighted}
+use Rattle.triangles.specs.Shared.{weighted_sum, weighted}
 use Rattle.mesh_cover.specs.Covers.{times, IsMeanNear, IsNearFaceOf, IsPlaceCovered, IsTriangleCovered, IsFaceCovered}
 use Rattle.mesh_cover.specs.Parts.{plus, IsCornerNear}
 use Rattle.mesh_cover.proofs.Convex.{square_times, mixed, mean_near}

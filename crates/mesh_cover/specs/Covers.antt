@@ -15,7 +15,7 @@ use Rattle.std.specs.Prelude.{ℕ, ◌<◌, ◌+◌, ◌*◌, pos, ◌*ℤ◌, �
 use Rattle.geo_sign.specs.Point.{Point, point, step, square}
 use Rattle.mesh.specs.Meshes.{point_at}
 use Rattle.mesh_edges.specs.Edges.{face_at}
-use Rattle.triangle_gap.specs.Shared.{weighted}
+use Rattle.triangles.specs.Shared.{weighted}
 
 -- a point times a number
 abbrev pub times : ℕ → Point → Point

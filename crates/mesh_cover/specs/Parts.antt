@@ -6,7 +6,7 @@
 use Rattle.std.specs.Prelude.{ℕ, ◌≡◌, ◌+◌, ◌*◌, ◌^◌, pos, ◌+ℤ◌, ◌≤ℤ◌, List, [], ◌∷◌}
 use Rattle.geo_sign.specs.Point.{Point, point, step, square}
 use Rattle.mesh.specs.Meshes.{point_at}
-use Rattle.triangle_gap.specs.Shared.{weighted}
+use Rattle.triangles.specs.Shared.{weighted}
 use Rattle.mesh_cover.specs.Covers.{times}
 
 -- the sum of two points

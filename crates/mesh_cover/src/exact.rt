@@ -5,7 +5,7 @@ ghost use Rattle.std.specs.Bool.{OnTrue};
 ghost use Rattle.geo_sign.specs.Point.{IsWithin};
 ghost use Rattle.geo_sign.specs.declared.point.TheConstants.{BOX_LIMIT};
 ghost use Rattle.mesh.specs.Meshes.{point_at};
-ghost use Rattle.triangle_gap.specs.Shared.{weighted_sum};
+ghost use Rattle.triangles.specs.Shared.{weighted_sum};
 ghost use Rattle.mesh_cover.specs.Parts.{IsNearBy, IsCornerNear};
 
 use crate::place::Place;

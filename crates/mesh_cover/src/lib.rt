@@ -7,7 +7,7 @@
 //! the middles of its sides, and so on. Floating point proposes the face and its nearest points; the last test is exact. `None` is a proof.
 //! That a face that is returned has a far point is not promised: the parts may be too large still, or two faces may share one part.
 //!
-//! It depends on `face_near` (nearest points of a face), `hull_tree` and `mesh_flips` (boxes of faces)
+//! It depends on `face_near` (nearest points of a face), `triangles` and `mesh_flips` (boxes of faces)
 //! and `mesh` (meshes).
 #![tactic(auto)]
 

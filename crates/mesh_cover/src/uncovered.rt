@@ -11,10 +11,10 @@ use crate::near::{corners_of, is_part_near};
 use crate::part::Part;
 use crate::place::Place;
 use geo_sign::Point;
-use hull_tree::{Hull, Span};
 use mesh::Mesh;
 use mesh_flips::{FaceOrder, faces_in_order, hull_of};
 use std::alloc::Global;
+use triangles::{Hull, Span};
 
 /// How often parts are cut in four.
 const DEPTH: u32 = 8;

@@ -3,7 +3,7 @@ use Rattle.std.proofs.Common.{ℕ, ◌≤◌, inl, inr, subst, arith, List, leng
 use Rattle.std.specs.List.{All, Contains}
 use Rattle.std.proofs.lemmas.List.Elements.{All-contains_itself}
 use Rattle.geo_sign.specs.Point.{Point}
-use Rattle.mesh_edges.specs.declared.pair.Pair.{Pair}
+use Rattle.mesh_edges.specs.declared.pairs.Pair.{Pair}
 use Rattle.mesh_crossings.specs.Crossings.{AreCrossing, AreCrossingPairs, AreOrdered}
 use Rattle.mesh_crossings.specs.Tested.{ArePairsKnown}
 use Rattle.mesh_crossings.proofs.Tidied.{AreDivided}

@@ -5,12 +5,12 @@ use Rattle.std.proofs.lemmas.Bool.{cases_lt}
 use Rattle.std.proofs.lemmas.List.{get_or-map, get_or_default, length-map}
 use Rattle.geo_sign.specs.Point.{Point}
 use Rattle.mesh_edges.specs.Edges.{face_at}
-use Rattle.mesh_edges.specs.declared.pair.Pair.{Pair}
-use Rattle.hull_tree.specs.Hulls.{AreOff}
-use Rattle.hull_tree.specs.Trees.{IsInserted}
-use Rattle.hull_tree.specs.declared.hull.Hull.{Hull}
-use Rattle.hull_tree.specs.declared.tree.HullTree.{HullTree}
-use Rattle.triangle_gap.specs.Gaps.{AreFacesApart}
+use Rattle.mesh_edges.specs.declared.pairs.Pair.{Pair}
+use Rattle.triangles.specs.Hulls.{AreOff}
+use Rattle.triangles.specs.Trees.{IsInserted}
+use Rattle.triangles.specs.declared.hull.Hull.{Hull}
+use Rattle.triangles.specs.declared.tree.HullTree.{HullTree}
+use Rattle.triangles.specs.Gaps.{AreFacesApart}
 use Rattle.mesh_flips.specs.Fields.{HoldsFace, IsTreeOf}
 use Rattle.mesh_flips.specs.Orders.{Covers}
 use Rattle.mesh_flips.proofs.Off.{apart_back, off_apart}

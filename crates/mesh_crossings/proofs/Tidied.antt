@@ -7,7 +7,7 @@ use Rattle.std.proofs.lemmas.List.{get_or_default}
 use Rattle.std.proofs.lemmas.List.Elements.{All-contains, All-contains_itself}
 use Rattle.std.proofs.lemmas.List.Sorted.{Contains-permutation, IsPermutation-sym}
 use Rattle.mesh_edges.specs.Pairs.{key_of_pair}
-use Rattle.mesh_edges.specs.declared.pair.Pair.{Pair}
+use Rattle.mesh_edges.specs.declared.pairs.Pair.{Pair}
 use Rattle.mesh_edges.proofs.FaceEdges.{key_parts}
 use Rattle.mesh_crossings.specs.Crossings.{AreDisjoint, IsRising}
 use Rattle.mesh_crossings.specs.Tested.{AreSamePairs, IsOneMore, KeepsPairs}

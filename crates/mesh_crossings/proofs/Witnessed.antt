@@ -5,8 +5,8 @@ use mir.Syntax.{w32, w128}
 use Rattle.geo_sign.proofs.Bounds.{kept}
 use Rattle.geo_sign.specs.Point.{Point, point}
 use Rattle.mesh.specs.Meshes.{point_at}
-use Rattle.triangle_gap.specs.Gaps.{AreFacesApart, IsCommon}
-use Rattle.triangle_gap.specs.Shared.{weighted, weighted_sum}
+use Rattle.triangles.specs.Gaps.{AreFacesApart, IsCommon}
+use Rattle.triangles.specs.Shared.{weighted, weighted_sum}
 use Rattle.mesh_crossings.specs.Tested.{IsCornersOf}
 use Rattle.mesh_crossings.specs.declared.witness.Corners.{Corners}
 

@@ -3,7 +3,7 @@
 --   CountsCrossings points faces c   c has the numbers of pairs that cross and of undecided ones, and the first pair that crosses
 use Rattle.std.specs.Prelude.{ℕ, ◌≡◌, List, length, slice_get}
 use Rattle.geo_sign.specs.Point.{Point}
-use Rattle.mesh_edges.specs.declared.pair.Pair.{Pair}
+use Rattle.mesh_edges.specs.declared.pairs.Pair.{Pair}
 use Rattle.mesh_crossings.specs.Crossings.{AreCrossingPairs}
 use Rattle.mesh_crossings.specs.declared.counts.CrossingCounts.{CrossingCounts}
 

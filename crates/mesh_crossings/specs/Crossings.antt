@@ -10,8 +10,8 @@ use Rattle.std.specs.Prelude.{ℕ, ◌<◌, ◌⊎◌, List, length, All, AllPai
 use Rattle.geo_sign.specs.Point.{Point}
 use Rattle.mesh_edges.specs.Edges.{face_at}
 use Rattle.mesh_edges.specs.Pairs.{key_of_pair}
-use Rattle.mesh_edges.specs.declared.pair.Pair.{Pair}
-use Rattle.triangle_gap.specs.Gaps.{AreFacesApart}
+use Rattle.mesh_edges.specs.declared.pairs.Pair.{Pair}
+use Rattle.triangles.specs.Gaps.{AreFacesApart}
 
 -- two faces, the smaller number first
 abbrev pub AreOrdered : List (List ℕ) → Pair → Type 0

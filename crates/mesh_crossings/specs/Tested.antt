@@ -15,8 +15,8 @@ use Rattle.std.specs.Prelude.{ℕ, ◌≡◌, ◌<◌, ◌≤◌, ◌^◌, ◌�
 use Rattle.geo_sign.specs.Point.{Point}
 use Rattle.mesh.specs.Meshes.{point_at}
 use Rattle.mesh_edges.specs.Edges.{face_at}
-use Rattle.mesh_edges.specs.declared.pair.Pair.{Pair}
-use Rattle.triangle_gap.specs.Gaps.{AreFacesApart}
+use Rattle.mesh_edges.specs.declared.pairs.Pair.{Pair}
+use Rattle.triangles.specs.Gaps.{AreFacesApart}
 use Rattle.mesh_crossings.specs.Crossings.{IsListedPair}
 use Rattle.mesh_crossings.specs.declared.witness.Corners.{Corners}
 use Rattle.mesh_crossings.specs.declared.witness.Weights.{Weights}

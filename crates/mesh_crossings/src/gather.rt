@@ -3,7 +3,7 @@
 ghost use Rattle.std.specs.Prelude.{◌<◌, ℕ, All, Contains, IfOk, OnOk, length};
 ghost use Rattle.std.specs.Bool.{OnTrue};
 ghost use Rattle.mesh.specs.Meshes.{IsMesh};
-ghost use Rattle.triangle_gap.specs.Gaps.{AreFacesApart};
+ghost use Rattle.triangles.specs.Gaps.{AreFacesApart};
 ghost use Rattle.mesh_flips.specs.Turns.{IsTriangle};
 ghost use Rattle.mesh_flips.specs.Orders.{AreInOrder};
 ghost use Rattle.mesh_crossings.specs.Crossings.{AreCrossingPairs, AreOrdered};
@@ -13,12 +13,11 @@ use crate::NoMemory;
 use crate::judge::{Crossings, judged};
 use crate::tidy::tidied;
 use geo_sign::Point;
-use hull_tree::HullTree;
 use mesh::Mesh;
 use mesh_edges::Pair;
 use mesh_flips::{FaceOrder, faces_in_order, hull_of};
 use std::alloc::Global;
-use triangle_gap::are_apart;
+use triangles::{HullTree, are_apart};
 
 /// Returns whether the boxes of two faces are disjoint.
 fn are_off(points: &[Point], one: [u32; 3], other: [u32; 3]) -> bool

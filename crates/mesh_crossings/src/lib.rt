@@ -4,12 +4,12 @@
 //! `count_crossings` counts them.
 //!
 //! [`find_crossings`] tests each pair of faces whose boxes overlap, and [`count_crossings`] counts what it finds. That two faces are apart
-//! is shown by planes (`triangle_gap`). That they cross is shown by whole weights of their corners that give one point of both: weights
+//! is shown by planes (`triangles`). That they cross is shown by whole weights of their corners that give one point of both: weights
 //! are proposed by volumes and areas, without a contract, and verified. A pair for which neither is shown is undecided, and no pair is
 //! listed as both. So the answer is exact but for the pairs that it lists as undecided.
 //!
-//! It depends on `triangle_gap` (faces that are apart), `mesh_flips` (boxes of faces), `hull_tree` (boxes near a box) and `mesh_edges`
-//! (pairs of numbers).
+//! It depends on `triangles` (faces that are apart, boxes near a box), `mesh_flips` (boxes of faces) and `mesh_edges` (pairs of
+//! numbers).
 #![tactic(auto)]
 
 mod counts;

@@ -3,8 +3,8 @@
 ghost use Rattle.std.specs.Prelude.{◌≡◌, ◌<◌, ◌≤◌, ◌^◌, ◌*ℤ◌, All, false, length, pos, unsigned_abs};
 ghost use Rattle.std.specs.Bool.{OnTrue};
 ghost use Rattle.mesh.specs.Meshes.{is_vertex_of, point_at};
-ghost use Rattle.triangle_gap.specs.Gaps.{AreFacesApart, IsCommon};
-ghost use Rattle.triangle_gap.specs.Shared.{weighted, weighted_sum};
+ghost use Rattle.triangles.specs.Gaps.{AreFacesApart, IsCommon};
+ghost use Rattle.triangles.specs.Shared.{weighted, weighted_sum};
 ghost use Rattle.mesh_crossings.specs.Tested.{AreSmallWeights, IsCornersOf};
 
 use geo_sign::Point;

@@ -3,7 +3,7 @@ use Rattle.std.proofs.Common.{ℕ, ◌≡◌, ◌<◌, ◌≤◌, ap, sym, ◌�
 use Rattle.std.specs.List.Sorted.{IsNonDecreasingBy}
 use Rattle.std.proofs.lemmas.List.{get_or_default, take_all}
 use Rattle.mesh_edges.specs.Pairs.{key_of_pair, key_count, AreRising, IsFirstUnequalPair}
-use Rattle.mesh_edges.specs.declared.pair.Pair.{Pair}
+use Rattle.mesh_edges.specs.declared.pairs.Pair.{Pair}
 use Rattle.mesh_edges.proofs.Counts.{differ_at, hits_same}
 
 abbrev pub no_pair : Pair

@@ -10,7 +10,7 @@ use Rattle.std.proofs.lemmas.List.Sums.{sum_by-cons, sum_by_more, count_by-le-le
 use Rattle.mesh.specs.Meshes.{IsFace}
 use Rattle.mesh_edges.specs.Edges.{has_edge, faces_with_edge, ComesFirst, IsBalanced, IsFirstUnbalanced}
 use Rattle.mesh_edges.specs.Pairs.{key_of, key_of_pair, key_count, HasGained, IsPairOf, IsFirstUnequalPair}
-use Rattle.mesh_edges.specs.declared.pair.Pair.{Pair}
+use Rattle.mesh_edges.specs.declared.pairs.Pair.{Pair}
 use Rattle.mesh_edges.proofs.Counts.{one_if}
 use Rattle.mesh_edges.proofs.FaceEdges.{edge_within, face_among_more}
 

@@ -2,3 +2,13 @@ pub mod Counts
 pub mod Differences
 pub mod FaceEdges
 pub mod EdgeCounts
+pub mod Sums
+pub mod Paired
+pub mod Corners
+pub mod Walks
+pub mod Trails
+pub mod Labels
+pub mod Sides
+pub mod Tops
+pub mod Paths
+pub mod Things

@@ -1,2 +1,11 @@
 pub mod Edges
 pub mod Pairs
+pub mod HalfEdges
+pub mod Laws
+pub mod Pairing
+pub mod Umbrellas
+pub mod Walks
+pub mod Matching
+pub mod Sets
+pub mod Paths
+pub mod Things

@@ -11,7 +11,7 @@
 --   IsFirstUnequalPair there back p      p is the smallest pair that the two lists do not have equally often
 use Rattle.std.specs.Prelude.{ℕ, ◌≡◌, ◌≢◌, ◌+◌, ◌*◌, ◌<◌, ◌^◌, ◌==◌, Bool, List, count_by, All, if◌then◌else◌}
 use Rattle.mesh_edges.specs.Edges.{faces_with_edge}
-use Rattle.mesh_edges.specs.declared.pair.Pair.{Pair}
+use Rattle.mesh_edges.specs.declared.pairs.Pair.{Pair}
 
 -- above the number of each pair before
 abbrev pub key_of : (first second : ℕ) → ℕ

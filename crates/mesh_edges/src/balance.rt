@@ -10,7 +10,7 @@ ghost use Rattle.mesh.specs.Meshes.{IsFace, IsMesh};
 ghost use Rattle.mesh_edges.specs.Edges.{is_edge, has_edge, IsBalanced, IsFirstUnbalanced};
 ghost use Rattle.mesh_edges.specs.Pairs.{key_of_pair, key_count, HasGained, IsPairOf, AreRising, IsFirstUnequalPair};
 
-use crate::pair::{Pair, sort_pairs};
+use crate::pairs::{Pair, sort_pairs};
 use crate::{Mesh, NoMemory};
 use std::alloc::Global;
 

@@ -4,8 +4,8 @@ use Rattle.std.specs.List.{All}
 use Rattle.geo_sign.specs.Point.{Point}
 use Rattle.mesh_edges.specs.Edges.{IsBalanced}
 use Rattle.mesh_flips.specs.Turns.{IsTriangle}
-use Rattle.mesh_split.specs.Splits.{AreSingle}
-use Rattle.mesh_split.proofs.Edges.{two_faces}
+use Rattle.mesh_pieces.specs.Splits.{AreSingle}
+use Rattle.mesh_pieces.proofs.Edges.{two_faces}
 use Rattle.mesh_finish.specs.Steps.{ArePiecesIf, IsSplitIf, AreFlippedIf, IsSmoothedIf, AreMade}
 use Rattle.finish_options.specs.declared.options.FinishOptions.{FinishOptions}
 use Rattle.finish_options.specs.declared.options.SmoothOptions.{SmoothOptions}

@@ -15,7 +15,7 @@ use Rattle.mesh_flips.specs.Turns.{IsTriangle, IsCycled}
 use Rattle.mesh_flips.specs.Flips.{AreFlips, KeepsSingle}
 use Rattle.mesh_flips.proofs.Kept.{flips_excess, flips_triangles}
 use Rattle.mesh_flips.proofs.Sides.{sides, turned_sides}
-use Rattle.mesh_split.specs.Splits.{AreSingle}
+use Rattle.mesh_pieces.specs.Splits.{AreSingle}
 use Rattle.mesh_finish.specs.Finished.{AreTurned, AreSmoothed}
 
 -- a face of a mesh is a triangle

@@ -14,7 +14,7 @@ use Rattle.std.specs.Prelude.{ℕ, ◌≡◌, ◌<◌, length, Bool, true, false
 use Rattle.geo_sign.specs.Point.{Point}
 use Rattle.mesh_edges.specs.Edges.{IsBalanced, IsFirstUnbalanced}
 use Rattle.mesh_pieces.specs.Pieces.{ArePieces}
-use Rattle.mesh_split.specs.Splits.{IsSplit, HasTwoFaces}
+use Rattle.mesh_pieces.specs.Splits.{IsSplit, HasTwoFaces}
 use Rattle.mesh_measures.specs.Manifolds.{IsManifoldVertex}
 use Rattle.mesh_finish.specs.Finished.{IsFinished, AreSmoothed}
 use Rattle.mesh_finish.specs.declared.options.FinishError.{FinishError}

@@ -9,8 +9,8 @@
 //! apart. The finished mesh is closed, and if vertices were split the faces around each vertex are one cycle, which is tested at the
 //! end. Which pieces are the largest, which edges are flipped and how smooth the mesh is is not promised.
 //!
-//! It depends on `half_edges` (twins), `mesh_pieces`, `mesh_split`, `mesh_flips`, `mesh_smooth`, `mesh_measures` (cycles around
-//! vertices), `mesh_provenance` (options) and `mesh_ply` (meshes).
+//! It depends on `mesh_edges` (twins), `mesh_pieces` (pieces, split vertices), `mesh_flips`, `mesh_smooth`, `mesh_measures`
+//! (cycles around vertices), `mesh_provenance` (options) and `mesh_ply` (meshes).
 #![tactic(auto)]
 
 mod options;

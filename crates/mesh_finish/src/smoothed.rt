@@ -11,8 +11,8 @@ use crate::NoMemory;
 use crate::turned::turned_faces;
 use finish_options::{FinishOptions, SmoothOptions};
 use geo_sign::Point;
-use half_edges::find_twins;
 use mesh::Mesh;
+use mesh_edges::find_twins;
 use mesh_smooth::{MoveHints, Smoothing, smooth_mesh};
 use std::alloc::Global;
 

@@ -6,17 +6,16 @@ ghost use Rattle.mesh_edges.specs.Edges.{IsBalanced};
 ghost use Rattle.finish_options.specs.declared.options.FinishOptions.{FinishOptions};
 ghost use Rattle.geo_sign.specs.declared.point.TheConstants.{BOX_LIMIT};
 ghost use Rattle.mesh.specs.Meshes.{IsMesh};
-ghost use Rattle.half_edges.specs.HalfEdges.{ArePaired};
+ghost use Rattle.mesh_edges.specs.HalfEdges.{ArePaired};
 ghost use Rattle.mesh_pieces.specs.Pieces.{ArePieces};
-ghost use Rattle.mesh_split.specs.Splits.{IsSplit};
+ghost use Rattle.mesh_pieces.specs.Splits.{IsSplit};
 ghost use Rattle.mesh_finish.specs.Steps.{ArePiecesIf, IsSplitIf, ExplainsFinish};
 
 use crate::NoMemory;
 use crate::options::{FinishError, Step};
-use half_edges::{PairingError, pair};
 use mesh::Mesh;
-use mesh_pieces::{PairedMesh, PiecesError, keep_pieces};
-use mesh_split::split_mesh;
+use mesh_edges::{PairingError, pair};
+use mesh_pieces::{PairedMesh, PiecesError, keep_pieces, split_mesh};
 use std::alloc::Global;
 
 /// Returns the twin of each half edge of a closed mesh.

@@ -6,7 +6,7 @@ ghost use Rattle.geo_sign.specs.Point.{IsWithin};
 ghost use Rattle.geo_sign.specs.declared.point.TheConstants.{BOX_LIMIT};
 ghost use Rattle.mesh.specs.Meshes.{IsMesh};
 ghost use Rattle.mesh_edges.specs.Edges.{IsBalanced};
-ghost use Rattle.mesh_split.specs.Splits.{AreSingle};
+ghost use Rattle.mesh_pieces.specs.Splits.{AreSingle};
 ghost use Rattle.mesh_finish.specs.Finished.{IsFinished};
 ghost use Rattle.mesh_finish.specs.Steps.{AreFlippedIf, AreMade, AreUmbrellas, AreFinished, ExplainsFinish};
 
@@ -19,8 +19,8 @@ use crate::turned::turned_faces;
 use crate::umbrellas::are_umbrellas;
 use finish_options::FinishOptions;
 use geo_sign::Point;
-use half_edges::find_twins;
 use mesh::Mesh;
+use mesh_edges::find_twins;
 use mesh_flips::{FlipOrder, flip_edges};
 use std::alloc::Global;
 

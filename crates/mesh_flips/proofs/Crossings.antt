@@ -7,10 +7,10 @@ use Rattle.std.proofs.Math.ListN.{length-set}
 use Rattle.std.proofs.lemmas.Bool.{cases_lt}
 use Rattle.geo_sign.specs.Point.{Point}
 use Rattle.mesh_edges.specs.Edges.{face_at}
-use Rattle.hull_tree.specs.Trees.{IsInserted}
-use Rattle.hull_tree.specs.declared.hull.Hull.{Hull}
-use Rattle.hull_tree.specs.declared.tree.HullTree.{HullTree}
-use Rattle.triangle_gap.specs.Gaps.{AreFacesApart}
+use Rattle.triangles.specs.Trees.{IsInserted}
+use Rattle.triangles.specs.declared.hull.Hull.{Hull}
+use Rattle.triangles.specs.declared.tree.HullTree.{HullTree}
+use Rattle.triangles.specs.Gaps.{AreFacesApart}
 use Rattle.mesh_flips.specs.Quads.{IsQuad, flipped}
 use Rattle.mesh_flips.specs.Flips.{KeepsApart}
 use Rattle.mesh_flips.specs.Clear.{IsFree}

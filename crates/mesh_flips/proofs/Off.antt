@@ -6,11 +6,11 @@ use Rattle.std.proofs.lemmas.Int.{ints}
 use Rattle.geo_sign.specs.Point.{Point}
 use Rattle.std.proofs.lemmas.Bool.{or_cases, eqb-true, false≢true}
 use Rattle.mesh.specs.Meshes.{point_at, is_vertex_of}
-use Rattle.hull_tree.specs.Hulls.{HoldsPoint, AreOff}
-use Rattle.hull_tree.specs.declared.hull.Hull.{Hull}
-use Rattle.triangle_gap.specs.Shared.{weighted_sum, weighted}
-use Rattle.triangle_gap.specs.Gaps.{AreFacesApart}
-use Rattle.triangle_gap.proofs.Separations.{weights_gone, Gone}
+use Rattle.triangles.specs.Hulls.{HoldsPoint, AreOff}
+use Rattle.triangles.specs.declared.hull.Hull.{Hull}
+use Rattle.triangles.specs.Shared.{weighted_sum, weighted}
+use Rattle.triangles.specs.Gaps.{AreFacesApart}
+use Rattle.triangles.proofs.Separations.{weights_gone, Gone}
 use Rattle.mesh_flips.specs.Turns.{IsTriangle}
 use Rattle.mesh_flips.specs.Clear.{IsClear}
 use Rattle.mesh_flips.specs.Fields.{HoldsFace, HoldsQuad}

@@ -2,9 +2,9 @@
 use Rattle.std.proofs.Common.{ℕ, ◌≡◌, ◌+◌, ◌<◌, refl, sym, subst, arith, inl, inr, List, [], ◌∷◌, length}
 use Rattle.std.specs.List.{All}
 use Rattle.geo_sign.specs.Point.{Point}
-use Rattle.hull_tree.specs.Trees.{IsInserted}
-use Rattle.hull_tree.specs.declared.hull.Hull.{Hull}
-use Rattle.hull_tree.specs.declared.tree.HullTree.{HullTree}
+use Rattle.triangles.specs.Trees.{IsInserted}
+use Rattle.triangles.specs.declared.hull.Hull.{Hull}
+use Rattle.triangles.specs.declared.tree.HullTree.{HullTree}
 use Rattle.mesh_flips.specs.Turns.{IsTriangle}
 use Rattle.mesh_flips.specs.Quads.{IsQuad, flipped}
 use Rattle.mesh_flips.specs.Flips.{IsFlipped}

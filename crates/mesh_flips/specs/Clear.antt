@@ -6,7 +6,7 @@ use Rattle.std.specs.Prelude.{ℕ, ◌≡◌, ◌≢◌, ◌<◌, true, List, []
 use Rattle.geo_sign.specs.Point.{Point}
 use Rattle.mesh.specs.Meshes.{is_vertex_of}
 use Rattle.mesh_edges.specs.Edges.{face_at}
-use Rattle.triangle_gap.specs.Gaps.{AreFacesApart}
+use Rattle.triangles.specs.Gaps.{AreFacesApart}
 use Rattle.mesh_flips.specs.declared.quad.Quad.{Quad}
 
 -- the face is apart from both, and has not both ends of the new edge

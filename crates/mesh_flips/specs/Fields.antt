@@ -11,10 +11,10 @@ use Rattle.std.specs.Prelude.{ℕ, ◌<◌, ◌≤◌, ◌*◌, List, [], ◌∷
 use Rattle.geo_sign.specs.Point.{Point}
 use Rattle.mesh.specs.Meshes.{point_at}
 use Rattle.mesh_edges.specs.Edges.{face_at}
-use Rattle.hull_tree.specs.Hulls.{HoldsPoint}
-use Rattle.hull_tree.specs.Trees.{IsInserted}
-use Rattle.hull_tree.specs.declared.hull.Hull.{Hull}
-use Rattle.hull_tree.specs.declared.tree.HullTree.{HullTree}
+use Rattle.triangles.specs.Hulls.{HoldsPoint}
+use Rattle.triangles.specs.Trees.{IsInserted}
+use Rattle.triangles.specs.declared.hull.Hull.{Hull}
+use Rattle.triangles.specs.declared.tree.HullTree.{HullTree}
 use Rattle.mesh_flips.specs.Turns.{IsTriangle}
 use Rattle.mesh_flips.specs.declared.quad.Quad.{Quad}
 use Rattle.mesh_flips.specs.declared.clear.QuadHulls.{QuadHulls}

@@ -8,7 +8,7 @@
 --   IsFlipped points old new   edges were flipped so that `KeepsApart` and `KeepsSingle` hold
 use Rattle.std.specs.Prelude.{ℕ, ◌≡◌, ◌≢◌, ◌+◌, ◌<◌, ◌≤◌, List, length}
 use Rattle.geo_sign.specs.Point.{Point}
-use Rattle.triangle_gap.specs.Gaps.{AreFacesApart}
+use Rattle.triangles.specs.Gaps.{AreFacesApart}
 use Rattle.mesh_edges.specs.Edges.{face_at, faces_with_edge}
 use Rattle.mesh_flips.specs.Quads.{IsQuad, flipped}
 use Rattle.mesh_flips.specs.declared.quad.Quad.{Quad}

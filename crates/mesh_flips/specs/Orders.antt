@@ -6,7 +6,7 @@
 --                         of each
 use Rattle.std.specs.Prelude.{ℕ, ◌≡◌, ◌<◌, List, length, map, All, Contains}
 use Rattle.geo_sign.specs.Point.{Point}
-use Rattle.hull_tree.specs.declared.tree.HullTree.{HullTree}
+use Rattle.triangles.specs.declared.tree.HullTree.{HullTree}
 use Rattle.mesh_edges.specs.Edges.{face_at}
 use Rattle.mesh_flips.specs.Fields.{IsReady}
 use Rattle.mesh_flips.specs.declared.order.Ranked.{Ranked}

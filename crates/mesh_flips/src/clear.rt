@@ -6,15 +6,14 @@ ghost use Rattle.mesh_flips.specs.Turns.{IsTriangle};
 ghost use Rattle.mesh_flips.specs.Quads.{HasCorners};
 ghost use Rattle.mesh_edges.specs.Edges.{face_at};
 ghost use Rattle.mesh_flips.specs.Clear.{IsClear, IsFree};
-ghost use Rattle.triangle_gap.specs.Gaps.{AreFacesApart};
+ghost use Rattle.triangles.specs.Gaps.{AreFacesApart};
 ghost use Rattle.mesh_flips.specs.Fields.{HoldsFace, AreHullsOf, IsTreeOf};
 ghost use Rattle.mesh.specs.Meshes.{is_vertex_of, point_at};
 
 use crate::NoMemory;
 use crate::quad::Quad;
 use geo_sign::Point;
-use hull_tree::{Hull, HullTree};
-use triangle_gap::are_apart;
+use triangles::{Hull, HullTree, are_apart};
 
 /// An edge that may be flipped: the numbers of its two faces, and their corners.
 #[derive(Clone, Copy)]

@@ -14,8 +14,8 @@ use crate::flips::flip;
 use crate::hints::{Aim, Hints, hints_of};
 use crate::quad::{Quad, quad_at};
 use geo_sign::Point;
-use hull_tree::HullTree;
 use std::alloc::Global;
+use triangles::HullTree;
 
 /// What flips lower, one after the other.
 #[derive(Clone, Copy, Debug, PartialEq, Eq)]

@@ -6,7 +6,7 @@
 //! others and the new edge is not there yet. So faces that were apart stay apart, and no directed edge occurs twice that did not. [`flip`]
 //! replaces two faces, and the theorems say what any number of flips keeps. [`faces_in_order`] sorts faces along a curve, for fast searches.
 //!
-//! It depends on `hull_tree` (faces near a box), `triangle_gap` (faces that are apart) and `mesh_edges` (edges of faces).
+//! It depends on `triangles` (faces near a box, faces that are apart) and `mesh_edges` (edges of faces).
 #![tactic(auto)]
 
 mod clear;

@@ -9,9 +9,9 @@ ghost use Rattle.mesh_flips.specs.Orders.{AreInOrder, Covers, face_number};
 use crate::NoMemory;
 use crate::driving::tree_of;
 use geo_sign::Point;
-use hull_tree::HullTree;
 use mesh::Mesh;
 use std::alloc::Global;
+use triangles::HullTree;
 
 /// The number of a face and its sort key.
 #[derive(Clone, Copy, Debug, PartialEq, Eq)]

@@ -20,9 +20,8 @@ use crate::slots::places_of;
 use crate::twins::twins_of;
 use crate::{Mesh, NoMemory};
 use geo_sign::Point;
-use half_edges::{are_twins, paired_meshes_are_closed};
 use mesh::mesh_of_facets;
-use mesh_edges::{UnbalancedEdge, first_unbalanced};
+use mesh_edges::{UnbalancedEdge, are_twins, first_unbalanced, paired_meshes_are_closed};
 use std::alloc::Global;
 
 /// A joined mesh.

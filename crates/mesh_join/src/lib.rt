@@ -9,7 +9,7 @@
 //! (`search`), nor does what fills the rest (`fill`): that the faces are those of the owners, and that the mesh is closed, is verified
 //! of the result.
 //!
-//! Vertices of tiles that stand at one place are one vertex of the joined mesh. The crate depends on `half_edges`, whose twins show that
+//! Vertices of tiles that stand at one place are one vertex of the joined mesh. The crate depends on `mesh_edges`, whose twins show that
 //! the mesh is closed.
 #![tactic(auto)]
 

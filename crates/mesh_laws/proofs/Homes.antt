@@ -8,10 +8,10 @@ use Rattle.std.proofs.lemmas.Int.{ints}
 use Rattle.std.proofs.lemmas.List.{get_or-map, length-map}
 use Rattle.geo_sign.specs.Point.{Point, origin, step, square}
 use Rattle.mesh.specs.Meshes.{point_at}
-use Rattle.mesh_copies.specs.Copies.{IsCopy}
+use Rattle.mesh_pieces.specs.Copies.{IsCopy}
 use Rattle.mesh_pieces.specs.Pieces.{kept_faces}
 use Rattle.mesh_smooth.specs.Smoothed.{magnified}
-use Rattle.mesh_within.specs.Far.{AreAllNear, IsNearHome}
+use Rattle.mesh_check.specs.Homes.{AreAllNear, IsNearHome}
 use Rattle.finish_options.specs.declared.options.FinishOptions.{FinishOptions}
 use Rattle.finish_options.specs.declared.options.SmoothOptions.{SmoothOptions}
 use Rattle.mesh_finish.specs.Steps.{AreMade, ArePiecesIf, IsSplitIf, IsSmoothedIf}

@@ -3,9 +3,9 @@ use Rattle.std.proofs.Common.{ℕ, ◌≡◌, ◌∙◌, refl, sym, ap, arith, i
 use Rattle.std.proofs.lemmas.Bool.{cases_lt}
 use Rattle.geo_sign.specs.Point.{Point}
 use Rattle.mesh.specs.Meshes.{Surface}
-use Rattle.counting.specs.Sets.{AreSoMany}
+use Rattle.mesh_edges.specs.Things.{AreSoMany}
 use Rattle.mesh_edges.specs.Edges.{IsBalanced, IsFirstUnbalanced, faces_with_edge}
-use Rattle.mesh_split.specs.Splits.{HasTwoFaces}
+use Rattle.mesh_pieces.specs.Splits.{HasTwoFaces}
 use Rattle.mesh_measures.specs.Manifolds.{IsNonManifoldPair}
 use Rattle.mesh_check.specs.Verdicts.{KeepsDemands, IsFirstFault, IsJudgment}
 use Rattle.mesh_check.specs.declared.verdict.Demands.{Demands}

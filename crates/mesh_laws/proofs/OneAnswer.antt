@@ -11,10 +11,10 @@ use Rattle.geo_sign.specs.Point.{Point}
 use Rattle.host.specs.State.{Files}
 use Rattle.sha2.specs.Sha256.{sha256}
 use Rattle.mesh.specs.Meshes.{Surface}
-use Rattle.counting.specs.Sets.{AreSoMany}
+use Rattle.mesh_edges.specs.Things.{AreSoMany}
 use Rattle.mesh_edges.specs.Edges.{IsBalanced, IsFirstUnbalanced, ComesFirst}
 use Rattle.mesh_edges.specs.declared.balance.UnbalancedEdge.{UnbalancedEdge}
-use Rattle.mesh_within.specs.Far.{IsFirstFar}
+use Rattle.mesh_check.specs.Homes.{IsFirstFar}
 use Rattle.mesh_check.specs.Verdicts.{IsFirstFault, IsJudgment, HasNonManifold, HasFarVertex}
 use Rattle.mesh_check.specs.declared.verdict.Demands.{Demands}
 use Rattle.mesh_check.specs.declared.verdict.Fault.{Fault}

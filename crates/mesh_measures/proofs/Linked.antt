@@ -4,19 +4,19 @@ use Rattle.std.proofs.lemmas.Bool.{cases_lt}
 use Rattle.std.proofs.lemmas.List.{get_or-map}
 use Rattle.mesh_edges.specs.Pairs.{key_of}
 use Rattle.mesh_edges.proofs.FaceEdges.{key_parts}
-use Rattle.half_edges.specs.HalfEdges.{start}
-use Rattle.disjoint_sets.specs.Sets.{AreTogether, IsForest}
-use Rattle.disjoint_sets.proofs.Tops.{together_self}
-use Rattle.disjoint_sets.specs.Paths.{ArePath}
+use Rattle.mesh_edges.specs.HalfEdges.{start}
+use Rattle.mesh_edges.specs.Sets.{AreTogether, IsForest}
+use Rattle.mesh_edges.proofs.Tops.{together_self}
+use Rattle.mesh_edges.specs.Paths.{ArePath}
 use Rattle.mesh_measures.specs.Corners.{AreNeighbors, AreOfOneFace}
-use Rattle.disjoint_sets.specs.Paths.ArePath.{none}
+use Rattle.mesh_edges.specs.Paths.ArePath.{none}
 use Rattle.mesh_measures.specs.Merges.{AreCornerSets, AreConnectedBy, AreOfOneEdge, ArePieceSets, IsMergedBy, part_at, part_of}
 use Rattle.mesh_measures.specs.Pieces.{AreAdjacent}
 use Rattle.mesh_measures.specs.Sides.{AreSides, IsSide, face_side, key_at, side_key}
 use Rattle.mesh_measures.specs.declared.merges.Part.{Part}
 use Rattle.mesh_measures.specs.declared.merges.Part.TheVariants.{Face, Low, High}
 use Rattle.mesh_measures.specs.declared.sides.Side.{Side}
-use Rattle.disjoint_sets.proofs.Paths.{one_link, path_by, path_together}
+use Rattle.mesh_edges.proofs.Paths.{one_link, path_by, path_together}
 use Rattle.mesh_measures.proofs.Runs.{blank, key_is}
 
 pub part_is : (part : Part) (sides : List Side) (i : ℕ) (d : Side) → i < length sides

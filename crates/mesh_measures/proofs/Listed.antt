@@ -17,7 +17,7 @@ use Rattle.mesh_edges.specs.Edges.{face_at, is_edge, has_edge}
 use Rattle.mesh_edges.specs.Pairs.{key_of}
 use Rattle.mesh_edges.proofs.Counts.{one_if, hits, hits-cons}
 use Rattle.mesh_edges.proofs.EdgeCounts.{edge_count_more}
-use Rattle.half_edges.specs.HalfEdges.{start}
+use Rattle.mesh_edges.specs.HalfEdges.{start}
 use Rattle.mesh_measures.specs.Corners.{AreOfOneFace}
 use Rattle.mesh_measures.specs.Manifolds.{faces_at_edge}
 use Rattle.mesh_measures.specs.Sides.{AreSides, IsSide, face_side, side_key, side_between, sides_of_face}

@@ -4,8 +4,8 @@ use Rattle.std.proofs.Common.{set, get_or-set_same, get_or-set_other}
 use Rattle.std.proofs.Math.ListN.{length-set}
 use Rattle.std.specs.List.{All}
 use Rattle.std.proofs.lemmas.Bool.{cases_lt, cases_eq, false≢true}
-use Rattle.half_edges.specs.HalfEdges.{start}
-use Rattle.disjoint_sets.specs.Sets.{IsFirstOfSet}
+use Rattle.mesh_edges.specs.HalfEdges.{start}
+use Rattle.mesh_edges.specs.Sets.{IsFirstOfSet}
 use Rattle.mesh_measures.specs.Marks.{HasCorner, HasSecond, IsEndOfOdd, IsFlagged}
 use Rattle.mesh_measures.specs.Merges.{part_at}
 use Rattle.mesh_measures.specs.Sides.{IsOddSide}

@@ -4,14 +4,14 @@
 -- with one edge are neighbors one after another, so their parts are together in the end (all_merged).
 use Rattle.std.proofs.Common.{ℕ, zero, suc, ◌≡◌, ◌≢◌, ◌+◌, ◌-◌, ◌<◌, ◌≤◌, ◌⊎◌, inl, inr, refl, ap, sym, ◌∙◌, subst, arith, List, length}
 use Rattle.std.proofs.lemmas.Bool.{cases_lt, cases_eq}
-use Rattle.disjoint_sets.specs.Sets.{AreTogether, IsForest, IsMerge}
-use Rattle.disjoint_sets.proofs.Tops.{together_self, together_turned, together_on}
-use Rattle.disjoint_sets.specs.Paths.{ArePath}
+use Rattle.mesh_edges.specs.Sets.{AreTogether, IsForest, IsMerge}
+use Rattle.mesh_edges.proofs.Tops.{together_self, together_turned, together_on}
+use Rattle.mesh_edges.specs.Paths.{ArePath}
 use Rattle.mesh_measures.specs.Merges.{AreConnectedBy, IsMergedBy, part_at}
 use Rattle.mesh_measures.specs.Sides.{key_at}
 use Rattle.mesh_measures.specs.declared.merges.Part.{Part}
 use Rattle.mesh_measures.specs.declared.sides.Side.{Side}
-use Rattle.disjoint_sets.proofs.Paths.{path_on, one_link}
+use Rattle.mesh_edges.proofs.Paths.{path_on, one_link}
 
 -- after the first i sides
 pub record IsMergedTo (part : Part) (sides : List Side) (old new : List ℕ) (i : ℕ) : Type 0 where

@@ -4,7 +4,7 @@ use Rattle.std.specs.List.{All}
 use Rattle.std.proofs.lemmas.Bool.{cases_lt}
 use Rattle.mesh.specs.Meshes.{IsFace}
 use Rattle.mesh_edges.specs.Edges.{face_at}
-use Rattle.half_edges.specs.HalfEdges.{start}
+use Rattle.mesh_edges.specs.HalfEdges.{start}
 
 -- a corner is the first, the second or the third of its face
 pub corner_cases : (c : ℕ) → (c ≡ 3 * (c / 3)) ⊎ ((c ≡ 3 * (c / 3) + 1) ⊎ (c ≡ 3 * (c / 3) + 2))

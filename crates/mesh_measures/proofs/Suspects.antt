@@ -11,14 +11,14 @@ use Rattle.mesh_edges.specs.Pairs.{key_of}
 use Rattle.mesh_edges.proofs.Counts.{hits}
 use Rattle.mesh_edges.proofs.EdgeCounts.{edge_count_past}
 use Rattle.mesh_edges.proofs.FaceEdges.{key_parts}
-use Rattle.half_edges.specs.HalfEdges.{start}
-use Rattle.counting.specs.Sets.{AreSoMany}
-use Rattle.counting.proofs.Sets.{images, same_things}
-use Rattle.disjoint_sets.specs.Sets.{AreTogether, IsForest}
-use Rattle.disjoint_sets.proofs.Tops.{first_own, not_first, together_on, together_self, together_turned}
-use Rattle.disjoint_sets.specs.Paths.{ArePath}
+use Rattle.mesh_edges.specs.HalfEdges.{start}
+use Rattle.mesh_edges.specs.Things.{AreSoMany}
+use Rattle.mesh_edges.proofs.Things.{images, same_things}
+use Rattle.mesh_edges.specs.Sets.{AreTogether, IsForest}
+use Rattle.mesh_edges.proofs.Tops.{first_own, not_first, together_on, together_self, together_turned}
+use Rattle.mesh_edges.specs.Paths.{ArePath}
 use Rattle.mesh_measures.specs.Corners.{AreNeighbors}
-use Rattle.disjoint_sets.specs.Paths.ArePath.{none, more}
+use Rattle.mesh_edges.specs.Paths.ArePath.{none, more}
 use Rattle.mesh_measures.specs.Manifolds.{faces_at_edge, IsCornerAt, IsManifoldVertex, IsNonManifoldEdge, IsNonManifoldPair}
 use Rattle.mesh_measures.specs.Marks.{IsFlagged, IsSuspect}
 use Rattle.mesh_measures.specs.Merges.{AreCornerSets, part_at}

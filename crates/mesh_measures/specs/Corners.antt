@@ -3,7 +3,7 @@
 --   AreOfOneFace faces c d     both are corners of one face
 --   AreNeighbors faces c d     two corners at one vertex whose faces have an edge at that vertex in common
 use Rattle.std.specs.Prelude.{ℕ, ◌≡◌, ◌≢◌, ◌*◌, ◌/◌, ◌<◌, List, length}
-use Rattle.half_edges.specs.HalfEdges.{start}
+use Rattle.mesh_edges.specs.HalfEdges.{start}
 
 -- both are corners of one face
 pub record AreOfOneFace (faces : List (List ℕ)) (c d : ℕ) : Type 0 where

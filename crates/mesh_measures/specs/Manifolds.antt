@@ -8,8 +8,8 @@
 --   IsManifoldVertex faces v          the faces at v are one cycle: each edge at v has two of them, and they are connected by edges at v
 use Rattle.std.specs.Prelude.{ℕ, ◌≡◌, ◌≢◌, ◌*◌, ◌+◌, ◌<◌, ◌≤◌, List, length}
 use Rattle.mesh_edges.specs.Edges.{faces_with_edge}
-use Rattle.half_edges.specs.HalfEdges.{start}
-use Rattle.disjoint_sets.specs.Paths.{ArePath}
+use Rattle.mesh_edges.specs.HalfEdges.{start}
+use Rattle.mesh_edges.specs.Paths.{ArePath}
 use Rattle.mesh_measures.specs.Corners.{AreNeighbors}
 
 -- how many faces have the edge between two vertices, in either direction

@@ -8,8 +8,8 @@
 --                                 `IsEndOfOdd` with n as the number of all sides, or `HasSecond` with n as the number
 --                                 of all corners
 use Rattle.std.specs.Prelude.{ℕ, ◌≡◌, ◌*◌, ◌<◌, ◌⊎◌, Bool, true, false, List, length, slice_index_or}
-use Rattle.half_edges.specs.HalfEdges.{start}
-use Rattle.disjoint_sets.specs.Sets.{IsFirstOfSet}
+use Rattle.mesh_edges.specs.HalfEdges.{start}
+use Rattle.mesh_edges.specs.Sets.{IsFirstOfSet}
 use Rattle.mesh_measures.specs.Merges.{part_at}
 use Rattle.mesh_measures.specs.Sides.{IsOddSide}
 use Rattle.mesh_measures.specs.declared.merges.Part.TheVariants.{Low, High}

@@ -9,8 +9,8 @@
 --   AreCornerSets faces parents              corners are together exactly if `AreNeighbors` steps connect them
 --   ArePieceSets faces parents               faces are together exactly if adjacent faces connect them
 use Rattle.std.specs.Prelude.{ℕ, ◌≡◌, ◌*◌, ◌/◌, ◌<◌, ◌⊎◌, List, length, map, slice_index}
-use Rattle.disjoint_sets.specs.Sets.{AreTogether}
-use Rattle.disjoint_sets.specs.Paths.{ArePath}
+use Rattle.mesh_edges.specs.Sets.{AreTogether}
+use Rattle.mesh_edges.specs.Paths.{ArePath}
 use Rattle.mesh_measures.specs.Corners.{AreNeighbors}
 use Rattle.mesh_measures.specs.Pieces.{AreAdjacent}
 use Rattle.mesh_measures.specs.Sides.{key_at}

@@ -3,7 +3,7 @@
 --   AreAdjacent faces f g       faces number f and g have an edge in common
 --   IsFirstOfPiece faces f      no face before f is connected with it by adjacent faces
 use Rattle.std.specs.Prelude.{ℕ, ◌≡◌, ◌/◌, ◌<◌, List}
-use Rattle.disjoint_sets.specs.Paths.{ArePath}
+use Rattle.mesh_edges.specs.Paths.{ArePath}
 use Rattle.mesh_measures.specs.Corners.{AreNeighbors}
 
 -- an edge in common, in either direction

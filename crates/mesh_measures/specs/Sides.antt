@@ -12,7 +12,7 @@
 use Rattle.std.specs.Prelude.{ℕ, ◌≡◌, ◌≢◌, ◌+◌, ◌*◌, ◌<◌, ◌^◌, ◌==◌, nat_lt, if◌then◌else◌, List, [], ◌∷◌, map, slice_index, count_by, All, Contains}
 use Rattle.std.specs.List.Sorted.{IsNonDecreasingBy}
 use Rattle.mesh_edges.specs.Pairs.{key_of}
-use Rattle.half_edges.specs.HalfEdges.{start}
+use Rattle.mesh_edges.specs.HalfEdges.{start}
 use Rattle.mesh_measures.specs.Corners.{AreOfOneFace}
 use Rattle.mesh_measures.specs.Manifolds.{faces_at_edge}
 use Rattle.mesh_measures.specs.declared.sides.Side.{Side}

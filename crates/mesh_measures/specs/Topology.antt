@@ -3,7 +3,7 @@
 --   IsTopologyOf points faces t     t has the numbers of non-manifold edges and vertices and of pieces
 use Rattle.std.specs.Prelude.{ℕ, ◌<◌, List, length}
 use Rattle.geo_sign.specs.Point.{Point}
-use Rattle.counting.specs.Sets.{AreSoMany}
+use Rattle.mesh_edges.specs.Things.{AreSoMany}
 use Rattle.mesh_measures.specs.Manifolds.{IsNonManifoldPair, IsManifoldVertex}
 use Rattle.mesh_measures.specs.Pieces.{IsFirstOfPiece}
 use Rattle.mesh_measures.specs.declared.topology.Topology.{Topology}

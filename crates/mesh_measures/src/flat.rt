@@ -5,14 +5,14 @@ ghost use Rattle.std.specs.Bool.{OnTrue, OnFalse};
 ghost use Rattle.geo_sign.specs.Point.{IsWithin, origin, point, step};
 ghost use Rattle.mesh.specs.Meshes.{IsFace, IsMesh};
 ghost use Rattle.mesh_edges.specs.Edges.{face_at};
-ghost use Rattle.counting.specs.Sets.{AreSoMany};
+ghost use Rattle.mesh_edges.specs.Things.{AreSoMany};
 ghost use Rattle.mesh_measures.specs.Flat.{IsFlat};
 ghost use Rattle.mesh_measures.specs.Volumes.{AreFacesOf};
 
 use crate::volume::{origin_point, place, point_of};
-use counting::next_count;
 use geo_sign::{Point, Vector};
 use mesh::Mesh;
+use mesh_edges::next_count;
 
 /// Returns the vector from the origin to a point.
 fn vector_to(x: i64, y: i64, z: i64) -> Vector

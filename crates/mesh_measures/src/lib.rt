@@ -5,8 +5,7 @@
 //! corners. `measure_topology` returns three counts: edges that do not have two faces, vertices at which the faces are
 //! not one cycle, and pieces.
 //!
-//! It depends on `counting` (counts), `disjoint_sets` (connected faces and corners), `half_edges` (corners), `mesh_ply` (meshes) and
-//! `geo_sign` (points).
+//! It depends on `mesh_edges` (counts, connected faces and corners), `mesh_ply` (meshes) and `geo_sign` (points).
 #![tactic(auto)]
 
 mod flat;

@@ -3,8 +3,8 @@
 ghost use Rattle.std.specs.Prelude.{◌≡◌, ◌+◌, ◌*◌, ◌<◌, ◌≤◌, ◌^◌, ◌⊎◌, ℕ, All, IfOk, length, slice_index_or, true, false};
 ghost use Rattle.std.specs.List.Sorted.{IsNonDecreasingBy};
 ghost use Rattle.mesh.specs.Meshes.{IsFace};
-ghost use Rattle.half_edges.specs.HalfEdges.{start};
-ghost use Rattle.counting.specs.Sets.{AreSoMany};
+ghost use Rattle.mesh_edges.specs.HalfEdges.{start};
+ghost use Rattle.mesh_edges.specs.Things.{AreSoMany};
 ghost use Rattle.mesh_measures.specs.Manifolds.{IsManifoldVertex, IsNonManifoldPair};
 ghost use Rattle.mesh_measures.specs.Marks.{HasCorner, HasSecond, IsEndOfOdd, IsFlagged, IsSuspect};
 ghost use Rattle.mesh_measures.specs.Merges.{AreCornerSets, part_at};
@@ -13,9 +13,7 @@ ghost use Rattle.mesh_measures.specs.Sides.{AreSides, IsOddSide, side_key};
 use crate::NoMemory;
 use crate::merges::{Part, part_at};
 use crate::sides::{Side, is_odd_side};
-use counting::next_count;
-use disjoint_sets::DisjointSets;
-use half_edges::start;
+use mesh_edges::{DisjointSets, next_count, start};
 use std::alloc::Global;
 
 /// Returns how many sides are the first with their edge, where other than two have it.

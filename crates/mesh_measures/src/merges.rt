@@ -2,13 +2,13 @@
 
 ghost use Rattle.std.specs.Prelude.{◌≡◌, ◌≢◌, ◌-◌, ◌<◌, ◌≤◌, ◌^◌, ℕ, IfOk, length};
 ghost use Rattle.std.specs.List.Sorted.{IsNonDecreasingBy};
-ghost use Rattle.disjoint_sets.specs.Sets.{IsMerge};
+ghost use Rattle.mesh_edges.specs.Sets.{IsMerge};
 ghost use Rattle.mesh_measures.specs.Merges.{AreCornerSets, ArePieceSets, IsMergedBy, part_at, part_of};
 ghost use Rattle.mesh_measures.specs.Sides.{AreSides, key_at, side_key};
 
 use crate::NoMemory;
 use crate::sides::{Side, key_at};
-use disjoint_sets::DisjointSets;
+use mesh_edges::DisjointSets;
 use std::alloc::Global;
 
 /// What is merged where two sides have one edge.

@@ -2,12 +2,11 @@
 
 ghost use Rattle.std.specs.Prelude.{◌<◌, length};
 ghost use Rattle.std.specs.Bool.{OnTrue, OnFalse};
-ghost use Rattle.counting.specs.Sets.{AreSoMany};
+ghost use Rattle.mesh_edges.specs.Things.{AreSoMany};
 ghost use Rattle.mesh_measures.specs.Merges.{ArePieceSets};
 ghost use Rattle.mesh_measures.specs.Pieces.{IsFirstOfPiece};
 
-use counting::next_count;
-use disjoint_sets::DisjointSets;
+use mesh_edges::{DisjointSets, next_count};
 
 /// Returns whether no face before this one is connected with it.
 fn is_first_of_piece(faces: &[[u32; 3]], sets: &DisjointSets, f: usize) -> bool

@@ -7,8 +7,7 @@ ghost use Rattle.mesh.specs.Meshes.{IsFace};
 ghost use Rattle.mesh_measures.specs.Sides.{AreSides, IsFirstOfEdge, IsOddSide, key_at, side_key, side_between, sides_of_face};
 
 use crate::NoMemory;
-use half_edges::start;
-use mesh_edges::Pair;
+use mesh_edges::{Pair, start};
 use std::alloc::Global;
 
 /// A side of a face: its two corners, that at the smaller vertex first, and a number that is distinct for each pair of vertices.

@@ -1,14 +1,14 @@
 -- Faces across edges: their sets, and the first face of each.
 use Rattle.std.proofs.Common.{ℕ, ◌≡◌, ◌+◌, ◌*◌, ◌/◌, ◌<◌, ◌≤◌, ◌⊎◌, inl, inr, refl, ap, sym, ◌∙◌, subst, arith, below_more, Bool, true, false, List, length, get_or}
 use Rattle.std.proofs.lemmas.Bool.{cases_lt, cases_eq, false≢true}
-use Rattle.disjoint_sets.specs.Sets.{AreTogether, IsTop, IsMerge}
-use Rattle.disjoint_sets.specs.Paths.{ArePath}
-use Rattle.disjoint_sets.specs.Paths.ArePath.{none, more}
-use Rattle.disjoint_sets.proofs.Tops.{same_top, top_own, own_top, together_turned}
-use Rattle.disjoint_sets.proofs.Paths.{path_on, path_together, one_link}
-use Rattle.counting.specs.Sets.{AreSoMany}
-use Rattle.counting.proofs.Sets.{same_things}
-use Rattle.half_edges.specs.HalfEdges.{IsTwin, ArePaired}
+use Rattle.mesh_edges.specs.Sets.{AreTogether, IsTop, IsMerge}
+use Rattle.mesh_edges.specs.Paths.{ArePath}
+use Rattle.mesh_edges.specs.Paths.ArePath.{none, more}
+use Rattle.mesh_edges.proofs.Tops.{same_top, top_own, own_top, together_turned}
+use Rattle.mesh_edges.proofs.Paths.{path_on, path_together, one_link}
+use Rattle.mesh_edges.specs.Things.{AreSoMany}
+use Rattle.mesh_edges.proofs.Things.{same_things}
+use Rattle.mesh_edges.specs.HalfEdges.{IsTwin, ArePaired}
 use Rattle.mesh_pieces.specs.Pieces.{IsAcross, AreOfOnePiece, IsFirstFace, IsUnion}
 use Rattle.mesh_pieces.specs.Chosen.{AreAcrossSets, AreFirstFaces}
 

@@ -9,10 +9,10 @@ use Rattle.std.proofs.lemmas.List.{get_or_push, get_or_append_left, get_or_defau
 use Rattle.std.proofs.lemmas.List.Elements.{All-push, All-cons}
 use Rattle.std.proofs.lemmas.List.Kept.{AllPairs-cons}
 use Rattle.std.proofs.lemmas.List.Sorted.{All-permutation, Contains-permutation}
-use Rattle.counting.specs.Sets.{AreSoMany}
-use Rattle.counting.proofs.Sets.{same_things, number_more, number_skipped, no_things}
+use Rattle.mesh_edges.specs.Things.{AreSoMany}
+use Rattle.mesh_edges.proofs.Things.{same_things, number_more, number_skipped, no_things}
 use Rattle.mesh_edges.specs.Pairs.{key_of_pair}
-use Rattle.mesh_edges.specs.declared.pair.Pair.{Pair}
+use Rattle.mesh_edges.specs.declared.pairs.Pair.{Pair}
 use Rattle.mesh_pieces.specs.Pieces.{AreOfOnePiece, IsFirstFace, AreLargestPieces}
 use Rattle.mesh_pieces.specs.Chosen.{AreFirstFaces, AreSizes, IsPieceKey, ArePieceKeys, AreFirstMarked, piece_in}
 use Rattle.mesh_pieces.proofs.Across.{first_is, is_first}

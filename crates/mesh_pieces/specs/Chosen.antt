@@ -7,9 +7,9 @@
 --   piece_in list i                       a piece of a list
 --   AreFirstMarked list marks most             the first pieces of a list are marked, at most `most`
 use Rattle.std.specs.Prelude.{ℕ, ◌≡◌, ◌+◌, ◌-◌, ◌/◌, ◌<◌, ◌≤◌, ◌⊎◌, Bool, true, false, List, length, slice_index, slice_index_or, All, Contains}
-use Rattle.mesh_edges.specs.declared.pair.Pair.{Pair}
-use Rattle.disjoint_sets.specs.Sets.{AreTogether}
-use Rattle.counting.specs.Sets.{AreSoMany}
+use Rattle.mesh_edges.specs.declared.pairs.Pair.{Pair}
+use Rattle.mesh_edges.specs.Sets.{AreTogether}
+use Rattle.mesh_edges.specs.Things.{AreSoMany}
 use Rattle.mesh_pieces.specs.Pieces.{AreOfOnePiece}
 
 -- sets of faces, merged across the first n half edges

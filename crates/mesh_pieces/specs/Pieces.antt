@@ -11,10 +11,10 @@ use Rattle.std.specs.Prelude.{ℕ, ◌≡◌, ◌<◌, ◌≤◌, ◌/◌, Bool,
 use Rattle.geo_sign.specs.Point.{Point}
 use Rattle.mesh.specs.Marks.{marked}
 use Rattle.mesh_edges.specs.Edges.{face_at}
-use Rattle.disjoint_sets.specs.Paths.{ArePath}
-use Rattle.counting.specs.Sets.{AreSoMany}
-use Rattle.half_edges.specs.HalfEdges.{ArePaired}
-use Rattle.mesh_copies.specs.Copies.{IsCopy, IsAscending, IsCornerOf}
+use Rattle.mesh_edges.specs.Paths.{ArePath}
+use Rattle.mesh_edges.specs.Things.{AreSoMany}
+use Rattle.mesh_edges.specs.HalfEdges.{ArePaired}
+use Rattle.mesh_pieces.specs.Copies.{IsCopy, IsAscending, IsCornerOf}
 
 -- a face is marked exactly where the faces across its edges are
 abbrev pub IsUnion : (twins : List ℕ) (kept : List Bool) → Type 0

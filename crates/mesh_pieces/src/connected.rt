@@ -1,12 +1,12 @@
 //! The pieces of a mesh: faces that are connected across paired edges.
 
 ghost use Rattle.std.specs.Prelude.{◌≡◌, ◌<◌, ℕ, IfOk, length};
-ghost use Rattle.disjoint_sets.specs.Sets.{AreTogether};
-ghost use Rattle.half_edges.specs.HalfEdges.{ArePaired};
+ghost use Rattle.mesh_edges.specs.Sets.{AreTogether};
+ghost use Rattle.mesh_edges.specs.HalfEdges.{ArePaired};
 ghost use Rattle.mesh_pieces.specs.Chosen.{AreAcrossSets, AreFirstFaces};
 
 use crate::NoMemory;
-use disjoint_sets::DisjointSets;
+use mesh_edges::DisjointSets;
 use std::alloc::Global;
 
 /// Merges the sets of faces across each pair of half edges.

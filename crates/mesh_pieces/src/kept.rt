@@ -2,7 +2,7 @@
 
 ghost use Rattle.std.specs.Prelude.{◌≡◌, ◌<◌, ◌≤◌, ◌/◌, ◌++◌, ℕ, [], ◌∷◌, false, IfOk, OnOk, length, slice_index, slice_index_or, if◌then◌else◌};
 ghost use Rattle.std.specs.Bool.{OnTrue};
-ghost use Rattle.mesh_copies.specs.Copies.{IsCornerOf};
+ghost use Rattle.mesh_pieces.specs.Copies.{IsCornerOf};
 ghost use Rattle.mesh_pieces.specs.Pieces.{kept_faces};
 
 use crate::NoMemory;

@@ -2,9 +2,9 @@
 
 ghost use Rattle.std.specs.Prelude.{◌≡◌, ◌+◌, ◌<◌, ◌≤◌, ◌⊎◌, ℕ, IfOk, OnOk, length, slice_index, slice_index_or, true, false};
 ghost use Rattle.std.specs.List.Sorted.{IsPermutation, IsNonDecreasingBy};
-ghost use Rattle.counting.specs.Sets.{AreSoMany};
+ghost use Rattle.mesh_edges.specs.Things.{AreSoMany};
 ghost use Rattle.mesh_edges.specs.Pairs.{key_of_pair};
-ghost use Rattle.half_edges.specs.HalfEdges.{ArePaired};
+ghost use Rattle.mesh_edges.specs.HalfEdges.{ArePaired};
 ghost use Rattle.mesh_pieces.specs.Pieces.{IsUnion, AreLargestPieces};
 ghost use Rattle.mesh_pieces.specs.Chosen.{AreFirstFaces, AreSizes, ArePieceKeys, AreFirstMarked, piece_in};
 

@@ -2,15 +2,14 @@
 
 ghost use Rattle.std.specs.Prelude.{IfOk};
 ghost use Rattle.mesh.specs.Meshes.{IsMesh};
-ghost use Rattle.half_edges.specs.HalfEdges.{ArePaired};
+ghost use Rattle.mesh_edges.specs.HalfEdges.{ArePaired};
 ghost use Rattle.mesh_pieces.specs.Pieces.{ArePieces};
 
 use crate::kept::{are_used, marked_faces};
 use crate::largest::marks_of_largest;
 use crate::renumber::{Renumbered, kept_twins, without_unused};
-use crate::{Mesh, NoMemory};
-use half_edges::are_twins;
-use mesh_copies::{copy_mesh, is_ascending};
+use crate::{Mesh, NoMemory, copy_mesh, is_ascending};
+use mesh_edges::are_twins;
 use std::alloc::Global;
 
 /// A mesh and the twins of its half edges.

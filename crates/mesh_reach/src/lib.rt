@@ -6,7 +6,7 @@
 //! face is tried first, then all faces whose boxes are near. `None` is exact: each corner is at most the distance from a point of a face.
 //! That a corner that is returned is far is not promised.
 //!
-//! It depends on `face_near` (points near a face), `hull_tree` and `mesh_flips` (boxes of faces) and `mesh` (meshes).
+//! It depends on `face_near` (points near a face), `triangles` and `mesh_flips` (boxes of faces) and `mesh` (meshes).
 #![tactic(auto)]
 
 mod hinted;

@@ -9,7 +9,7 @@ use crate::NoMemory;
 use crate::hinted::is_near_face;
 use face_near::Reach;
 use geo_sign::Point;
-use hull_tree::{Hull, HullTree, Span};
+use triangles::{Hull, HullTree, Span};
 
 /// Returns a number as a coordinate, the nearest one if it does not fit.
 fn coordinate(x: i64) -> i32 {

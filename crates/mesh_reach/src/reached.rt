@@ -10,10 +10,10 @@ use crate::hinted::is_near_face;
 use crate::look::is_near_any;
 use face_near::Reach;
 use geo_sign::Point;
-use hull_tree::HullTree;
 use mesh::Mesh;
 use mesh_flips::tree_of;
 use std::alloc::Global;
+use triangles::HullTree;
 
 /// What helps to find faces, and a mark for each point for which one is found.
 #[derive(Drop)]

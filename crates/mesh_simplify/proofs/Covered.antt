@@ -9,7 +9,7 @@ use Rattle.geo_sign.specs.Polynomial.{variable, constant, product}
 use Rattle.geo_sign.proofs.Ring.{ring}
 use Rattle.mesh.specs.Meshes.{IsFace, point_at}
 use Rattle.mesh_edges.specs.Edges.{face_at}
-use Rattle.triangle_gap.specs.Shared.{weighted, weighted_sum}
+use Rattle.triangles.specs.Shared.{weighted, weighted_sum}
 use Rattle.mesh_cover.specs.Covers.{times, IsMeanNear, IsNearFaceOf, IsFaceCovered, IsCovered}
 
 -- three differences that are 0

@@ -14,7 +14,7 @@ use Rattle.mesh_edges.specs.Edges.{has_edge, faces_with_edge}
 use Rattle.mesh_edges.specs.Pairs.{key_of}
 use Rattle.mesh_edges.proofs.Counts.{one_if, hits, hits-cons, hits_none, hit_yes, hit_no}
 use Rattle.mesh_edges.proofs.EdgeCounts.{edge_count_more, edge_count_past}
-use Rattle.mesh_split.specs.Splits.{AreSingle}
+use Rattle.mesh_pieces.specs.Splits.{AreSingle}
 use Rattle.mesh_simplify.specs.Keys.{CountsKeys}
 
 -- how often a key occurs

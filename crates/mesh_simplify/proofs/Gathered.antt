@@ -1,6 +1,6 @@
 -- What the tests of a mesh found, of lists that are read through borrowed slices.
 use Rattle.std.proofs.Common.{ℕ, ◌≡◌, sym, subst, List}
-use Rattle.mesh_split.specs.Splits.{AreSingle}
+use Rattle.mesh_pieces.specs.Splits.{AreSingle}
 
 -- no directed edge occurs twice that did not
 pub single_read : (old old_read new new_read : List (List ℕ)) → old_read ≡ old → new_read ≡ new

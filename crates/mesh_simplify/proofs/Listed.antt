@@ -1,7 +1,7 @@
 -- Pairs of faces that are listed are kept, and all others are apart.
 use Rattle.std.proofs.Common.{ℕ, ◌≡◌, ◌<◌, inl, inr, subst, List, length}
 use Rattle.geo_sign.specs.Point.{Point}
-use Rattle.mesh_edges.specs.declared.pair.Pair.{Pair}
+use Rattle.mesh_edges.specs.declared.pairs.Pair.{Pair}
 use Rattle.mesh_crossings.specs.Crossings.{AreCrossingPairs, IsListedPair}
 use Rattle.mesh_simplify.specs.Simplified.{AreApartOrKept}
 use Rattle.mesh_simplify.specs.Tested.{IsOldFaceAt, ArePairsOld}

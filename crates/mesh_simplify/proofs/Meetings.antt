@@ -10,8 +10,8 @@ use Rattle.std.proofs.lemmas.List.{get_or_default}
 use Rattle.geo_sign.specs.Point.{Point}
 use Rattle.mesh.specs.Meshes.{IsFace, is_vertex_of, point_at}
 use Rattle.mesh_edges.specs.Edges.{face_at}
-use Rattle.triangle_gap.specs.Shared.{weighted}
-use Rattle.triangle_gap.specs.Gaps.{IsCommon, AreFacesApart}
+use Rattle.triangles.specs.Shared.{weighted}
+use Rattle.triangles.specs.Gaps.{IsCommon, AreFacesApart}
 use Rattle.mesh_simplify.specs.Simplified.{IsVertexMap, IsAtOldPlace}
 use Rattle.mesh_simplify.specs.Laws.{MeetsOnlyWhatMet}
 

@@ -6,7 +6,7 @@ use Rattle.std.specs.Prelude.{ℕ, ◌≡◌, ◌<◌, Bool, List, length, map, 
 use Rattle.geo_sign.specs.Point.{Point}
 use Rattle.mesh.specs.Meshes.{IsMesh}
 use Rattle.mesh_edges.specs.Edges.{face_at}
-use Rattle.triangle_gap.specs.Gaps.{AreFacesApart}
+use Rattle.triangles.specs.Gaps.{AreFacesApart}
 use Rattle.mesh_simplify.specs.Simplified.{IsAtOldPlace, IsSimplified}
 
 -- Two faces are the old ones of numbers k and l, by the old numbers of their vertices, no corner has moved, and these two were not apart.

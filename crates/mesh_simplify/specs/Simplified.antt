@@ -15,8 +15,8 @@ use Rattle.std.specs.Prelude.{ℕ, ◌≡◌, ◌<◌, ◌⊎◌, ⊤, Bool, tru
 use Rattle.geo_sign.specs.Point.{Point}
 use Rattle.mesh.specs.Meshes.{point_at, is_vertex_of}
 use Rattle.mesh_edges.specs.Edges.{face_at, IsBalanced, IsFirstUnbalanced}
-use Rattle.mesh_split.specs.Splits.{AreSingle}
-use Rattle.triangle_gap.specs.Gaps.{AreFacesApart}
+use Rattle.mesh_pieces.specs.Splits.{AreSingle}
+use Rattle.triangles.specs.Gaps.{AreFacesApart}
 use Rattle.mesh_reach.specs.Reached.{AreReached}
 use Rattle.mesh_cover.specs.Covers.{AreWithinEachOther}
 use Rattle.mesh_simplify.specs.declared.whole.SimplifyError.{SimplifyError}

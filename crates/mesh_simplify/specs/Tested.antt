@@ -7,7 +7,7 @@ use Rattle.std.specs.Prelude.{ℕ, Bool, List, All}
 use Rattle.geo_sign.specs.Point.{Point}
 use Rattle.mesh.specs.Meshes.{IsMesh}
 use Rattle.mesh_edges.specs.Edges.{face_at}
-use Rattle.mesh_edges.specs.declared.pair.Pair.{Pair}
+use Rattle.mesh_edges.specs.declared.pairs.Pair.{Pair}
 use Rattle.mesh_simplify.specs.Simplified.{IsOldFace, IsSimplified, IsNearIfAsked}
 
 -- a face is an old one, by its number

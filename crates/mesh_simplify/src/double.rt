@@ -4,7 +4,7 @@ ghost use Rattle.std.specs.Prelude.{◌≡◌, ◌^◌, All, IfOk};
 ghost use Rattle.std.specs.Bool.{OnTrue};
 ghost use Rattle.mesh.specs.Meshes.{IsFace};
 ghost use Rattle.mesh_edges.specs.Edges.{has_edge};
-ghost use Rattle.mesh_split.specs.Splits.{AreSingle};
+ghost use Rattle.mesh_pieces.specs.Splits.{AreSingle};
 
 use crate::NoMemory;
 use crate::single::are_edges_single;

@@ -10,7 +10,7 @@
 //!
 //! [`simplifying_makes_nothing_meet`] is a theorem: two faces that are not apart were faces of the given mesh, and were not apart there.
 //!
-//! It depends on `mesh_collapse` (search), `mesh_reach` and `mesh_cover` (near faces), `mesh_edges` (closed meshes), `mesh_split` (single edges) and
+//! It depends on `mesh_collapse` (search), `mesh_reach` and `mesh_cover` (near faces), `mesh_edges` (closed meshes), `mesh_pieces` (single edges) and
 //! `mesh_crossings` (faces that are apart).
 #![tactic(auto)]
 

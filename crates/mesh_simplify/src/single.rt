@@ -4,7 +4,7 @@ ghost use Rattle.std.specs.Prelude.{◌≡◌, ◌^◌, All, IfOk, OnOk};
 ghost use Rattle.std.specs.Bool.{OnTrue};
 ghost use Rattle.mesh.specs.Meshes.{IsFace};
 ghost use Rattle.mesh_edges.specs.Pairs.{key_of};
-ghost use Rattle.mesh_split.specs.Splits.{AreSingle};
+ghost use Rattle.mesh_pieces.specs.Splits.{AreSingle};
 ghost use Rattle.mesh_simplify.specs.Keys.{CountsKeys, HasGainedKeys};
 
 use crate::NoMemory;

@@ -8,8 +8,8 @@ use Rattle.std.proofs.lemmas.Bool.{cases_lt, false≢true}
 use Rattle.geo_sign.specs.Point.{Point}
 use Rattle.mesh.specs.Meshes.{point_at}
 use Rattle.mesh_edges.specs.Edges.{face_at}
-use Rattle.hull_tree.specs.declared.tree.HullTree.{HullTree}
-use Rattle.triangle_gap.specs.Gaps.{AreFacesApart}
+use Rattle.triangles.specs.declared.tree.HullTree.{HullTree}
+use Rattle.triangles.specs.Gaps.{AreFacesApart}
 use Rattle.mesh_flips.specs.Fields.{IsTreeOf}
 use Rattle.mesh_flips.specs.Flips.{KeepsApart}
 use Rattle.mesh_flips.proofs.Off.{apart_back}

@@ -3,11 +3,11 @@ use Rattle.std.proofs.Common.{ℕ, ◌≡◌, ◌≢◌, ◌<◌, ◌≤◌, ◌
 use Rattle.std.specs.List.{Contains}
 use Rattle.geo_sign.specs.Point.{Point}
 use Rattle.mesh_edges.specs.Edges.{face_at}
-use Rattle.hull_tree.specs.Hulls.{HoldsHull, AreOff}
-use Rattle.hull_tree.proofs.Growth.{point_in}
-use Rattle.hull_tree.specs.Trees.{IsInserted}
-use Rattle.hull_tree.specs.declared.hull.Hull.{Hull}
-use Rattle.hull_tree.specs.declared.tree.HullTree.{HullTree}
+use Rattle.triangles.specs.Hulls.{HoldsHull, AreOff}
+use Rattle.triangles.proofs.Growth.{point_in}
+use Rattle.triangles.specs.Trees.{IsInserted}
+use Rattle.triangles.specs.declared.hull.Hull.{Hull}
+use Rattle.triangles.specs.declared.tree.HullTree.{HullTree}
 use Rattle.mesh_flips.specs.Fields.{HoldsFace, HasBox, IsTreeOf}
 use Rattle.mesh_flips.proofs.Crossings.{same_or_not}
 use Rattle.mesh_flips.proofs.Off.{apart_back, off_apart}

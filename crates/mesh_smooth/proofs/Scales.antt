@@ -11,9 +11,9 @@ use Rattle.geo_sign.proofs.RingLaws.{*ℤ_assoc}
 use Rattle.geo_sign.specs.Point.{Point, point, IsWithin}
 use Rattle.geo_sign.specs.declared.point.TheConstants.{BOX_LIMIT}
 use Rattle.mesh.specs.Meshes.{point_at}
-use Rattle.triangle_gap.specs.Shared.{weighted_sum, weighted}
+use Rattle.triangles.specs.Shared.{weighted_sum, weighted}
 use Rattle.mesh_edges.specs.Edges.{face_at}
-use Rattle.triangle_gap.specs.Gaps.{IsCommon, AreFacesApart}
+use Rattle.triangles.specs.Gaps.{IsCommon, AreFacesApart}
 use Rattle.mesh_flips.specs.Flips.{KeepsApart}
 use Rattle.mesh_flips.specs.Turns.{IsTriangle}
 use Rattle.mesh_smooth.specs.Smoothed.{magnified, IsMagnified}

@@ -2,10 +2,10 @@
 use Rattle.std.proofs.Common.{ℕ, ◌≡◌, ◌⊎◌, inl, inr, refl, ap, sym, subst, ◌∙◌, Bool, true, false, List, [], ◌∷◌, length}
 use Rattle.geo_sign.specs.Point.{Point}
 use Rattle.mesh.specs.Meshes.{point_at}
-use Rattle.hull_tree.specs.Hulls.{HoldsPoint}
-use Rattle.hull_tree.specs.declared.hull.Hull.{Hull}
-use Rattle.triangle_gap.specs.Gaps.{AreFacesApart}
-use Rattle.triangle_gap.specs.Shared.{weighted}
+use Rattle.triangles.specs.Hulls.{HoldsPoint}
+use Rattle.triangles.specs.declared.hull.Hull.{Hull}
+use Rattle.triangles.specs.Gaps.{AreFacesApart}
+use Rattle.triangles.specs.Shared.{weighted}
 use Rattle.mesh_flips.specs.Fields.{HoldsFace}
 use Rattle.mesh_smooth.specs.Rounds.{flag, IsStill, HasGoneBack, IsUnflagged}
 

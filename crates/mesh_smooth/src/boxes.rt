@@ -1,15 +1,15 @@
 //! Inserts the boxes of faces that changed.
 
 ghost use Rattle.std.specs.Prelude.{◌≡◌, ◌≤◌, ◌<◌, ◌*◌, ℕ, All, length, true};
-ghost use Rattle.hull_tree.specs.Trees.{IsInserted};
-ghost use Rattle.hull_tree.specs.declared.hull.Hull.{Hull};
+ghost use Rattle.triangles.specs.Trees.{IsInserted};
+ghost use Rattle.triangles.specs.declared.hull.Hull.{Hull};
 ghost use Rattle.mesh_flips.specs.Turns.{IsTriangle};
 ghost use Rattle.mesh_flips.specs.Fields.{HasBox, IsTreeOf};
 ghost use Rattle.mesh_smooth.specs.Rounds.{flag, HasRest};
 
 use geo_sign::Point;
-use hull_tree::HullTree;
 use mesh_flips::hull_of;
+use triangles::HullTree;
 
 /// Inserts the box of a face at its number if the face is asked.
 fn insert_face(points: &[Point], faces: &[[u32; 3]], tree: &mut HullTree, asked: &[bool], f: usize)

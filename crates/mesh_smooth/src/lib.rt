@@ -10,7 +10,7 @@
 //! The proposals are those of bilateral normal filtering (Zheng, Fu, Au and Tai 2011, by areas and angles) with vertex updates along
 //! the filtered normals (Sun, Rosin, Martin and Langbein 2007). No contract depends on them.
 //!
-//! The crate depends on `mesh_flips` (flips, boxes of faces), `hull_tree` (faces near a box) and `triangle_gap` (faces that are apart).
+//! The crate depends on `mesh_flips` (flips, boxes of faces) and `triangles` (faces near a box, faces that are apart).
 #![tactic(auto)]
 
 mod boxes;

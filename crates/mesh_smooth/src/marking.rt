@@ -3,16 +3,15 @@
 ghost use Rattle.std.specs.Prelude.{◌≡◌, ◌≢◌, ◌<◌, ◌≤◌, ◌+◌, ℕ, All, Contains, OnOk, length, true, false};
 ghost use Rattle.std.specs.Bool.{OnTrue, OnFalse};
 ghost use Rattle.mesh_edges.specs.Edges.{face_at};
-ghost use Rattle.triangle_gap.specs.Gaps.{AreFacesApart};
+ghost use Rattle.triangles.specs.Gaps.{AreFacesApart};
 ghost use Rattle.mesh_flips.specs.Turns.{IsTriangle};
 ghost use Rattle.mesh_flips.specs.Fields.{HoldsFace, IsTreeOf};
 ghost use Rattle.mesh_smooth.specs.Rounds.{flag, KeepsFlags, IsTested, IsTestedAmong, AreTested, AreAllTested, AreReadyToMark};
 
 use crate::NoMemory;
 use geo_sign::Point;
-use hull_tree::{Hull, HullTree};
 use mesh_flips::hull_of;
-use triangle_gap::are_apart;
+use triangles::{Hull, HullTree, are_apart};
 
 /// How many consecutive faces are searched for at once: as many as share a leaf of the tree.
 const RUN: usize = 4;

@@ -13,9 +13,9 @@ use crate::boxes::insert_asked;
 use crate::marking::mark_crossing;
 use crate::putting_back::{ask, put_back};
 use geo_sign::Point;
-use hull_tree::HullTree;
 use mesh_flips::tree_of;
 use std::alloc::Global;
+use triangles::HullTree;
 
 /// Tests the asked faces against those near them, puts corners of pairs that are not apart back, and asks the faces that this changes.
 /// Returns whether there is one.

@@ -19,7 +19,7 @@ use Rattle.solid_slice.specs.Cuts.{is_above, is_cut_face, is_cut_at, IsUpEdge, I
 use Rattle.mesh_edges.specs.Pairs.{key_of, key_of_pair}
 use Rattle.solid_slice.specs.Crossings.{goes_up, key_of_crossing, the_crossed, crossings_at, faces_of_pair, is_upward, is_downward}
 use Rattle.solid_slice.specs.Crossings.{AreCrossings}
-use Rattle.mesh_edges.specs.declared.pair.Pair.{Pair}
+use Rattle.mesh_edges.specs.declared.pairs.Pair.{Pair}
 use Rattle.solid_slice.specs.declared.crossings.Crossing.{Crossing}
 use Rattle.geo_sign.proofs.Booleans.{same_bools}
 use Rattle.mesh_edges.proofs.FaceEdges.{same_edge, ends_in, edge_within}

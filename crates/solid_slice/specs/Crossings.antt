@@ -12,7 +12,7 @@ use Rattle.mesh.specs.Meshes.{below}
 use Rattle.mesh_edges.specs.Edges.{has_edge, face_at}
 use Rattle.solid_slice.specs.Cuts.{is_above}
 use Rattle.mesh_edges.specs.Pairs.{key_of, key_of_pair}
-use Rattle.mesh_edges.specs.declared.pair.Pair.{Pair}
+use Rattle.mesh_edges.specs.declared.pairs.Pair.{Pair}
 use Rattle.solid_slice.specs.declared.crossings.Crossing.{Crossing}
 
 abbrev pub goes_up : List Point → ℤ → (u v : ℕ) → Bool

@@ -1,7 +1,7 @@
 use Rattle.std.proofs.Common.{◌*◌, ◌^◌}
 use mir.Syntax.{w64}
 use Rattle.geo_sign.proofs.Bounds.{Held, kept, within_held}
-use Rattle.triangle_gap.specs.Shared.{weighted_sum}
+use Rattle.triangles.specs.Shared.{weighted_sum}
 use Rattle.face_near.proofs.Measured.{sum_held, times_read}
 use Rattle.face_near.proofs.exact.sum_on.Goals as goal
 

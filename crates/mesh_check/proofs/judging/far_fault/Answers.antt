@@ -1,6 +1,6 @@
 use Rattle.std.proofs.Common.{List, subst}
 use Rattle.geo_sign.specs.Point.{Point}
-use Rattle.mesh_within.specs.Far.{AreAllNear}
+use Rattle.mesh_check.specs.Homes.{AreAllNear}
 use Rattle.mesh_check.proofs.judging.far_fault.Goals as goal
 
 pub returns-in-None : goal.returns-in-None

@@ -1,6 +1,6 @@
 use Rattle.std.proofs.Common.{List, sym, subst}
 use Rattle.std.specs.List.{All}
-use Rattle.mesh_edges.specs.declared.pair.Pair.{Pair}
+use Rattle.mesh_edges.specs.declared.pairs.Pair.{Pair}
 use Rattle.mesh_crossings.specs.Crossings.{AreOrdered}
 use Rattle.mesh_crossings.specs.Tested.{ArePairsKnown}
 use Rattle.mesh_crossings.proofs.Known.{all_known}

@@ -1,5 +1,5 @@
 use Rattle.std.specs.List.{Contains}
-use Rattle.mesh_edges.specs.declared.pair.Pair.{Pair}
+use Rattle.mesh_edges.specs.declared.pairs.Pair.{Pair}
 use Rattle.mesh_crossings.specs.Crossings.{AreCrossing}
 use Rattle.mesh_crossings.proofs.Tidied.{AreDivided}
 use Rattle.mesh_crossings.proofs.judge.judged.Given as goal

@@ -3,7 +3,7 @@ use Rattle.std.proofs.Common.{◌≡◌, List, length, drop, ◌∙◌, subst, a
 use Rattle.std.specs.List.Sorted.{IsPermutation}
 use Rattle.std.proofs.lemmas.List.{take_at}
 use Rattle.std.proofs.lemmas.List.Sorted.{length_permutation}
-use Rattle.mesh_edges.specs.declared.pair.Pair.{Pair}
+use Rattle.mesh_edges.specs.declared.pairs.Pair.{Pair}
 use Rattle.mesh_crossings.specs.Tested.{AreSamePairs}
 use Rattle.mesh_crossings.proofs.Tidied.{moved_pairs}
 use Rattle.mesh_crossings.proofs.tidy.tidied.Goals as goal

@@ -1,6 +1,6 @@
 use Rattle.std.proofs.Common.{◌≡◌, rules}
-use Rattle.triangle_gap.specs.Shared.{weighted_sum}
-use Rattle.triangle_gap.proofs.Apart.{on_yes}
+use Rattle.triangles.specs.Shared.{weighted_sum}
+use Rattle.triangles.proofs.Apart.{on_yes}
 use Rattle.mesh_crossings.proofs.Witnessed.{point_same, read_same}
 use Rattle.mesh_crossings.proofs.witness.are_one_point.Goals as goal
 

@@ -2,7 +2,7 @@ use Rattle.std.proofs.Common.{◌≡◌, ap, sym, ◌∙◌, rules, ℤ, FitsSig
 use Rattle.std.proofs.lemmas.Bool.{OnTrue_from, eqb-true}
 use Rattle.std.proofs.lemmas.Int.{to_z-of_z}
 use mir.Syntax.{w128}
-use Rattle.triangle_gap.specs.Shared.{weighted_sum}
+use Rattle.triangles.specs.Shared.{weighted_sum}
 use Rattle.mesh_crossings.proofs.Witnessed.{read_sum}
 use Rattle.mesh_crossings.proofs.witness.is_sum_on.Goals as goal
 

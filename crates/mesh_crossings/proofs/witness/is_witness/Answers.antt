@@ -1,5 +1,5 @@
 use Rattle.std.proofs.Common.{arith}
-use Rattle.triangle_gap.proofs.Apart.{on_yes}
+use Rattle.triangles.proofs.Apart.{on_yes}
 use Rattle.mesh_crossings.proofs.Witnessed.{crossed}
 use Rattle.mesh_crossings.proofs.witness.is_witness.Goals as goal
 

@@ -3,7 +3,7 @@ use Rattle.std.proofs.Common.{ℕ, ◌≡◌, ◌*◌, ◌≤◌, ◌^◌, ap, �
 use Rattle.std.proofs.lemmas.Int.{to_z-of_z}
 use mir.Syntax.{w32, w128}
 use Rattle.geo_sign.proofs.Bounds.{Held, kept, held_kept, held_add, fits_held}
-use Rattle.triangle_gap.specs.Shared.{weighted_sum}
+use Rattle.triangles.specs.Shared.{weighted_sum}
 use Rattle.mesh_crossings.proofs.witness.sum_on.Goals as goal
 
 -- a product as it is read

@@ -6,7 +6,7 @@
 -- once, so counts fit 32 bits (few).
 use Rattle.std.proofs.Common.{ℕ, ◌<◌, ◌^◌, List, length, arith, subst, sym, ap, ◌∙◌}
 use Rattle.mesh_edges.specs.Pairs.{key_of_pair, key_count, IsPairOf, IsFirstUnequalPair}
-use Rattle.mesh_edges.specs.declared.pair.Pair.{Pair}
+use Rattle.mesh_edges.specs.declared.pairs.Pair.{Pair}
 use Rattle.mesh_edges.proofs.EdgeCounts.{balanced, unbalanced, each_among, few}
 use Rattle.mesh_edges.proofs.balance.first_unbalanced.Goals as goal
 

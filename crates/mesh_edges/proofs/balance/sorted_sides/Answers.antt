@@ -3,7 +3,7 @@ use Rattle.std.specs.List.Sorted.{IsPermutation}
 use Rattle.std.proofs.lemmas.Grind.{common_steps}
 use Rattle.std.proofs.lemmas.List.Sorted.{All-permutation}
 use Rattle.mesh_edges.specs.Pairs.{AreRising}
-use Rattle.mesh_edges.specs.declared.pair.Pair.{Pair}
+use Rattle.mesh_edges.specs.declared.pairs.Pair.{Pair}
 use Rattle.mesh_edges.proofs.EdgeCounts.{pairs_moved}
 use Rattle.mesh_edges.proofs.balance.sorted_sides.Goals as goal
 

@@ -1,5 +1,5 @@
 use Rattle.std.proofs.Common.{length}
-use Rattle.half_edges.proofs.Paired.{paired_closed}
+use Rattle.mesh_edges.proofs.Paired.{paired_closed}
 use Rattle.mesh_finish.proofs.steps.split.Goals as goal
 
 pub returns-then-not-manifold-clause-closed : goal.returns-then-not-manifold-clause-closed

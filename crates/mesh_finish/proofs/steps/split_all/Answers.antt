@@ -1,5 +1,5 @@
 use Rattle.geo_sign.specs.declared.point.TheConstants.{BOX_LIMIT}
-use Rattle.mesh_copies.proofs.Boxed.{copies_boxed}
+use Rattle.mesh_pieces.proofs.Boxed.{copies_boxed}
 use Rattle.mesh_finish.proofs.steps.split_all.Goals as goal
 
 pub returns-clause-boxed : goal.returns-clause-boxed

@@ -1,6 +1,6 @@
 use Rattle.std.proofs.Common.{ℕ, List, sym, subst}
 use Rattle.mesh_edges.specs.Edges.{IsBalanced}
-use Rattle.mesh_split.specs.Splits.{AreSingle}
+use Rattle.mesh_pieces.specs.Splits.{AreSingle}
 use Rattle.mesh_finish.proofs.whole.flip_mesh.Goals as goal
 
 pub returns-clause-closed : goal.returns-clause-closed

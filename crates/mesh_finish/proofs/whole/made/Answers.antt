@@ -3,7 +3,7 @@ use Rattle.std.proofs.Common.{rules, length, sym, subst, refl, List}
 use Rattle.std.specs.List.{All}
 use Rattle.geo_sign.specs.Point.{Point, IsWithin}
 use Rattle.geo_sign.specs.declared.point.TheConstants.{BOX_LIMIT}
-use Rattle.half_edges.proofs.Paired.{paired_closed}
+use Rattle.mesh_edges.proofs.Paired.{paired_closed}
 use Rattle.mesh_finish.proofs.Composed.{composed}
 use Rattle.mesh_finish.proofs.Rewritten.{faces_triangles}
 use Rattle.mesh_finish.proofs.whole.made.Goals as goal

@@ -1,6 +1,6 @@
 use Rattle.std.proofs.Common.{subst}
 use Rattle.geo_sign.specs.Point.{Point}
-use Rattle.hull_tree.specs.Hulls.{HoldsPoint}
+use Rattle.triangles.specs.Hulls.{HoldsPoint}
 use Rattle.mesh_flips.proofs.clear.hull_around.Goals as goal
 
 pub returns : goal.returns

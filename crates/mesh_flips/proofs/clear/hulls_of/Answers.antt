@@ -1,4 +1,4 @@
-use Rattle.hull_tree.proofs.Growth.{point_in}
+use Rattle.triangles.proofs.Growth.{point_in}
 use Rattle.mesh_flips.proofs.clear.hulls_of.Goals as goal
 
 pub returns : goal.returns

@@ -1,6 +1,6 @@
 use Rattle.std.proofs.Common.{arith, inl, inr, subst, sym, ℕ, List}
 use Rattle.std.specs.List.{Contains}
-use Rattle.triangle_gap.proofs.Apart.{on_yes}
+use Rattle.triangles.proofs.Apart.{on_yes}
 use Rattle.mesh_flips.proofs.Off.{off_clear}
 use Rattle.mesh_flips.proofs.clear.is_free.Goals as goal
 

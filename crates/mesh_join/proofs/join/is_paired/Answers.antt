@@ -3,8 +3,8 @@ use Rattle.std.specs.Bool.{OnTrue}
 use Rattle.std.specs.List.{All}
 use Rattle.mesh.specs.Meshes.{IsFace}
 use Rattle.mesh_edges.specs.Edges.{IsBalanced}
-use Rattle.half_edges.specs.HalfEdges.{ArePaired}
-use Rattle.half_edges.specs.Laws.{PairedAreClosed}
+use Rattle.mesh_edges.specs.HalfEdges.{ArePaired}
+use Rattle.mesh_edges.specs.Laws.{PairedAreClosed}
 use Rattle.mesh_join.proofs.join.is_paired.Goals as goal
 
 closed : PairedAreClosed → (n : ℕ) (faces : List (List ℕ)) (twins : List ℕ) → All (IsFace n) faces → (b : Bool)

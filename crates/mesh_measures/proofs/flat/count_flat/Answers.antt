@@ -1,6 +1,6 @@
 use Rattle.std.proofs.Common.{arith}
 use Rattle.mesh_edges.specs.Edges.{face_at}
-use Rattle.counting.proofs.Sets.{number_next}
+use Rattle.mesh_edges.proofs.Things.{number_next}
 use Rattle.mesh_measures.specs.Flat.{IsFlat}
 use Rattle.mesh_measures.proofs.flat.count_flat.Goals as goal
 

@@ -1,6 +1,6 @@
 use Rattle.std.proofs.Common.{◌<◌, ◌≤◌}
 use Rattle.mesh_edges.specs.Edges.{face_at}
-use Rattle.counting.specs.Sets.{AreSoMany}
+use Rattle.mesh_edges.specs.Things.{AreSoMany}
 use Rattle.mesh_measures.specs.Flat.{IsFlat}
 use Rattle.mesh_measures.proofs.flat.count_flat.Given as goal
 

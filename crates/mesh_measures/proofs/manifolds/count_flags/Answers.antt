@@ -1,7 +1,7 @@
 use Rattle.std.proofs.Common.{◌≡◌, ◌∙◌, sym, arith, get_or, Bool, true, false}
 use Rattle.std.specs.Bool.{OnTrue, OnFalse}
 use Rattle.std.proofs.lemmas.Bool.{OnFalse_from, OnTrue_from, false≢true}
-use Rattle.counting.proofs.Sets.{nothing_below, number_next}
+use Rattle.mesh_edges.proofs.Things.{nothing_below, number_next}
 use Rattle.mesh_measures.proofs.manifolds.count_flags.Goals as goal
 
 pub loop-v-init : goal.loop-v-init

@@ -1,5 +1,5 @@
 use Rattle.std.proofs.Common.{◌≡◌, ◌<◌, ◌≤◌, get_or, true, false}
-use Rattle.counting.specs.Sets.{AreSoMany}
+use Rattle.mesh_edges.specs.Things.{AreSoMany}
 use Rattle.mesh_measures.proofs.manifolds.count_flags.Given as goal
 
 abbrev pub invariant-loop-v : goal.invariant-loop-v

@@ -1,5 +1,5 @@
 use Rattle.std.proofs.Common.{arith}
-use Rattle.counting.proofs.Sets.{nothing_below, number_next}
+use Rattle.mesh_edges.proofs.Things.{nothing_below, number_next}
 use Rattle.mesh_measures.specs.Sides.{IsOddSide}
 use Rattle.mesh_measures.proofs.manifolds.count_odd_sides.Goals as goal
 

@@ -1,5 +1,5 @@
 use Rattle.std.proofs.Common.{◌<◌, ◌≤◌}
-use Rattle.counting.specs.Sets.{AreSoMany}
+use Rattle.mesh_edges.specs.Things.{AreSoMany}
 use Rattle.mesh_measures.specs.Sides.{IsOddSide}
 use Rattle.mesh_measures.proofs.manifolds.count_odd_sides.Given as goal
 

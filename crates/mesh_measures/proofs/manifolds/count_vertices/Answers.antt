@@ -1,5 +1,5 @@
 use Rattle.std.proofs.Common.{ℕ, ◌≡◌, ◌<◌, ap, arith, length, subst}
-use Rattle.counting.specs.Sets.{AreSoMany}
+use Rattle.mesh_edges.specs.Things.{AreSoMany}
 use Rattle.mesh_measures.specs.Manifolds.{IsManifoldVertex}
 use Rattle.mesh_measures.proofs.manifolds.count_vertices.Goals as goal
 

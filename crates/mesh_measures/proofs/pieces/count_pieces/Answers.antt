@@ -1,5 +1,5 @@
 use Rattle.std.proofs.Common.{arith}
-use Rattle.counting.proofs.Sets.{nothing_below, number_next}
+use Rattle.mesh_edges.proofs.Things.{nothing_below, number_next}
 use Rattle.mesh_measures.specs.Pieces.{IsFirstOfPiece}
 use Rattle.mesh_measures.proofs.pieces.count_pieces.Goals as goal
 

@@ -1,5 +1,5 @@
 use Rattle.std.proofs.Common.{◌<◌, ◌≤◌}
-use Rattle.counting.specs.Sets.{AreSoMany}
+use Rattle.mesh_edges.specs.Things.{AreSoMany}
 use Rattle.mesh_measures.specs.Pieces.{IsFirstOfPiece}
 use Rattle.mesh_measures.proofs.pieces.count_pieces.Given as goal
 

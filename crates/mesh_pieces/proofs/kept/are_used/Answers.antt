@@ -1,5 +1,5 @@
 use Rattle.std.proofs.Common.{ℕ, below_more}
-use Rattle.mesh_copies.specs.Copies.{IsCornerOf}
+use Rattle.mesh_pieces.specs.Copies.{IsCornerOf}
 use Rattle.mesh_pieces.proofs.kept.are_used.Goals as goal
 
 pub loop-w-preserved : goal.loop-w-preserved

@@ -1,7 +1,7 @@
 -- Lists are passed as slices, so `read` and the equations of slices first say which lists these are.
 use Rattle.std.proofs.Common.{ℕ, ◌≡◌, ◌+◌, ◌<◌, ◌≤◌, ◌∙◌, Bool, false, List, length, get_or, drop, sym, subst, ap, arith}
 use Rattle.std.proofs.lemmas.List.{take_at}
-use Rattle.mesh_edges.specs.declared.pair.Pair.{Pair}
+use Rattle.mesh_edges.specs.declared.pairs.Pair.{Pair}
 use Rattle.mesh_pieces.specs.Chosen.{AreSizes, ArePieceKeys, AreFirstMarked}
 use Rattle.mesh_pieces.proofs.Across.{union_by}
 use Rattle.mesh_pieces.proofs.Sizes.{largest_pieces}

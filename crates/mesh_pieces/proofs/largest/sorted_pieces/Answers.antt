@@ -3,7 +3,7 @@ use Rattle.std.proofs.Common.{◌≡◌, List, length, drop, take, ◌++◌, sym
 use Rattle.std.specs.List.Sorted.{IsPermutation}
 use Rattle.std.proofs.lemmas.List.{take_at}
 use Rattle.std.proofs.lemmas.List.Sorted.{length_permutation}
-use Rattle.mesh_edges.specs.declared.pair.Pair.{Pair}
+use Rattle.mesh_edges.specs.declared.pairs.Pair.{Pair}
 use Rattle.mesh_pieces.specs.Chosen.{ArePieceKeys}
 use Rattle.mesh_pieces.proofs.Sizes.{keys_moved}
 use Rattle.mesh_pieces.proofs.largest.sorted_pieces.Goals as goal

@@ -2,7 +2,7 @@
 use Rattle.std.proofs.Common.{ℕ, ◌≡◌, ◌<◌, Bool, List, Option, IfSome, length, ap, subst, ◌∙◌, arith}
 use Rattle.geo_sign.specs.Point.{Point}
 use Rattle.mesh.specs.declared.mesh.Mesh.{Mesh}
-use Rattle.mesh_copies.specs.Copies.{IsCopy, IsAscending, IsCornerOf}
+use Rattle.mesh_pieces.specs.Copies.{IsCopy, IsAscending, IsCornerOf}
 use Rattle.mesh_pieces.specs.Pieces.{AreLargestPieces, kept_faces}
 use Rattle.mesh_pieces.proofs.pieces.keep_pieces.Goals as goal
 

@@ -1,7 +1,7 @@
 use Rattle.std.proofs.Common.{ℕ, ◌≤◌, [], sym, ◌∙◌, arith}
 use Rattle.std.proofs.lemmas.Bool.{OnTrue_from}
 use Rattle.mesh_edges.specs.Edges.{has_edge, faces_with_edge}
-use Rattle.mesh_split.specs.Splits.{AreSingle}
+use Rattle.mesh_pieces.specs.Splits.{AreSingle}
 use Rattle.mesh_simplify.proofs.Twice.{twice}
 use Rattle.mesh_simplify.proofs.double.is_double.Goals as goal
 

@@ -1,6 +1,6 @@
 use Rattle.std.proofs.Common.{ℕ, arith, subst, below_more}
 use Rattle.std.proofs.lemmas.List.{get_or_default}
-use Rattle.mesh_edges.specs.declared.pair.Pair.{Pair}
+use Rattle.mesh_edges.specs.declared.pairs.Pair.{Pair}
 use Rattle.mesh_crossings.specs.Tested.{pair_in}
 use Rattle.mesh_simplify.specs.Tested.{IsOldFaceAt}
 use Rattle.mesh_simplify.proofs.kept.are_kept.Goals as goal

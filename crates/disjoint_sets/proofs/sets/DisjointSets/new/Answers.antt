@@ -1,7 +1,0 @@
-use Rattle.std.proofs.Common.{arith}
-use Rattle.disjoint_sets.proofs.Tops.{own_apart}
-use Rattle.disjoint_sets.proofs.sets.DisjointSets.new.Goals as goal
-
-pub returns-clause-apart : goal.returns-clause-apart
-returns-clause-apart c = λ i j both.
-    own_apart c.loop-i.parents.items i j (λ k l. c.loop-i.invariant.own k (omega arith)) both

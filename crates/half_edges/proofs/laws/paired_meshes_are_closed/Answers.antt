@@ -1,5 +1,0 @@
-use Rattle.half_edges.proofs.Paired.{paired_closed}
-use Rattle.half_edges.proofs.laws.paired_meshes_are_closed.Goals as goal
-
-pub returns : goal.returns
-returns c = paired_closed

@@ -1,6 +1,0 @@
-use Rattle.std.proofs.Common.{ℕ, ◌<◌}
-use Rattle.half_edges.specs.HalfEdges.{IsTwin}
-use Rattle.half_edges.proofs.twins.are_twins.Given as goal
-
-abbrev pub invariant-loop-h : goal.invariant-loop-h
-invariant-loop-h l = (k : ℕ) → k < l.h → IsTwin l.faces l.twins k

@@ -1,5 +1,0 @@
-use Rattle.half_edges.specs.Umbrellas.{AreMerged}
-use Rattle.half_edges.proofs.umbrellas.merge_around.Given as goal
-
-abbrev pub invariant-loop-h : goal.invariant-loop-h
-invariant-loop-h l = AreMerged l.faces l.twins l.h l.sets.parents.items

@@ -1,6 +1,0 @@
-pub mod HalfEdges
-pub mod Laws
-pub mod Pairing
-pub mod Umbrellas
-pub mod Walks
-pub mod Matching

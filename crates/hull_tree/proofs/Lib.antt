@@ -1,3 +1,0 @@
-pub mod Overs
-pub mod Growth
-pub mod Leaves

@@ -1,5 +1,0 @@
-use Rattle.hull_tree.proofs.Growth.{grown_at}
-use Rattle.hull_tree.proofs.near.widen.Goals as goal
-
-pub returns-clause-kept : goal.returns-clause-kept
-returns-clause-kept c = grown_at _ _ _ c.requires c.joined.ensures.first

@@ -1,4 +1,0 @@
-use Rattle.hull_tree.proofs.tree.HullTree.+gather.Given as goal
-
-abbrev pub decreases-gather : goal.decreases-gather
-decreases-gather l = l.height

@@ -1,3 +1,0 @@
-pub mod Edges
-pub mod Numbers
-pub mod Copied

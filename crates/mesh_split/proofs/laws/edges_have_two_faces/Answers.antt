@@ -1,5 +1,0 @@
-use Rattle.mesh_split.proofs.Edges.{two_faces}
-use Rattle.mesh_split.proofs.laws.edges_have_two_faces.Goals as goal
-
-pub returns : goal.returns
-returns c = two_faces

@@ -1,3 +1,0 @@
-pub mod Separations
-pub mod Excluding
-pub mod Apart
